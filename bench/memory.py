@@ -1,7 +1,7 @@
 #!/usr/bin/env python3
-"""Fails if the memory of `afdx run` grows with the frames of its captures.
+"""Fails if the memory of `afdx run`, `measure` or `survey` grows with the frames of its captures.
 
-One link sends a frame each millisecond, so at most one frame is in flight, and whatever a run keeps of the frames before it shows.
+One link sends a frame each millisecond, so at most one frame is in flight, and whatever is kept of the frames before it shows.
 The peak is the greater of the program's and this script's own, about 15 MB, and each count of frames is so large that 4 bytes kept
 for each of them would pass the limit. Then links send bursts of large frames to 23 ports, ten seconds apart: what waits at the ports
 leaves in the silence after each. Needs 1.2 GB under /tmp.
@@ -16,6 +16,7 @@ from measure import AFDX, measured, write_capture
 from captures import HEADER, SECOND, frame, record
 
 MILLISECOND = 1_000_000
+COMMANDS: dict[str, list[str]] = {"run": ["out"], "measure": [], "survey": []}  # with their folders beside that of the captures
 COUNTS = {64: (2_000_000, 4_000_000), 1518: (100_000, 200_000)}  # frames, by their size: 152 and 304 MB
 MOST = 20.0  # megabytes at the peak
 GROWTH = 1.0  # megabytes between a count and its double
@@ -77,12 +78,14 @@ def peak_of_bursts(afdx: str, room: str, bursts: int) -> float:
     return megabytes
 
 
-def peak_of(afdx: str, room: str, count: int, size: int) -> float:
-    """Returns the megabytes that a run of so many frames takes at its peak."""
+def peaks_of(afdx: str, room: str, count: int, size: int) -> dict[str, float]:
+    """Returns the megabytes that each command takes at its peak for so many frames."""
     write_capture(f"{room}/in/port-1.pcap", count, size, MILLISECOND)
-    arguments = [afdx, "run", f"{room}/table.toml", f"{room}/in", f"{room}/out"]
-    _, _, megabytes = measured(arguments, f"{room}/table.toml", f"{room}/report")
-    return megabytes
+    peaks: dict[str, float] = {}
+    for command, folders in COMMANDS.items():
+        arguments = [afdx, command, f"{room}/table.toml", f"{room}/in", *(f"{room}/{folder}" for folder in folders)]
+        _, _, peaks[command] = measured(arguments, f"{room}/table.toml", f"{room}/report")
+    return peaks
 
 
 def main() -> None:
@@ -97,10 +100,13 @@ def main() -> None:
         with open(f"{room}/in/port-2.pcap", "wb") as file:
             file.write(HEADER)
         for size, counts in COUNTS.items():
-            peaks = [peak_of(afdx, room, count, size) for count in counts]
-            print(f"frames of {size} bytes: " + ", ".join(f"{count} take {peak:.1f} MB" for count, peak in zip(counts, peaks)))
-            if max(peaks) > MOST or peaks[1] - peaks[0] > GROWTH:
-                sys.exit("memory grows with the frames")
+            found = [peaks_of(afdx, room, count, size) for count in counts]
+            for command in COMMANDS:
+                peaks = [of_count[command] for of_count in found]
+                said = ", ".join(f"{count} take {peak:.1f} MB" for count, peak in zip(counts, peaks))
+                print(f"{command}, frames of {size} bytes: {said}")
+                if max(peaks) > MOST or peaks[1] - peaks[0] > GROWTH:
+                    sys.exit(f"memory of {command} grows with the frames")
         peaks = [peak_of_bursts(afdx, room, bursts) for bursts in BURSTS]
         print("bursts to 23 ports: " + ", ".join(f"{count} take {peak:.1f} MB" for count, peak in zip(BURSTS, peaks)))
         if max(peaks) > MOST_OF_BURSTS or peaks[1] - peaks[0] > GROWTH:

@@ -1,5 +1,5 @@
 #!/usr/bin/env python3
-"""What `afdx size`, `afdx measure` and `afdx trace` answer, by the plain model of the switch in model.py: slowly.
+"""What `afdx size`, `afdx measure`, `afdx survey` and `afdx trace` answer, by the plain model of the switch in model.py: slowly.
 
 The arguments are those of afdx, so this program can stand in its place; what it refuses are loads and captures.
 """
@@ -120,11 +120,56 @@ def departures_text(arrivals: list[model.Arrival], output_ports: list[OutputPort
     return "".join(line + "\n" for line in lines)
 
 
+# --- survey ---
+
+
+def policed(arrivals: list[model.Arrival], link: model.Link) -> list[tuple[model.Arrival, int]]:
+    """The frames of a link that its policing did not pass, each with the ns by which it came too early."""
+    passed: list[model.Arrival] = []
+    others: list[tuple[model.Arrival, int]] = []
+    for frame in arrivals:
+        if frame.link is link:
+            if frame.passed:
+                passed.append(frame)
+            else:
+                others.append((frame, early(passed, frame)))
+    return others
+
+
+def spells(link: model.Link, frames: list[tuple[model.Arrival, int]]) -> list[list[tuple[model.Arrival, int]]]:
+    """These policed frames, parted wherever two of them lie further apart than the link's gap."""
+    parts: list[list[tuple[model.Arrival, int]]] = []
+    for frame, soon in frames:
+        if not parts or frame.stamp - parts[-1][-1][0].stamp > link.bag:
+            parts.append([])
+        parts[-1].append((frame, soon))
+    return parts
+
+
+def spell_line(link: model.Link, part: list[tuple[model.Arrival, int]]) -> str:
+    soon = [early for _, early in part]
+    return f"link {link.id} policed {len(part)} from {part[0][0].stamp} to {part[-1][0].stamp} early {min(soon)} to {max(soon)}"
+
+
+def spell_lines(table: model.Table, arrivals: list[model.Arrival]) -> list[str]:
+    return [spell_line(link, part) for link in table.links for part in spells(link, policed(arrivals, link))]
+
+
+def survey(table: model.Table, captures: dict[int, bytes], unchecked: bool) -> str:
+    arrivals = model.arrivals_of(table, captures)
+    first, last = (str(arrivals[0].stamp), str(arrivals[-1].stamp)) if arrivals else ("-", "-")
+    lines = spell_lines(table, arrivals) + [f"span from {first} to {last} frames {len(arrivals)}"]
+    return model.run(table, captures).report + measure(table, captures, unchecked) + "".join(line + "\n" for line in lines)
+
+
 def trace(table: model.Table, captures: dict[int, bytes]) -> tuple[str, str]:
     """The texts of arrivals.csv and departures.csv."""
     arrivals = model.arrivals_of(table, captures)
     output_ports = output_ports_of(table, arrivals)
     return arrivals_text(table, arrivals, output_ports), departures_text(arrivals, output_ports)
+
+
+PRINTED = {"measure": measure, "survey": survey}  # what is on standard output, of a table, captures and whether it is unchecked
 
 
 def main(given: argparse.Namespace) -> str:
@@ -134,8 +179,8 @@ def main(given: argparse.Namespace) -> str:
     if not given.unchecked:
         model.check(table)
     captures = model.captures_in(given.source, table)
-    if given.command == "measure":
-        return measure(table, captures, given.unchecked)
+    if given.command in PRINTED:
+        return PRINTED[given.command](table, captures, given.unchecked)
     for name, text in zip(("arrivals", "departures"), trace(table, captures)):
         Path(given.target, f"{name}.csv").write_text(text, encoding="ascii", newline="")
     return ""
@@ -144,7 +189,7 @@ def main(given: argparse.Namespace) -> str:
 def arguments() -> argparse.Namespace:
     parser = argparse.ArgumentParser(description=__doc__, formatter_class=argparse.RawDescriptionHelpFormatter)
     commands = parser.add_subparsers(dest="command", required=True)
-    commands_of: dict[str, list[str]] = {"size": [], "measure": ["source"], "trace": ["source", "target"]}
+    commands_of: dict[str, list[str]] = {"size": [], "measure": ["source"], "survey": ["source"], "trace": ["source", "target"]}
     for name, folders in commands_of.items():
         command = commands.add_parser(name)
         command.add_argument("table")

@@ -73,6 +73,36 @@ def latency() -> None:
     same("behind a latency", departures, ["2,1,0,10,low,64,10005,10005,16725,16720,sent", "2,2,1,10,low,64,10006,16725,23445,23439,sent"])
 
 
+def spells() -> None:
+    """A gap of 1 ms, no jitter: the next frame of 1,518 bytes conforms a whole gap after the one that was passed."""
+    table = model.table_of(SINGLE)
+
+    def lines(*stamps: int) -> list[str]:
+        text = answers.survey(table, {1: capture(*((10, 1518, at) for at in stamps)), 2: HEADER}, True)
+        return [line for line in text.splitlines() if line.startswith("span") or (line.startswith("link") and "early" in line)]
+
+    same("none", lines(), ["span from - to - frames 0"])
+    same("none policed", lines(5, 1_000_005), ["span from 5 to 1000005 frames 2"])
+    same("one", lines(0, 999_999), ["link 10 policed 1 from 999999 to 999999 early 1 to 1", "span from 0 to 999999 frames 2"])
+    # 400,000 and 1,400,000 are policed: the second for the frame that was passed at 1,000,000. They are a gap apart, so one spell.
+    same("a gap apart", lines(0, 400_000, 1_000_000, 1_400_000),
+         ["link 10 policed 2 from 400000 to 1400000 early 600000 to 600000", "span from 0 to 1400000 frames 4"])
+    same("a gap and a nanosecond apart", lines(0, 400_000, 1_000_000, 1_400_001),
+         ["link 10 policed 1 from 400000 to 400000 early 600000 to 600000",
+          "link 10 policed 1 from 1400001 to 1400001 early 599999 to 599999", "span from 0 to 1400001 frames 4"])
+    same("three in a row", lines(0, 1, 2, 999_999),
+         ["link 10 policed 3 from 1 to 999999 early 1 to 999999", "span from 0 to 999999 frames 4"])
+    both = model.table_of(PORT.format(1) + PORT.format(2) + LINK.format(11, 1, 2, "low") + LINK.format(10, 1, 2, "low"))
+    frames = [(10, 1518, 0), (11, 1518, 0), (10, 1518, 1), (11, 1518, 1),
+              (10, 1518, 2_000_000), (11, 1518, 2_000_000), (11, 1518, 2_000_002), (10, 1518, 2_000_003)]
+    text = answers.survey(both, {1: capture(*frames), 2: HEADER}, True).splitlines()
+    same("in the table's order", text[-5:],
+         ["link 11 policed 1 from 1 to 1 early 999999 to 999999", "link 11 policed 1 from 2000002 to 2000002 early 999998 to 999998",
+          "link 10 policed 1 from 1 to 1 early 999999 to 999999", "link 10 policed 1 from 2000003 to 2000003 early 999997 to 999997",
+          "span from 0 to 2000003 frames 8"])
+    same("the report and the measures come first", text[0].split()[:2] + text[-9].split()[:2], ["in", "1", "link", "11"])
+
+
 def every_fate() -> None:
     first = [record(0, frame(10, 64), original=61), record(0, frame(10, 63)), record(0, frame(10, 1519)),
              record(0, frame(10, 64, "02000000")), record(0, frame(11, 64)), record(0, frame(20, 64)), record(0, frame(10, 501))]
@@ -116,7 +146,7 @@ def early_is_the_least() -> None:
                 passed.append(arrival)
 
 
-for part in (early_and_late, ports, latency, every_fate, sizes, early_is_the_least):
+for part in (early_and_late, ports, latency, spells, every_fate, sizes, early_is_the_least):
     part()
 print("\n".join(rows.differing) or "the answers have every worked line")
 sys.exit(bool(rows.differing))

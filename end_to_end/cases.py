@@ -13,7 +13,7 @@ A file has the list `case`; what `default` has, each of its cases has. A case ha
     status      the status that is wanted, 0 where it is missing
     stdout      what is to be on standard output; nothing where it is missing and the status is above 1
     lines       lines that are to be among those on standard output
-    stderr      the line that is to be on standard error; none where it is missing
+    stderr      the lines that are to be on standard error; none where it is missing
     out         the files that are to be in the folder `out`, all of them; none where it is missing
 
 A file is a text, a TOML file by its values and rows, or a capture: a list of frames `STAMP LINK SIZE`, with the stamp
@@ -193,7 +193,7 @@ def faults_of(case: Case, program: str, starts: dict[str, Any]) -> list[str]:
         make_room(case, given(case, starts), room)
         words, stdin = [program, *shlex.split(case["arguments"])], bytes_of(case.get("stdin", ""))
         done = subprocess.run(words, cwd=room, input=stdin, capture_output=True, timeout=60, check=False)
-        status, line = case.get("status", 0), case["stderr"] + "\n" if "stderr" in case else ""
+        status, line = case.get("status", 0), case["stderr"].rstrip("\n") + "\n" if "stderr" in case else ""
         faults = [] if done.returncode == status else [f"status {done.returncode}, where {status} is wanted"]
         faults += differences("standard error", line.encode(), done.stderr)
         return faults + wrong_output(case, done.stdout) + wrong_files(case, room)

@@ -1,4 +1,4 @@
-"""Draws captures as recorders, tools and damaged disks leave them, and says what `afdx run`, `measure`, `trace` and
+"""Draws captures as recorders, tools and damaged disks leave them, and says what `afdx run`, `measure`, `survey`, `trace` and
 `alone` make of them.
 
 They are drawn by babblers.py over the tables of sizes.py (tight buffers, short delays) or by ties.py (much at one
@@ -27,7 +27,7 @@ from fuzz_run import Answer, Files, Trial, refusal
 EXAMPLE = Path(__file__).resolve().parents[1] / "examples/network"
 FRAMES = 12  # of a capture at most, or 20 where much is at one instant: the model takes long for many
 STARTS = [0, 0, 1, 999_999_000, 1_768_471_200_000_000_000, 4_294_967_294_000_000_000, 4_294_967_294_990_000_000]
-COMMANDS = ["run"] * 6 + ["measure", "trace", "alone"]
+COMMANDS = ["run"] * 6 + ["measure", "survey", "trace", "alone"]
 NAMES = {"run": [f"out/port-{port}.pcap" for port in range(1, 5)], "trace": ["out/arrivals.csv", "out/departures.csv"]}
 PAST = [("id", 65_536), ("bag", 3), ("bag", 0), ("bag", 256), ("jitter", 10_001), ("size", 63), ("size", 1519)]
 
@@ -124,8 +124,8 @@ def answer_of(command: str, traffic: Traffic, texts: dict[int, bytes], unchecked
         for port in traffic.table.ports:
             if port.id not in texts:
                 raise model.Refused(f"afdx: device get in/port-{port.id}.pcap", 5)
-        if command == "measure":
-            return Answer(0, answers.measure(traffic.table, texts, unchecked).encode())
+        if command in answers.PRINTED:
+            return Answer(0, answers.PRINTED[command](traffic.table, texts, unchecked).encode())
         if command == "trace":
             arrivals, departures = answers.trace(traffic.table, texts)
             return Answer(0, files={"out/arrivals.csv": arrivals.encode(), "out/departures.csv": departures.encode()})

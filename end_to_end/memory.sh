@@ -64,6 +64,7 @@ refuses "run without the check" 0 "" /dev/null run table.toml in out --unchecked
 refuses "run that fails on a policed frame" 1 "" /dev/null run table.toml in out --verdict --fail-on policed
 refuses "run of captures of 17 MB" 0 "" /dev/null run table.toml whole out
 refuses "measure" 0 "" /dev/null measure table.toml in
+refuses "survey" 0 "" /dev/null survey table.toml in
 refuses "trace" 0 "" /dev/null trace table.toml in out
 refuses "network check" 0 "" /dev/null network check network.toml
 refuses "network jitter" 0 "" /dev/null network jitter network.toml

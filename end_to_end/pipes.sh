@@ -1,6 +1,6 @@
 #!/usr/bin/env bash
 # A run over pipes, one for each port: ten million frames in memory that stands still, to the byte what model.py says of one period of
-# them; and faults, of which the lowest port's is named though a pipe can be read only once.
+# them; so a million of `measure` and of `survey`; and faults, of which the lowest port's is named though a pipe can be read only once.
 . "$(dirname "$0")/common.sh"
 install python3=python3 gzip=gzip
 install_python numpy
@@ -73,6 +73,21 @@ counts_are() {
     awk -v times="$1" '{ for (i = 3; i <= NF; i++) if ($i ~ /^[0-9]+$/) $i *= times; print }' wanted.txt | diff - report.txt
 }
 
+# tells_within KILOBYTES COMMAND: a command over the folder `in` that puts nothing, in so much memory.
+tells_within() {
+    (ulimit -v "$1" && exec "$afdx" "$2" "$table" in >told.txt)
+}
+
+# tells TIMES COMMAND: what it told is what the model says of one period, so often.
+tells() {
+    python3 "$top/end_to_end/answers.py" "$2" "$table" one >once.txt && repeated tell "$1" once.txt often.txt && cmp often.txt told.txt
+}
+
+# tells_twice: of two periods the model says so in a survey.
+tells_twice() {
+    python3 "$top/end_to_end/answers.py" survey "$table" two >told.txt && tells 2 survey
+}
+
 # names_fault LINE STATUS: a run over the folder `in` ends with this line, and puts nothing.
 names_fault() {
     local status=0
@@ -86,6 +101,12 @@ check "of two periods the model says twice what it says of one" as_modelled_twic
 check "a run over pipes, in 200 MB, of ten million frames" through_pipes many -- run_within 204800
 check "they are so often the model's, to the byte" are_repeated "$times" out
 check "so are the counters" counts_are "$times"
+times=1270
+check "of two periods the model says in a survey what it says of one, twice" tells_twice
+for command in measure survey; do
+    check "$command over pipes, in 200 MB, of a million frames" through_pipes many -- tells_within 204800 "$command"
+    check "is so often the model's" tells "$times" "$command"
+done
 times=1
 check "a run over pipes that zcat writes" through_pipes zipped -- run_within 204800
 check "is the model's" eval 'are_repeated 1 out && counts_are 1'

@@ -9,15 +9,15 @@ from captures import HEADER
 
 PATIENCE = 120  # seconds, on a busy machine too
 STAND_IN = """#!/bin/sh
-# check TABLE, or measure|run|trace TABLE IN [OUT]
+# check TABLE, or survey|run|trace TABLE IN [OUT]
 command=$1 folder=$3 out=$4
 [ "$1" = check ] || . "$folder/act"
 """
 QUIET = """case $command in
-run) echo "in 1 seen 4 cut 0 short 1 long 0 foreign 0 no-link 0 wrong-port 0 too-big 0 clean 3"
-     echo "link 10 passed 3 policed 0" ;;
-measure) echo "link 10 out 2 sent 3 least 100 greatest 200 bound 1000" ;;
+survey|run) echo "in 1 seen 4 cut 0 short 1 long 0 foreign 0 no-link 0 wrong-port 0 too-big 0 clean 3"
+            echo "link 10 passed 3 policed 0" ;;
 esac
+[ "$command" != survey ] || echo "link 10 out 2 sent 3 least 100 greatest 200 bound 1000"
 """
 
 GOOD = """program = "./afdx"

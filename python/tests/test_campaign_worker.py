@@ -10,18 +10,15 @@ import pytest
 from afdx.campaign.worker.files import scratch_folder
 from afdx.campaign.worker.program import Program
 from afdx.campaign.worker.stamps import first_stamp
-from afdx.campaign.worker.survey import gaps_of, spells_of
 from afdx.campaign.worker.work import answer_at, work, work_hard
 from captures import header, words
 from tests.campaign_samples import PATIENCE, QUIET, await_number, ends, task
 
 POLICED = QUIET.replace("policed 0", "policed 2") + """
-[ "$command" != trace ] || cat >"$out/arrivals.csv" <<END
-frame,port,record,stamp,link,size,fate,early,full
-0,1,1,1000,10,64,passed,,
-1,1,2,2000,10,64,policed,500,
-2,1,3,2500,10,64,policed,700,
-END
+[ "$command" != survey ] || {
+    echo "link 10 policed 2 from 2000 to 2500 early 500 to 700"
+    echo "span from 1000 to 2500 frames 3"
+}
 """
 FAULTS = [
     ("echo afdx: capture P3 Magic, port 1 >&2; exit 3", "capture", 3, "afdx: capture P3 Magic, port 1", 1),
@@ -48,14 +45,15 @@ def test_a_fault_that_passes_is_none(tmp_path: Path) -> None:
     assert work(asked, 2).status == 0
 
 
-def test_survey_has_report_delays_and_spells(tmp_path: Path) -> None:
+def test_a_survey_is_asked_in_one(tmp_path: Path) -> None:
     asked = task(tmp_path, POLICED)
     assert work_hard(asked).status == 0
     assert answer_at(asked.answer)["text"].splitlines() == [
         "in 1 seen 4 cut 0 short 1 long 0 foreign 0 no-link 0 wrong-port 0 too-big 0 clean 3",
         "link 10 passed 3 policed 2",
         "link 10 out 2 sent 3 least 100 greatest 200 bound 1000",
-        "link 10 policed 2 from 2000 to 2500 early 500 to 700"]
+        "link 10 policed 2 from 2000 to 2500 early 500 to 700",
+        "span from 1000 to 2500 frames 3"]
 
 
 def test_an_answer_is_given_once(tmp_path: Path) -> None:
@@ -63,7 +61,7 @@ def test_an_answer_is_given_once(tmp_path: Path) -> None:
     work_hard(asked)
     put = asked.answer.stat()
     work_hard(asked)
-    assert Path(asked.recording.folder, "calls").read_text().count("\n") == 2
+    assert Path(asked.recording.folder, "calls").read_text().count("\n") == 1
     kept = asked.answer.stat()  # it was read, and the time of that may be another one
     assert (kept.st_ino, kept.st_mtime_ns) == (put.st_ino, put.st_mtime_ns)
 
@@ -99,19 +97,6 @@ def test_outputs_are_kept(tmp_path: Path, keep: str, policed: int, kept: bool) -
     asked = task(tmp_path, act, ask="run", keep=keep)
     work_hard(asked)
     assert (tmp_path / "campaign/kept/t/r1/port-1.pcap").exists() == kept
-
-
-def test_spells_end_after_a_gap_of_the_link(tmp_path: Path) -> None:
-    gap = 4_000_000
-    rows = [(100, 7, 5), (100 + gap, 7, 9), (100 + 2 * gap, 7, 2), (101 + 3 * gap, 7, 4), (50, 3, 1)]
-    lines = [f"0,1,1,{stamp},{link},64,policed,{early}," for stamp, link, early in rows]
-    (tmp_path / "arrivals.csv").write_text("\n".join(["frame,..", "0,1,1,60,3,64,passed,,", *lines]))
-    (tmp_path / "table.toml").write_text("[[link]]\nid = 3\nbag_ms = 1\n[[link]]\nid = 7\nbag_ms = 4\n")
-    gaps = gaps_of(str(tmp_path / "table.toml"))
-    assert [spell.line() for spell in spells_of(tmp_path / "arrivals.csv", gaps)] == [
-        "link 3 policed 1 from 50 to 50 early 1 to 1\n",
-        f"link 7 policed 3 from 100 to {100 + 2 * gap} early 2 to 9\n",
-        f"link 7 policed 1 from {101 + 3 * gap} to {101 + 3 * gap} early 4 to 4\n"]
 
 
 def test_first_stamps_in_either_order_and_both_parts(tmp_path: Path) -> None:

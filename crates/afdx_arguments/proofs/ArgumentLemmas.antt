@@ -22,17 +22,17 @@ use Rattle.afdx_arguments.specs.declared.request.NoRequest.TheVariants.{Help, Us
 use Rattle.afdx_arguments.specs.declared.request.NetworkRequest.{NetworkRequest}
 use Rattle.afdx_arguments.specs.declared.request.Request.{Request}
 use Rattle.afdx_arguments.specs.declared.request.Request.TheVariants as request
-use Rattle.afdx_arguments.specs.Commands.{alone_app, check_app, size_app, paths_app, run_app, measure_app, program}
+use Rattle.afdx_arguments.specs.Commands.{alone_app, check_app, size_app, paths_app, run_app, inputs_app, program}
 use Rattle.afdx_arguments.specs.Commands.{network_check_app, network_jitter_app, network_run_app, network_program}
 use Rattle.afdx_arguments.specs.Requests.{HasNumber, HasLink, AsksFor, AsksOfNetwork, AsksIn, Explains, Reads}
 use Rattle.afdx_arguments.specs.Requests.{is_network, fault_in, faults_of, HasMatches, HasNoMatches}
 
 pub simple : is_simple program ≡ true
-unfolding program alone_app check_app size_app paths_app run_app measure_app
+unfolding program alone_app check_app size_app paths_app run_app inputs_app
 simple = refl
 
 pub simple_and_free : is_simple_and_free program ≡ true
-unfolding program alone_app check_app size_app paths_app run_app measure_app
+unfolding program alone_app check_app size_app paths_app run_app inputs_app
 simple_and_free = refl
 
 pub network_simple : is_simple network_program ≡ true
@@ -98,6 +98,7 @@ module _ (sub : Option (Text × List Row)) (name : Text) (rows : List Row) (is :
     go (request.Size table) h = other (codes "alone") (codes "size") (λ bad. omega (arith, bad)) named h.0
     go (request.Run paths options) h = other (codes "alone") (codes "run") (λ bad. omega (arith, bad)) named h.0
     go (request.Measure inputs) h = other (codes "alone") (codes "measure") (λ bad. omega (arith, bad)) named h.0
+    go (request.Survey inputs) h = other (codes "alone") (codes "survey") (λ bad. omega (arith, bad)) named h.0
     go (request.Trace paths) h = other (codes "alone") (codes "trace") (λ bad. omega (arith, bad)) named h.0
     go (request.Network r) h = h
 
@@ -136,6 +137,7 @@ none_of_networks arguments none (request.Check path) h = h
 none_of_networks arguments none (request.Size path) h = h
 none_of_networks arguments none (request.Run paths options) h = h
 none_of_networks arguments none (request.Measure inputs) h = h
+none_of_networks arguments none (request.Survey inputs) h = h
 none_of_networks arguments none (request.Trace paths) h = h
 
 -- an error that a call returned

@@ -44,10 +44,10 @@ paths_app name =
 unfoldable pub run_app : App
 run_app = with_rule (with_rule (paths_app (codes "run")) (flag_rule (codes "verdict"))) (list_rule (codes "fail-on"))
 
--- afdx measure TABLE IN [--unchecked]
-unfoldable pub measure_app : App
-measure_app =
-    with_rule (with_rule (with_rule (new_app (codes "measure")) (path_rule (codes "TABLE"))) (path_rule (codes "IN"))) (flag_rule (codes "unchecked"))
+-- afdx measure TABLE IN [--unchecked], and survey with the same arguments
+unfoldable pub inputs_app : Text → App
+inputs_app name =
+    with_rule (with_rule (with_rule (new_app name) (path_rule (codes "TABLE"))) (path_rule (codes "IN"))) (flag_rule (codes "unchecked"))
 
 -- afdx network, whose own arguments are read by the program below
 abbrev pub network_app : App
@@ -62,8 +62,10 @@ program =
     with_subcommand
     (with_subcommand
     (with_subcommand
+    (with_subcommand
     (with_subcommand (with_subcommand (with_subcommand (with_subcommand bare_program alone_app.top) check_app.top) size_app.top) run_app.top)
-    measure_app.top)
+    (inputs_app (codes "measure")).top)
+    (inputs_app (codes "survey")).top)
     (paths_app (codes "trace")).top)
     network_app.top
 

@@ -85,6 +85,7 @@ AsksFor (Some (name, rows)) (request.Check table) = (name ≡ codes "check") × 
 AsksFor (Some (name, rows)) (request.Size table) = (name ≡ codes "size") × (first_of (codes "TABLE") rows ≡ Some table.now)
 AsksFor (Some (name, rows)) (request.Run paths options) = (name ≡ codes "run") × HasPaths rows paths × HasOptions rows options
 AsksFor (Some (name, rows)) (request.Measure inputs) = (name ≡ codes "measure") × HasInputs rows inputs
+AsksFor (Some (name, rows)) (request.Survey inputs) = (name ≡ codes "survey") × HasInputs rows inputs
 AsksFor (Some (name, rows)) (request.Trace paths) = (name ≡ codes "trace") × HasPaths rows paths
 AsksFor (Some (name, rows)) (request.Network r) = ⊥
 

@@ -124,6 +124,9 @@ fn run_asked<'a>(name: &str, inner: &ArgMatches<'a>) -> Option<Request<'a>>
     } else if name == "measure" {
         let inputs = inputs_of(inner)?;
         Some(Request::Measure(inputs))
+    } else if name == "survey" {
+        let inputs = inputs_of(inner)?;
+        Some(Request::Survey(inputs))
     } else if name == "trace" {
         let paths = paths_of(inner)?;
         Some(Request::Trace(paths))

@@ -3,7 +3,7 @@
 ghost use Rattle.std.specs.Prelude.{◌≡◌, codes, false, IfOk};
 ghost use Rattle.clap.specs.Words.{App, app_of, new_app, rule_of, with_rule, with_subcommand};
 ghost use Rattle.clap.specs.declared.builder.command.Command.TheViews.{out-Command};
-ghost use Rattle.afdx_arguments.specs.Commands.{number_rule, path_rule, flag_rule, list_rule, alone_app, check_app, size_app, paths_app, run_app, measure_app, network_app, bare_program, program};
+ghost use Rattle.afdx_arguments.specs.Commands.{number_rule, path_rule, flag_rule, list_rule, alone_app, check_app, size_app, paths_app, run_app, inputs_app, network_app, bare_program, program};
 
 use clap::builder::ValueParser;
 use clap::{Arg, ArgAction, Command};
@@ -107,6 +107,19 @@ Status: 0 done, 2 arguments, 3 no table or capture, 4 a port cannot give what it
 links ask for, 5 memory or a device.
 
 Example: afdx measure table.toml in";
+
+/// What the help of `survey` says at its end.
+const SURVEY: &str =
+    "Runs as run does, once, and writes no capture. Prints the report of run and the
+lines of measure; for each spell in which a link was policed, how many frames were
+policed, the stamps in ns of the first and of the last, and by how many ns they
+came too early, the least and the greatest; then the stamps of the first and of
+the last frame that came, and how many came.
+
+Status: 0 done, 2 arguments, 3 no table or capture, 4 a port cannot give what its
+links ask for, 5 memory or a device.
+
+Example: afdx survey table.toml in";
 
 /// What the help of `trace` says at its end.
 const TRACE: &str =
@@ -245,17 +258,38 @@ fn run<'a>(alloc: Global) -> Result<Command<'a>, AllocError>
     with_argument(with_argument(command, verdict), fail_on)
 }
 
-fn measure<'a>(alloc: Global) -> Result<Command<'a>, AllocError>
-    ensures app { IfOk result (λ c. app_of c ≡ measure_app) }
+/// A command of a table and of captures, of which nothing is put.
+fn with_inputs<'a>(
+    alloc: Global,
+    name: &'a str,
+    about: &'a str,
+    more: &'a str,
+) -> Result<Command<'a>, AllocError>
+    ensures app { IfOk result (λ c. app_of c ≡ inputs_app name.entry.now) }
     ensures local { IfOk result (λ c. (out-Command c).has_globals ≡ false) }
 {
-    let about = "Prints the delays of each link and how full each buffer was";
     let table = path(alloc, "TABLE", "The configuration table");
     let input = path(alloc, "IN", "The folder of port-1.pcap and so on");
     let what = "Runs a table whatever its load, and prints no bounds";
     let unchecked = flag(alloc, "unchecked", what);
-    let command = with_no_arguments(alloc, "measure", about, MEASURE).arg(table);
+    let command = with_no_arguments(alloc, name, about, more).arg(table);
     with_argument(with_argument(command, input), unchecked)
+}
+
+fn measure<'a>(alloc: Global) -> Result<Command<'a>, AllocError>
+    ensures app { IfOk result (λ c. app_of c ≡ inputs_app (codes "measure")) }
+    ensures local { IfOk result (λ c. (out-Command c).has_globals ≡ false) }
+{
+    let about = "Prints the delays of each link and how full each buffer was";
+    with_inputs(alloc, "measure", about, MEASURE)
+}
+
+fn survey<'a>(alloc: Global) -> Result<Command<'a>, AllocError>
+    ensures app { IfOk result (λ c. app_of c ≡ inputs_app (codes "survey")) }
+    ensures local { IfOk result (λ c. (out-Command c).has_globals ≡ false) }
+{
+    let about = "Prints in one pass the report, the delays and when links were policed";
+    with_inputs(alloc, "survey", about, SURVEY)
 }
 
 fn trace<'a>(alloc: Global) -> Result<Command<'a>, AllocError>
@@ -302,11 +336,12 @@ fn with_run<'a>(alloc: Global, program: Command<'a>) -> Result<Command<'a>, Allo
     with_command(program, run(alloc))
 }
 
-/// A program with the commands `measure` and `trace` too.
+/// A program with the commands `measure`, `survey` and `trace` too.
 fn with_rows<'a>(alloc: Global, program: Command<'a>) -> Result<Command<'a>, AllocError>
-    ensures { IfOk result (λ c. app_of c ≡ with_subcommand (with_subcommand (app_of program.entry) measure_app.top) (paths_app (codes "trace")).top) }
+    ensures { IfOk result (λ c. app_of c ≡ with_subcommand (with_subcommand (with_subcommand (app_of program.entry) (inputs_app (codes "measure")).top) (inputs_app (codes "survey")).top) (paths_app (codes "trace")).top) }
 {
     let program = with_command(program, measure(alloc))?;
+    let program = with_command(program, survey(alloc))?;
     with_command(program, trace(alloc))
 }
 

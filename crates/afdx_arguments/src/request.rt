@@ -71,6 +71,8 @@ pub enum Request<'a> {
     Run(Paths<'a>, RunOptions),
     /// The delays and the buffers of such a run.
     Measure(Inputs<'a>),
+    /// The report, the delays, the buffers and the spells of policing of such a run.
+    Survey(Inputs<'a>),
     /// What became of each frame and of each copy of such a run.
     Trace(Paths<'a>),
     /// A command of networks.

@@ -1,5 +1,5 @@
 -- The delays of what a port sent for a link (profile).
-use Rattle.std.specs.Prelude.{◌≡◌, ℕ, ◌-◌, ◌<◌, ◌≤◌, ◌==◌, min, max, List, [], ◌∷◌, length, map, filter, slice_index_or, Option, Some, None, All, Contains, MatchOption}
+use Rattle.std.specs.Prelude.{◌≡◌, ℕ, ◌-◌, ◌≤◌, ◌==◌, min, max, List, [], ◌∷◌, length, map, filter, Option, Some, None, All, Contains, MatchOption}
 use Rattle.std.specs.List.{fold}
 use Rattle.afdx_port.specs.declared.Sent.{Sent}
 use Rattle.afdx_measure.specs.declared.delays.Delays.{Delays}
@@ -21,11 +21,6 @@ range_of (n ∷ ns) = Some (record { least = fold min n ns; greatest = fold max 
 -- what is reported of them
 abbrev pub summary_of : List ℕ → Delays
 summary_of ns = record { count = length ns; range = range_of ns }
-
--- these are reported of each link's copies among what a port sent, by the links' numbers
-pub record AreDelaysByLink (sent : List Sent) (all : List Delays) : Type 0 where
-  pub long : length all ≡ 65536
-  pub each : (link : ℕ) (d : Delays) → link < 65536 → slice_index_or all link d ≡ summary_of (delays_of link sent)
 
 -- ---- the law: they are one of them, and no other is less or greater
 

@@ -1,5 +1,9 @@
 pub mod Delays
+pub mod Handed
+pub mod Inner
 pub mod Peak
+pub mod Policing
 pub mod Ports
 pub mod Lines
 pub mod Report
+pub mod Wanted

@@ -1,6 +1,6 @@
 -- What is reported of a finished run (profile): of each link of the table, in its order, the delays at each of its output ports, in the
 -- link's order; then of each port, by rising number, how full its buffer was.
-use Rattle.std.specs.Prelude.{◌≡◌, ℕ, ◌++◌, Bool, if◌then◌else◌, List, [], ◌∷◌, flat_map, Option, Some, None}
+use Rattle.std.specs.Prelude.{ℕ, ◌++◌, Bool, if◌then◌else◌, List, flat_map, Option, Some, None}
 use Rattle.afdx_units.specs.declared.line.Priority.{Priority}
 use Rattle.afdx_table.specs.declared.rows.PortRow.{PortRow}
 use Rattle.afdx_table.specs.Link.{Link}
@@ -8,8 +8,7 @@ use Rattle.afdx_table.specs.Content.{Content, port_row}
 use Rattle.afdx_load.specs.Load.{Load, port_load}
 use Rattle.afdx_isolation.specs.Table.{bound_of}
 use Rattle.afdx_core.specs.State.{Run, sent_in}
-use Rattle.afdx_measure.specs.declared.reporting.AtPort.{AtPort}
-use Rattle.afdx_measure.specs.Delays.{delays_of, summary_of, AreDelaysByLink}
+use Rattle.afdx_measure.specs.Delays.{delays_of, summary_of}
 use Rattle.afdx_measure.specs.Ports.{peak_at}
 use Rattle.afdx_measure.specs.Lines.{link_line, peak_line}
 
@@ -35,12 +34,3 @@ port_line r p = peak_line p.id p.buffer (peak_at r p)
 
 abbrev pub report_of : Bool → Run → List ℕ
 report_of promised r = flat_map (link_lines promised r) r.table.links ++ flat_map (port_line r) r.table.ports
-
--- ---- on the way
-
--- the delays at each of these ports, in order
-abbrev pub AreGathered : {Z : Type 0} → Run → List PortRow → List (AtPort Z) → Type 0
-AreGathered r [] [] = Unit {0}
-AreGathered r [] (d ∷ all) = ⊥
-AreGathered r (p ∷ ports) [] = ⊥
-AreGathered r (p ∷ ports) (d ∷ all) = (d.port ≡ p.id) × AreDelaysByLink (sent_in r (port_row r.table d.port)) d.delays.items × AreGathered r ports all

@@ -1,10 +1,10 @@
 //! The delays of what a port sent.
 
-ghost use Rattle.std.specs.Prelude.{◌≡◌, ℕ, ◌-◌, ◌<◌, ◌^◌, List, [], ◌∷◌, ◌++◌, IfOk};
-ghost use Rattle.afdx_measure.specs.Delays.{delay_of, summary_of, AreDelaysByLink};
+ghost use Rattle.std.specs.Prelude.{◌≡◌, ℕ, List, [], ◌∷◌, ◌++◌, IfOk};
+ghost use Rattle.afdx_measure.specs.Delays.{delay_of, summary_of};
 
 use afdx_port::Sent;
-use std::alloc::{AllocError, Allocator};
+use std::alloc::AllocError;
 
 /// The least and the greatest of some delays, in nanoseconds.
 #[derive(Clone, Copy, Debug, PartialEq, Eq)]
@@ -44,10 +44,14 @@ impl Delays {
     }
 
     /// The same with one copy more.
-    fn with(self, delay: u64) -> Delays
-        requires room { self.count < 2 ^ 64 - 1 }
-        ensures { (ns : List ℕ) → self ≡ summary_of ns → result ≡ summary_of (ns ++ delay ∷ []) }
+    ///
+    /// An error says that there would be more than 2^64 - 1.
+    fn with(self, delay: u64) -> Result<Delays, AllocError>
+        ensures { (ns : List ℕ) → self ≡ summary_of ns → IfOk result (λ d. d ≡ summary_of (ns ++ delay ∷ [])) }
     {
+        let Some(count) = self.count.checked_add(1) else {
+            return Err(AllocError);
+        };
         let range = match self.range {
             Some(range) => Range {
                 least: range.least.min(delay),
@@ -55,10 +59,17 @@ impl Delays {
             },
             None => Range::of(delay),
         };
-        Delays {
-            count: self.count + 1,
+        Ok(Delays {
+            count,
             range: Some(range),
-        }
+        })
+    }
+
+    /// The same with one copy more, which was sent as this.
+    pub(crate) fn with_sent(self, sent: &Sent) -> Result<Delays, AllocError>
+        ensures { (ns : List ℕ) → self ≡ summary_of ns → IfOk result (λ d. d ≡ summary_of (ns ++ delay_of sent.now ∷ [])) }
+    {
+        self.with(delay_of(sent))
     }
 }
 
@@ -67,22 +78,4 @@ fn delay_of(sent: &Sent) -> u64
     ensures { result ≡ delay_of sent.now }
 {
     sent.end.ns().saturating_sub(sent.item.stamp.ns())
-}
-
-/// The delays of each link's copies among what a port sent, by the links' numbers, from 0 to 65,535.
-///
-/// An error says that memory ran out. O(sent copies), and 2 MiB.
-pub fn delays_by_link<A: Allocator + Copy>(
-    alloc: A,
-    sent: &[Sent],
-) -> Result<Vec<Delays, A>, AllocError>
-    ensures { IfOk result (λ all. AreDelaysByLink sent.now all.items) }
-{
-    let mut all = vec![in alloc; Delays::none(); 65_536]?;
-    for copy in sent {
-        let link = copy.item.link;
-        let place = usize::from(link);
-        all[place] = all[place].with(delay_of(copy));
-    }
-    Ok(all)
 }

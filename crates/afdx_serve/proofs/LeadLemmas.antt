@@ -24,7 +24,7 @@ use Rattle.afdx_folder.specs.Files.{Files, DeviceLog, Shows, ShowsAll, IsOpened,
 use Rattle.afdx_folder.specs.Input.{AreGiven}
 use Rattle.afdx_serve.specs.Runs.{capture_name, names_in, port_names, bytes_of_captures, inputs_of, HasPlan, HasCaptures, FailsToGet, FailsToGetAll, FailsToGather}
 use Rattle.afdx_serve.specs.Inner.Outputs.{AreEmpty, HaveBytes}
-use Rattle.afdx_serve.specs.Inner.Leading.{IsPlanOf, AreOpened, IsInFiles, FailsToLeadFrom, IsLed}
+use Rattle.afdx_serve.specs.Inner.Leading.{IsPlanOf, AreOpened, AreOpenedPorts, IsInFiles, FailsToLeadFrom, IsLed}
 use Rattle.afdx_serve.specs.Inner.OpenPorts.{GetsNamed, FailsToGetNamed}
 use Rattle.afdx_serve.proofs.FileLemmas.{KeepsFiles-refl, KeepsFiles-trans, ShowsAll-before, IsOpened-before}
 use Rattle.afdx_serve.proofs.GivenLemmas.{not_got_named}
@@ -165,7 +165,7 @@ not_led_from inputs a b text plan first before after shows is keeps same f (inr 
     (record { has_plan = has_plan inputs a text plan shows is; cleared = is.cleared; has_captures = (h.1.0, ShowsAll-before a b _ _ keeps h.1.1) })
     (h.3 ∙ same) f h.2
 
-captures_before : (a b : Option Files) (path : List ℕ) (t : Content) (texts : List Text) → KeepsFiles a b → HasCaptures b path t texts → HasCaptures a path t texts
+pub captures_before : (a b : Option Files) (path : List ℕ) (t : Content) (texts : List Text) → KeepsFiles a b → HasCaptures b path t texts → HasCaptures a path t texts
 captures_before a b path t texts keeps has = (has.0, ShowsAll-before a b _ _ keeps has.1)
 
 -- ---- names that were opened
@@ -250,6 +250,11 @@ folder_led formed isolate contents paths first a b text plan captures begun new 
     (captures_before first b paths.input.now (table_in plan) captures (KeepsFiles-trans first a b keeps more) has) named keeps
     (in_files contents a a (table_in plan) captures begun new len counts (KeepsFiles-refl a) empty long written)
 
--- there are as many names as ports
-pub as_many : {X : Type 0} (str : X → List ℕ) (path : List ℕ) (t : Content) (names : List X) → map str names ≡ port_names path t → length names ≡ length t.ports
-as_many str path t names named = sym (length-map names str) ∙ ap length named ∙ length-map t.ports (λ (p : PortRow). capture_name path p.id)
+-- there are as many readers as ports, and as names
+module _ {R : Type 0} (remaining : R → Option (List ℕ)) (files : Option Files) (path : List ℕ) (t : Content) where
+  pub as_many_readers : (names : List (List ℕ)) (readers : List R) → AreOpenedPorts remaining files path t names readers → length readers ≡ length t.ports
+  as_many_readers names readers is = is.opened.many ∙ ap length is.named ∙ length-map t.ports (λ (p : PortRow). capture_name path p.id)
+
+pub as_many_names : {X : Type 0} (str : X → List ℕ) {R : Type 0} (remaining : R → Option (List ℕ)) (files : Option Files) (path : List ℕ) (t : Content) (names : List X) (readers : List R)
+    → AreOpenedPorts remaining files path t (map str names) readers → length names ≡ length readers
+as_many_names str remaining files path t names readers is = sym (length-map names str) ∙ sym is.opened.many

@@ -22,7 +22,6 @@ use Rattle.afdx_arguments.specs.declared.request.Inputs.{Inputs}
 use Rattle.afdx_messages.specs.declared.failure.Failure.{Failure}
 use Rattle.afdx_messages.specs.declared.failure.Failure.TheVariants as failure
 use Rattle.afdx_folder.specs.Files.{Files, DeviceLog, KeepsFiles, PutsFiles, one_more, settled_after}
-use Rattle.afdx_serve.specs.Measures.{IsMeasured, MeasuresTo}
 use Rattle.afdx_serve.specs.Runs.{inputs_of, IsRunOf, LeadsTo, names_in, bytes_of_captures, StopsAt, EndsAt, StopsRun, EndsRun, FailsToPut, FailsToEnd, FailsToRun, HasPlan, FailsToGetAll, FailsToGather, FailsToLead}
 use Rattle.afdx_serve.specs.Runs.{capture_name}
 use Rattle.afdx_serve.specs.Traces.{trace_names, trace_texts, IsTraceIn, PutsTrace, StopsTrace, EndsTrace, FailsToTrace}
@@ -136,12 +135,6 @@ module _ (inputs : Inputs) (a : Option Files) (plan : Plan) (captures : List Tex
       → MatchResult r (λ x. Q x × (after ≡ before)) (λ f. FailsToGather f inputs a before after)
   leads_as P Q turn (Ok x) h = (turn x h, count)
   leads_as P Q turn (Err f) h = not_led f h
-
-  pub measured : (r : Result (String Global) Failure) → MatchResult r (λ text. IsMeasured (not inputs.unchecked) (table_in plan) captures (string_bytes text))
-      (λ f. FailsToLead f (table_in plan) captures)
-      → MatchResult r (λ text. MeasuresTo inputs a (string_bytes text) × (after ≡ before)) (λ f. FailsToGather f inputs a before after)
-  measured = leads_as (λ text. IsMeasured (not inputs.unchecked) (table_in plan) captures (string_bytes text)) (λ text. MeasuresTo inputs a (string_bytes text))
-      (λ text h. record { table = table_in plan; captures = captures; has_plan = of.has_plan; has_captures = of.has_captures; measured = h })
 
 module _ (paths : Paths) (a : Option Files) (plan : Plan) (captures : List Text) (before after : DeviceLog) (of : IsRunOf (inputs_of paths) a plan captures) (count : after ≡ before) where
   -- a finished switch of the captures, and what is reported of it

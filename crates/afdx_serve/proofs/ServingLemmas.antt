@@ -18,6 +18,7 @@ module _ (arguments : List (List ℕ)) (input : Option (List ℕ)) (old new : Wo
   fails (request.Size path) asks failure.Usage h = absurd h
   fails (request.Run paths options) asks failure.Usage h = absurd h.0.0
   fails (request.Measure inputs) asks failure.Usage h = absurd h.0
+  fails (request.Survey inputs) asks failure.Usage h = absurd h.0
   fails (request.Trace paths) asks failure.Usage h = absurd h.0.0
   fails (request.Network r) asks failure.Usage h = absurd (never_usage r old new h)
   fails r asks failure.Found h = (r, asks, h)
@@ -50,6 +51,7 @@ module _ (arguments : List (List ℕ)) (input : Option (List ℕ)) (old new : Wo
   runs_out (failure.Table e) (request.Size path) made asks h = inl (h.2, h.1.0)
   runs_out (failure.Table e) (request.Run paths options) made asks h = inl (h.1, h.0.1)
   runs_out (failure.Table e) (request.Measure inputs) made asks h = inl (h.2, h.1)
+  runs_out (failure.Table e) (request.Survey inputs) made asks h = inl (h.2, h.1)
   runs_out (failure.Table e) (request.Trace paths) made asks h = inl (h.1, h.0.1)
   runs_out (failure.Table e) (request.Network r) made asks h = network_runs_out (failure.Table e) r made asks h
   runs_out (failure.Load e) (request.Alone link) made asks h = absurd h.0
@@ -57,6 +59,7 @@ module _ (arguments : List (List ℕ)) (input : Option (List ℕ)) (old new : Wo
   runs_out (failure.Load e) (request.Size path) made asks h = absurd h
   runs_out (failure.Load e) (request.Run paths options) made asks h = inl (h.1, h.0.1)
   runs_out (failure.Load e) (request.Measure inputs) made asks h = inl (h.2, h.1)
+  runs_out (failure.Load e) (request.Survey inputs) made asks h = inl (h.2, h.1)
   runs_out (failure.Load e) (request.Trace paths) made asks h = inl (h.1, h.0.1)
   runs_out (failure.Load e) (request.Network r) made asks h = network_runs_out (failure.Load e) r made asks h
   runs_out (failure.Capture e) (request.Alone link) made asks h = inl (h.0.1, h.1.0)
@@ -64,6 +67,7 @@ module _ (arguments : List (List ℕ)) (input : Option (List ℕ)) (old new : Wo
   runs_out (failure.Capture e) (request.Size path) made asks h = absurd h
   runs_out (failure.Capture e) (request.Run paths options) made asks h = absurd h.0.0
   runs_out (failure.Capture e) (request.Measure inputs) made asks h = absurd h.0
+  runs_out (failure.Capture e) (request.Survey inputs) made asks h = absurd h.0
   runs_out (failure.Capture e) (request.Trace paths) made asks h = absurd h.0.0
   runs_out (failure.Capture e) (request.Network r) made asks h = network_runs_out (failure.Capture e) r made asks h
   runs_out (failure.PortCapture p e) (request.Alone link) made asks h = absurd h.0
@@ -71,6 +75,7 @@ module _ (arguments : List (List ℕ)) (input : Option (List ℕ)) (old new : Wo
   runs_out (failure.PortCapture p e) (request.Size path) made asks h = absurd h
   runs_out (failure.PortCapture p e) (request.Run paths options) made asks h = inl (h.1, h.0.1)
   runs_out (failure.PortCapture p e) (request.Measure inputs) made asks h = inl (h.2, h.1)
+  runs_out (failure.PortCapture p e) (request.Survey inputs) made asks h = inl (h.2, h.1)
   runs_out (failure.PortCapture p e) (request.Trace paths) made asks h = inl (h.1, h.0.1)
   runs_out (failure.PortCapture p e) (request.Network r) made asks h = network_runs_out (failure.PortCapture p e) r made asks h
   runs_out (failure.Get name) (request.Alone link) made asks h = absurd h.0
@@ -78,12 +83,14 @@ module _ (arguments : List (List ℕ)) (input : Option (List ℕ)) (old new : Wo
   runs_out (failure.Get name) (request.Size path) made asks h = inl (h.3, h.2)
   runs_out (failure.Get name) (request.Run paths options) made asks h = inl (h.1, h.0.1)
   runs_out (failure.Get name) (request.Measure inputs) made asks h = inl (h.2, h.1)
+  runs_out (failure.Get name) (request.Survey inputs) made asks h = inl (h.2, h.1)
   runs_out (failure.Get name) (request.Trace paths) made asks h = inl (h.1, h.0.1)
   runs_out (failure.Get name) (request.Network r) made asks h = network_runs_out (failure.Get name) r made asks h
   runs_out (failure.Put name) (request.Alone link) made asks h = absurd h.0
   runs_out (failure.Put name) (request.Check path) made asks h = absurd h
   runs_out (failure.Put name) (request.Size path) made asks h = absurd h
   runs_out (failure.Put name) (request.Measure inputs) made asks h = absurd h.0
+  runs_out (failure.Put name) (request.Survey inputs) made asks h = absurd h.0
   runs_out (failure.Put name) (request.Run paths options) made asks h = inr (request.Run paths options, asks, (run_ended _ paths _ _ _ _ h.0, h.1))
   runs_out (failure.Put name) (request.Trace paths) made asks h = inr (request.Trace paths, asks, (trace_ended _ paths _ _ _ _ h.0, h.1))
   runs_out (failure.Put name) (request.Network r) made asks h = network_runs_out (failure.Put name) r made asks h
@@ -92,6 +99,7 @@ module _ (arguments : List (List ℕ)) (input : Option (List ℕ)) (old new : Wo
   runs_out (failure.Network e) (request.Size path) made asks h = absurd h
   runs_out (failure.Network e) (request.Run paths options) made asks h = absurd h.0.0
   runs_out (failure.Network e) (request.Measure inputs) made asks h = absurd h.0
+  runs_out (failure.Network e) (request.Survey inputs) made asks h = absurd h.0
   runs_out (failure.Network e) (request.Trace paths) made asks h = absurd h.0.0
   runs_out (failure.Network e) (request.Network r) made asks h = network_runs_out (failure.Network e) r made asks h
 

@@ -35,6 +35,7 @@ use Rattle.afdx_folder.specs.Input.{AreGiven}
 use Rattle.afdx_folder.specs.Output.{AppendsPrefix}
 use Rattle.afdx_verdict.specs.Verdict.{verdict_of}
 use Rattle.afdx_serve.specs.Measures.{MeasuresTo}
+use Rattle.afdx_serve.specs.Surveys.{SurveysTo}
 use Rattle.afdx_serve.specs.Verdicts.{text_of, is_found}
 use Rattle.afdx_serve.specs.Traces.{PutsTrace, FailsToTrace}
 use Rattle.afdx_serve.specs.Runs.{HasTable, HasNoTable, LeadsTo, FailsToGather, FailsToRun, names_in, bytes_of_captures}
@@ -231,6 +232,14 @@ abbrev pub FailsToMeasure : Failure → Inputs → World → World → Type 0
 FailsToMeasure failure.Write inputs old new = (text : List ℕ) × MeasuresTo inputs old.files text × AppendsPrefix old.written new.written text × KeepsFolder old new
 FailsToMeasure f inputs old new = FailsToGather f inputs old.files old.failed new.failed × KeepsFiles old.files new.files × WritesNothing old new
 
+-- the same of a survey
+abbrev pub Surveys : Inputs → World → World → Type 0
+Surveys inputs old new = (text : List ℕ) × SurveysTo inputs old.files text × Appends old.written new.written text × KeepsFolder old new
+
+abbrev pub FailsToSurvey : Failure → Inputs → World → World → Type 0
+FailsToSurvey failure.Write inputs old new = (text : List ℕ) × SurveysTo inputs old.files text × AppendsPrefix old.written new.written text × KeepsFolder old new
+FailsToSurvey f inputs old new = FailsToGather f inputs old.files old.failed new.failed × KeepsFiles old.files new.files × WritesNothing old new
+
 -- what is reported of each frame and copy was put; nothing was written
 abbrev pub Traces : Paths → World → World → Type 0
 Traces paths old new = PutsTrace paths old.files new.files × (new.failed ≡ settled_after 2 old.failed) × WritesNothing old new
@@ -248,6 +257,7 @@ Performs (request.Check path) input old new = Checks path.now old new
 Performs (request.Size path) input old new = Sizes path.now old new
 Performs (request.Run paths options) input old new = Runs paths options old new
 Performs (request.Measure inputs) input old new = Measures inputs old new
+Performs (request.Survey inputs) input old new = Surveys inputs old new
 Performs (request.Trace paths) input old new = Traces paths old new
 Performs (request.Network r) input old new = PerformsNetwork r old new
 
@@ -258,6 +268,7 @@ FailsToPerform f (request.Check path) input old new = FailsToCheck f path.now ol
 FailsToPerform f (request.Size path) input old new = FailsToSize f path.now old new
 FailsToPerform f (request.Run paths options) input old new = FailsToRunAll f paths options old new
 FailsToPerform f (request.Measure inputs) input old new = FailsToMeasure f inputs old new
+FailsToPerform f (request.Survey inputs) input old new = FailsToSurvey f inputs old new
 FailsToPerform f (request.Trace paths) input old new = FailsToTraceAll f paths old new
 FailsToPerform f (request.Network r) input old new = FailsToPerformNetwork f r old new
 

@@ -4,10 +4,10 @@ ghost use Rattle.std.specs.Prelude.{◌≡◌, map, string_bytes, MatchResult};
 ghost use Rattle.afdx_session.specs.Texts.{texts_of};
 ghost use Rattle.afdx_folder.specs.Files.{Shows, KeepsFiles, DeviceLog, IsCause};
 ghost use Rattle.afdx_serve.specs.Runs.{HasTable, HasCaptures, FailsToGet, FailsToGetAll, FailsToRead};
-ghost use Rattle.afdx_serve.specs.Inner.Leading.{AreOpened};
+ghost use Rattle.afdx_serve.specs.Inner.Leading.{AreOpened, AreOpenedPorts};
 ghost use Rattle.afdx_serve.specs.Inner.OpenPorts.{FailsToGetNamed};
 
-use crate::names::capture_name;
+use crate::names::{capture_name, port_names};
 use afdx_folder::{Folder, FolderFault};
 use afdx_messages::Failure;
 use afdx_table::Table;
@@ -116,4 +116,26 @@ pub(crate) fn open_all<F: Folder>(
         }
     }
     Ok(opened)
+}
+
+/// The names of the captures of the table's ports in a folder, by rising number, and these, opened to be read in pieces.
+///
+/// # Errors
+///
+/// `Get` of the first that was not opened; `Memory` where memory ran out.
+pub(crate) fn open_captures<F: Folder>(
+    alloc: Global,
+    folder: &mut F,
+    path: &str,
+    table: &Table,
+) -> Result<(Vec<String>, Vec<F::Opened>), Failure>
+    ensures opened { MatchResult result
+        (λ both. AreOpenedPorts F.Opened.remaining (F.files folder.old) path.now table.now (map string_bytes both.0.items) both.1.items
+        × (F.failed folder.new ≡ F.failed folder.old))
+        (λ f. FailsToGetAll f (F.files folder.old) path.now table.now (F.failed folder.old) (F.failed folder.new)) }
+    ensures same { KeepsFiles (F.files folder.old) (F.files folder.new) }
+{
+    let names = port_names(alloc, path, table.ports())?;
+    let opened = open_all(alloc, folder, &names)?;
+    Ok((names, opened))
 }

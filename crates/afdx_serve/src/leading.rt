@@ -3,16 +3,16 @@
 ghost use Rattle.std.specs.Prelude.{◌≡◌, List, ℕ, length, map, string_bytes, Option, IfOk, IfErr, MatchResult};
 ghost use Rattle.afdx_count.specs.Tally.{Tally};
 ghost use Rattle.afdx_session.specs.Texts.{Text};
+ghost use Rattle.afdx_table.specs.Content.{Content};
 ghost use Rattle.afdx_session.specs.Outcome.{table_in};
 ghost use Rattle.afdx_session.specs.Sources.{AreRead, IsSourceFault};
 ghost use Rattle.afdx_session.specs.Written.{IsWritten};
 ghost use Rattle.afdx_folder.specs.Files.{Files, Shows, KeepsFiles};
 ghost use Rattle.afdx_serve.specs.Runs.{inputs_of, port_names, HasCaptures, FailsToGather};
-ghost use Rattle.afdx_serve.specs.Inner.Leading.{IsPlanOf, IsLed, FailsToLeadFrom};
+ghost use Rattle.afdx_serve.specs.Inner.Leading.{IsPlanOf, IsLed, AreOpenedPorts, FailsToLeadFrom};
 ghost use Rattle.afdx_serve.specs.Inner.Reports.{IsReportOf};
 
-use crate::get::{get_failure, open_all};
-use crate::names::port_names;
+use crate::get::{get_failure, open_captures};
 use crate::outputs::{abandon_all, begin_all};
 use crate::reports::{Report, report_of};
 use afdx_arguments::{Paths, RunOptions};
@@ -45,6 +45,31 @@ fn report_from<R: Read, N: NewFile>(
     }
 }
 
+/// The failure that a fault of captures leads to which were opened under these names, those of a table's ports.
+pub(crate) fn source_failure<F: Folder>(
+    alloc: Global,
+    folder: &mut F,
+    names: &[String],
+    fault: SourceFault,
+) -> Failure
+    requires { (files : Option Files) × (path : List ℕ) × (t : Content) × (readers : List F.Opened)
+        × AreOpenedPorts F.Opened.remaining files path t (map string_bytes names.now) readers × IsSourceFault F.Opened.remaining t readers fault }
+    ensures failed { (files : Option Files) (path : List ℕ) (t : Content) (readers : List F.Opened)
+        → AreOpenedPorts F.Opened.remaining files path t (map string_bytes names.now) readers → IsSourceFault F.Opened.remaining t readers fault
+        → FailsToLeadFrom result files path t (F.failed folder.old) (F.failed folder.new) }
+    ensures same { KeepsFiles (F.files folder.old) (F.files folder.new) }
+{
+    match fault {
+        SourceFault::Memory => Failure::Memory,
+        SourceFault::Read(place) => {
+            let name = &names[place];
+            let fault = folder.note_unread(name);
+            get_failure(alloc, name, fault)
+        }
+        SourceFault::Capture(port, why) => Failure::PortCapture(port, why),
+    }
+}
+
 /// What the captures of the table's ports in a folder lead to, each of which is opened and read once: the outputs are appended to these
 /// files, and this is the report.
 fn report_of_folder<F: Folder>(
@@ -63,17 +88,10 @@ fn report_of_folder<F: Folder>(
         (λ f. FailsToLeadFrom f (F.files folder.old) path.now (table_in plan) (F.failed folder.old) (F.failed folder.new)) }
     ensures same { KeepsFiles (F.files folder.old) (F.files folder.new) }
 {
-    let names = port_names(alloc, path, plan.table().ports())?;
-    let mut opened = open_all(alloc, folder, &names)?;
+    let (names, mut opened) = open_captures(alloc, folder, path, plan.table())?;
     match report_from(alloc, plan, options, &mut opened, files) {
         Ok(report) => Ok(report),
-        Err(SourceFault::Memory) => Err(Failure::Memory),
-        Err(SourceFault::Read(place)) => {
-            let name = &names[place];
-            let fault = folder.note_unread(name);
-            Err(get_failure(alloc, name, fault))
-        }
-        Err(SourceFault::Capture(port, why)) => Err(Failure::PortCapture(port, why)),
+        Err(fault) => Err(source_failure(alloc, folder, &names, fault)),
     }
 }
 

@@ -20,6 +20,7 @@ mod reports;
 mod run;
 mod serving;
 mod size;
+mod survey;
 mod trace;
 
 pub use serving::serve;

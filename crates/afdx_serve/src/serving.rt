@@ -11,6 +11,7 @@ use crate::measure::measure;
 use crate::network_serving::perform_network;
 use crate::run::run;
 use crate::size::size;
+use crate::survey::survey;
 use crate::trace::trace;
 use afdx_alone::{Alone, read_alone};
 use afdx_arguments::{NoRequest, Request, parse};
@@ -57,6 +58,7 @@ fn perform<R: Read, O: Write, F: Folder>(
         Request::Size(path) => size(alloc, path, out, folder),
         Request::Run(paths, options) => run(alloc, paths, options, out, folder),
         Request::Measure(inputs) => measure(alloc, inputs, out, folder),
+        Request::Survey(inputs) => survey(alloc, inputs, out, folder),
         Request::Trace(paths) => trace(alloc, paths, folder),
         Request::Network(request) => perform_network(alloc, request, out, folder),
     }
@@ -96,7 +98,7 @@ fn serve_arguments<R: Read, O: Write, F: Folder>(
 /// from `folder` and write their lines on `out`; `afdx run TABLE IN OUT` gets TABLE, checks its load unless there is
 /// `--unchecked`, gets IN/port-1.pcap and so on, puts OUT/port-1.pcap and so on and writes the report on `out`, with its verdict
 /// as the last line if there is `--verdict`; `afdx measure TABLE IN` does so too, but puts nothing and writes what delays and
-/// buffers were; `afdx trace TABLE IN OUT` puts OUT/arrivals.csv and OUT/departures.csv in place of the captures, and writes
+/// buffers were; `afdx survey TABLE IN` writes the report and these, and when links were policed; `afdx trace TABLE IN OUT` puts OUT/arrivals.csv and OUT/departures.csv in place of the captures, and writes
 /// nothing; `afdx network check NET` and `afdx network jitter NET` get NET and the tables that it names and write their lines;
 /// `afdx network run NET IN OUT` gets IN/A/port-1.pcap and so on for each switch A, puts OUT/A/port-1.pcap and so on and writes
 /// the reports; `--help` and `--version` write the text of `clap` on `out`, the second that of `version` after the program's

@@ -26,6 +26,8 @@ fn serve_in_memory(rt: HostRuntime) {
 
 const MEASURE: &str = "afdx measure t in";
 
+const SURVEY: &str = "afdx survey t in";
+
 const TRACE: &str = "afdx trace t in out";
 
 /// The arrival of one frame, which `trace` puts first.
@@ -106,6 +108,21 @@ const FAILING: &[Failing] = &[
     ),
     (
         MEASURE,
+        3,
+        "in/port-2.pcap",
+        "afdx: device get in/port-2.pcap\n",
+        3,
+    ),
+    (SURVEY, 1, "t", "afdx: device get t\n", 3),
+    (
+        SURVEY,
+        2,
+        "in/port-1.pcap",
+        "afdx: device get in/port-1.pcap\n",
+        3,
+    ),
+    (
+        SURVEY,
         3,
         "in/port-2.pcap",
         "afdx: device get in/port-2.pcap\n",
@@ -252,7 +269,7 @@ fn opens_each_capture_once(rt: HostRuntime) {
     }
 }
 
-/// Whether a run names the first capture, where none that is opened can be read.
+/// Whether a command names the first capture, where none that is opened can be read.
 fn names_the_first(alloc: Global, arguments: &str) -> Result<bool, AllocError> {
     let run = OneFrame::new(alloc)?;
     let mut folder = run.sound()?;
@@ -265,7 +282,7 @@ fn names_the_first(alloc: Global, arguments: &str) -> Result<bool, AllocError> {
 
 #[test]
 fn says_which_capture_cannot_be_read(rt: HostRuntime) {
-    for arguments in [CHECKED, RUN] {
+    for arguments in [CHECKED, RUN, MEASURE, SURVEY] {
         assert!(rt;
             names_the_first(rt.alloc(), arguments) == Ok(true),
             "{arguments}"
@@ -305,9 +322,10 @@ fn opened(alloc: Global, first: Left, second: Left) -> Result<MemoryFolder<Globa
     Ok(folder)
 }
 
-/// Whether a run over such a folder has this status and line; it puts no capture and leaves no new file.
+/// Whether a command over such a folder has this status and line; it puts no capture and leaves no new file.
 fn is_refused_opening(
     alloc: Global,
+    arguments: &str,
     first: Left,
     second: Left,
     status: u8,
@@ -315,8 +333,22 @@ fn is_refused_opening(
 ) -> Result<bool, AllocError> {
     let mut folder = opened(alloc, first, second)?;
     let files = folder.count();
-    let is_said = answers(alloc, RUN, &mut folder, (status, "", line))?;
+    let is_said = answers(alloc, arguments, &mut folder, (status, "", line))?;
     Ok(is_said && folder.count() == files)
+}
+
+/// Whether each command does that reads captures in pieces.
+fn are_refused_opening(
+    alloc: Global,
+    first: Left,
+    second: Left,
+    status: u8,
+    line: &str,
+) -> Result<bool, AllocError> {
+    let run = is_refused_opening(alloc, RUN, first, second, status, line)?;
+    let measure = is_refused_opening(alloc, MEASURE, first, second, status, line)?;
+    let survey = is_refused_opening(alloc, SURVEY, first, second, status, line)?;
+    Ok(run && measure && survey)
 }
 
 /// How many bytes are left of each port's capture, the status and the line.
@@ -341,7 +373,7 @@ const CUTS: &[(Left, Left, u8, &str)] = &[
 fn says_a_ports_fault_in_pieces(rt: HostRuntime) {
     for (first, second, status, line) in CUTS {
         assert!(rt;
-            is_refused_opening(rt.alloc(), *first, *second, *status, line) == Ok(true),
+            are_refused_opening(rt.alloc(), *first, *second, *status, line) == Ok(true),
             "{line}"
         );
     }

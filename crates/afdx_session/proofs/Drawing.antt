@@ -18,6 +18,7 @@ use Rattle.afdx_core.specs.State.{Run, State, sent_in, place_of, next_by, after_
 use Rattle.afdx_core.specs.Held.{Keeps, IsTaken, IsHanded}
 use Rattle.afdx_core.specs.Merge.{Arrival}
 use Rattle.afdx_session.specs.Output.{rows_of, written}
+use Rattle.afdx_session.specs.Inner.Rest.{IsAsBefore}
 use Rattle.afdx_session.specs.Inner.Replay.{HasBytesOf, left_at, IsDrained}
 use Rattle.afdx_session.specs.Streams.{sent_up_to}
 use Rattle.afdx_session.specs.Inner.Settled.{IsGiven, IsAt, Draws}
@@ -256,6 +257,21 @@ drained_on port start now new out place s len d handed =
 
 pub starts_drained : (port : ℕ) (start : State) → IsDrained port start start
 starts_drained port start = record { table = refl; rows = refl; finished = refl; accepted = refl; keeps = refl; latest = refl; handed = refl; others = λ place other. refl; frames = λ arrivals len has. has }
+
+pub as_before : (port : ℕ) (start now : State) → IsDrained port start now → IsAsBefore start now
+as_before port start now d = record { table = d.table; rows = d.rows; latest = d.latest; finished = d.finished; accepted = d.accepted }
+
+pub as_itself : (s : State) → IsAsBefore s s
+as_itself s = record { table = refl; rows = refl; latest = refl; finished = refl; accepted = refl }
+
+pub then_before : (old mid new : State) → IsAsBefore old mid → IsAsBefore mid new → IsAsBefore old new
+then_before old mid new first next = record {
+  table = next.table ∙ first.table;
+  rows = next.rows ∙ first.rows;
+  latest = next.latest ∙ first.latest;
+  finished = next.finished ∙ first.finished;
+  accepted = next.accepted ∙ first.accepted;
+}
 
 pub same_handed : (port : ℕ) (start now : State) → length start.run.handed ≡ length start.run.table.ports → IsDrained port start now → length now.run.handed ≡ length now.run.table.ports
 same_handed port start now len d = d.handed ∙ len ∙ ap (λ (c : Content). length c.ports) (sym d.table)

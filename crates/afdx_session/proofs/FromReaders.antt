@@ -14,6 +14,7 @@ use Rattle.afdx_pcap.specs.Fault.{IsFault, IsEarlyFault}
 use Rattle.afdx_table.specs.declared.rows.PortRow.{PortRow}
 use Rattle.afdx_table.specs.Content.{Content}
 use Rattle.afdx_table.specs.WellFormed.{Rises}
+use Rattle.afdx_core.specs.State.{State}
 use Rattle.afdx_count.specs.Tally.{Tally}
 use Rattle.afdx_folder.specs.Input.{AreGiven}
 use Rattle.afdx_session.specs.declared.plan.RunFault.{RunFault}
@@ -22,12 +23,13 @@ use Rattle.afdx_session.specs.Texts.{Text}
 use Rattle.afdx_session.specs.Reading.{IsReadFault, IsFaultAt}
 use Rattle.afdx_session.specs.Lanes.{IsPieceFault}
 use Rattle.afdx_session.specs.Session.{Intake, Seen, fresh_intake, fresh_session, intake_bytes, taken_in, fed_bytes, taken_of, refusal_at, refusal, changed, fed, closed_intake}
-use Rattle.afdx_session.specs.Session.{after_feed, after_close, IsRefused}
+use Rattle.afdx_session.specs.Session.{after_feed, after_close}
 use Rattle.afdx_session.specs.Finish.{text_in, texts_in}
 use Rattle.afdx_session.specs.Sources.{AreRead, IsSourceFault}
 use Rattle.afdx_session.specs.Into.{HaveTaken, IsFinishedInto, IsNotFinishedInto}
-use Rattle.afdx_session.specs.Outcome.{IsOutcome}
+use Rattle.afdx_session.specs.Outcome.{IsOutcome, IsDoneOf}
 use Rattle.afdx_session.specs.Written.{IsWritten}
+use Rattle.afdx_session.specs.Measured.{IsMeasuredRun}
 use Rattle.afdx_session.specs.Inner.Pieces.{GoesOnTo, CallsGoOn, NothingWasTaken}
 use Rattle.afdx_session.specs.Inner.Sources.{IsOfBytes, source_fault, IsReadUpTo, AreReadUpTo, AreAtEnd, IsOfTable, HasSameBytes, HaveSameBytes, TakesParts}
 use Rattle.afdx_session.specs.Inner.Sources.{GoesOnReading, ReadsOn, IsNextAt}
@@ -171,6 +173,7 @@ intakes_long t v of = sym (length-map v.intakes (λ (i : Intake). i.port)) ∙ a
 pub record GoesOnUntaken (v later : Seen) : Type 0 where
   pub on : GoesOnTo v later
   pub taken : (port : ℕ) → taken_of later port ≡ taken_of v port
+  pub accepted : later.accepted ≡ v.accepted
 
 changed_ports : (port : ℕ) (f : Intake → Intake) (intakes : List Intake) → ((i : Intake) → (f i).port ≡ i.port) → ports_in (changed port f intakes) ≡ ports_in intakes
 changed_ports port f [] keeps = refl
@@ -213,13 +216,13 @@ pub on_same : (v : Seen) → GoesOnTo v v
 on_same v = record { table = refl; fed = all_fed_none v.intakes; begun = λ is. is }
 
 pub untaken_same : (v : Seen) → GoesOnUntaken v v
-untaken_same v = record { on = on_same v; taken = λ port. refl }
+untaken_same v = record { on = on_same v; taken = λ port. refl; accepted = refl }
 
 pub untaken_feed : CallsGoOn → (v : Seen) (port : ℕ) (piece : List ℕ) → refusal v port ≡ None → GoesOnUntaken v (after_feed v port piece)
-untaken_feed calls v port piece may = record { on = calls.feed v port piece may; taken = λ q. changed_taken port q (fed piece) v.intakes (λ i. refl) (λ i there here. refl) }
+untaken_feed calls v port piece may = record { on = calls.feed v port piece may; taken = λ q. changed_taken port q (fed piece) v.intakes (λ i. refl) (λ i there here. refl); accepted = refl }
 
 pub untaken_close : CallsGoOn → (v : Seen) (port : ℕ) → GoesOnUntaken v (after_close v port)
-untaken_close calls v port = record { on = calls.close v port; taken = λ q. changed_taken port q closed_intake v.intakes (λ i. refl) (λ i there here. refl) }
+untaken_close calls v port = record { on = calls.close v port; taken = λ q. changed_taken port q closed_intake v.intakes (λ i. refl) (λ i there here. refl); accepted = refl }
 
 pub of_feed : (t : Content) (v : Seen) (port : ℕ) (piece : List ℕ) → IsOfTable t v → IsOfTable t (after_feed v port piece)
 of_feed t v port piece of = record { table = of.table; rises = of.rises; ports = changed_ports port (fed piece) v.intakes (λ i. refl) ∙ of.ports; none_failed = of.none_failed }
@@ -546,6 +549,7 @@ parts_none contents v files of = record {
   same = (refl, λ place i j at there. same_bytes i j (same_Some i j (sym at ∙ there)));
   many = refl;
   taken = λ start have. have;
+  accepted = refl;
 }
 
 -- ---- a whole run
@@ -560,6 +564,7 @@ reads_both calls remaining contents v mid later readers now files written more l
   long = was.long;
   read = λ first read. on.read first (was.read first read);
   taken = λ start have. taken_on calls contents mid later start written on.on (was.taken start have);
+  accepted = on.on.accepted ∙ was.accepted;
 }
 
 same_read : {R : Type 0} (remaining : R → Option (List ℕ)) (v later : Seen) (first now : List R) → HaveSameBytes v.intakes later.intakes → AreReadUpTo remaining v first now
@@ -583,11 +588,12 @@ takes_both remaining contents v mid later readers now files written after was ta
   long = takes.many ∙ was.long;
   read = λ first read. same_read remaining mid later first now takes.same (was.read first read);
   taken = λ start have. takes.taken start (was.taken start have);
+  accepted = takes.accepted ∙ was.accepted;
 }
 
 pub reads_none : {R F : Type 0} (remaining : R → Option (List ℕ)) (contents : F → Option (List ℕ)) (v : Seen) (readers : List R) (files : List F) → IsOfTable v.table v
     → GoesOnReading remaining contents v readers files v readers files
-reads_none remaining contents v readers files of = record { of = of; many = refl; long = refl; read = λ first read. read; taken = λ start have. have }
+reads_none remaining contents v readers files of = record { of = of; many = refl; long = refl; read = λ first read. read; taken = λ start have. have; accepted = refl }
 
 -- one more read, of which this was taken
 pub reads_into : {R F : Type 0} → CallsGoOn → (remaining : R → Option (List ℕ)) (contents : F → Option (List ℕ)) (v mid later : Seen) (readers now : List R) (files written : List F) (more : Bool)
@@ -608,6 +614,7 @@ reads_then remaining contents v mid later readers now last files written after w
   long = on.long ∙ was.long;
   read = λ first read. on.read first (was.read first read);
   taken = λ start have. on.taken start (was.taken start have);
+  accepted = on.accepted ∙ was.accepted;
 }
 
 -- the next capture is that of one of the readers
@@ -723,19 +730,24 @@ reads_all {R} nothing remaining contents accepted t v later readers now files wr
     }
 
 pub runs_from : {R F : Type 0} → NothingWasTaken → (remaining : R → Option (List ℕ)) (contents : F → Option (List ℕ)) (accepted : Bool) (t : Content) (v later : Seen) (readers now : List R)
-    (files written after : List F) (counts : Tally) → Rises t.ports → v ≡ fresh_session accepted t → length readers ≡ length t.ports
+    (files written after : List F) (counts : Tally) (s : State) → Rises t.ports → v ≡ fresh_session accepted t → length readers ≡ length t.ports
     → GoesOnReading remaining contents v readers files later now written
     → ((first : List R) → AreReadUpTo remaining v first readers → AreAtEnd remaining now) → IsFinishedInto contents later written after counts
-    → (texts : List Text) × AreRead remaining readers texts × IsWritten contents t texts files after counts
-runs_from nothing remaining contents accepted t v later readers now files written after counts rises is long was ends finished =
-    let all = reads_all nothing remaining contents accepted t v later readers now files written rises is was ends in (
-      texts_in later,
+    → IsDoneOf later.accepted later.table (texts_in later) s
+    → (texts : List Text) × AreRead remaining readers texts × IsWritten contents t texts files after counts × IsMeasuredRun accepted t texts counts s
+runs_from nothing remaining contents accepted t v later readers now files written after counts s rises is long was ends finished done =
+    let all = reads_all nothing remaining contents accepted t v later readers now files written rises is was ends in
+    let texts = texts_in later in
+    let outcome = subst (λ (c : Content). IsOutcome c texts finished.whole) all.of.table finished.outcome in
+    let cleared = was.accepted ∙ ap (λ (w : Seen). w.accepted) is in (
+      texts,
       all_read remaining t later readers now all.of long all.read all.end,
+      record { results = finished.whole; outcome = outcome; counted = finished.counted; appended = finished.appended files all.taken },
       record {
-        results = finished.whole;
-        outcome = subst (λ (c : Content). IsOutcome c (texts_in later) finished.whole) all.of.table finished.outcome;
+        done = subst (λ (b : Bool). IsDoneOf b t texts s) cleared (subst (λ (c : Content). IsDoneOf later.accepted c texts s) all.of.table done);
+        whole = finished.whole;
+        outcome = outcome;
         counted = finished.counted;
-        appended = finished.appended files all.taken;
       },
     )
 

@@ -1,7 +1,7 @@
 -- Captures that came in pieces end, and what is left of the outputs goes to the files.
 use Rattle.std.proofs.Common.{◌≡◌, ℕ, zero, suc, ◌<◌, ◌==◌, Bool, true, false, cond, List, [], ◌∷◌, ◌++◌, length, take, slice_get, Option, Some, None, refl, ap, sym, ◌∙◌}
-use Rattle.std.proofs.Common.{arith, subst}
-use Rattle.std.specs.Prelude.{find}
+use Rattle.std.proofs.Common.{arith, subst, ◌≤◌, map}
+use Rattle.std.specs.Prelude.{find, All}
 use Rattle.std.specs.List.{AllByRecursion}
 use Rattle.std.specs.Io.KnownBytes.{Appends}
 use Rattle.std.proofs.lemmas.Bool.{both_ways, eq-eqb, ne_eqb}
@@ -10,7 +10,12 @@ use Rattle.afdx_pcap.specs.Record.{Record}
 use Rattle.afdx_table.specs.declared.rows.PortRow.{PortRow}
 use Rattle.afdx_table.specs.Content.{Content, port_row}
 use Rattle.afdx_table.specs.WellFormed as table
-use Rattle.afdx_core.specs.State.{State}
+use Rattle.afdx_account.specs.Level.{InOrder}
+use Rattle.afdx_core.specs.declared.step.Row.{Row}
+use Rattle.afdx_core.specs.Rows.{frame_of_row}
+use Rattle.afdx_core.specs.State.{State, after_finish}
+use Rattle.afdx_core.specs.Held.{Keeps}
+use Rattle.afdx_core.specs.Isolation.{IsRun, IsOfAnArrival}
 use Rattle.afdx_core.specs.Merge.{Capture, merged}
 use Rattle.afdx_count.specs.Tally.{Tally}
 use Rattle.afdx_count.specs.Run.{counts_of}
@@ -20,10 +25,10 @@ use Rattle.afdx_session.specs.declared.machine.Machine.{Machine}
 use Rattle.afdx_session.specs.Texts.{Text}
 use Rattle.afdx_session.specs.Reading.{AreCaptures}
 use Rattle.afdx_session.specs.Output.{rows_of, output_text, outputs}
-use Rattle.afdx_session.specs.Outcome.{Results, IsOutcome}
+use Rattle.afdx_session.specs.Outcome.{Results, IsOutcome, IsDoneOf}
 use Rattle.afdx_session.specs.Headline.{AcceptedRunsIsolate}
 use Rattle.afdx_session.specs.Session.{Intake, Seen}
-use Rattle.afdx_session.specs.Finish.{text_in}
+use Rattle.afdx_session.specs.Finish.{text_in, texts_in}
 use Rattle.afdx_session.specs.Into.{HasTaken, HaveTaken, IsFinishedInto}
 use Rattle.afdx_session.specs.Inner.Settled.{first_place, IsWithin}
 use Rattle.afdx_session.specs.Inner.Lanes.{intake_of, limit_at, head_of, heads_of, IsFirstOf, NoneGoes}
@@ -32,10 +37,10 @@ use Rattle.afdx_session.specs.Inner.Files.{HaveMore, Proceeds, HasEndedInto}
 use Rattle.afdx_session.specs.Inner.Kept.{AreOfTable, IsGoing, IsMarked, IsOfSameTable, AreTouched}
 use Rattle.afdx_session.specs.Inner.View.{intakes_of, seen_of, gone_out, IsKeptMachine, AreHalfDone, AreEndedLanes, texts_at}
 use Rattle.afdx_session.specs.Inner.Pieces.{WasTaken, TakenStays, TakenIsAPrefix, capture_at, bytes_in}
-use Rattle.afdx_session.specs.Inner.Rest.{Rest, HaveRests}
+use Rattle.afdx_session.specs.Inner.Rest.{Rest, IsAsBefore, HaveRests}
 use Rattle.afdx_session.proofs.Calls.{touched_table, half_of_table, handed_stays}
 use Rattle.afdx_session.proofs.Carrying.{none_left_to_read, taken_touched}
-use Rattle.afdx_session.proofs.Ending.{all_ended_touched}
+use Rattle.afdx_session.proofs.Ending.{TakenAreTheCapture, all_ended_touched}
 use Rattle.afdx_session.proofs.Finishing.{find_intake, text_ports}
 use Rattle.afdx_session.proofs.Given.{lane_at}
 use Rattle.afdx_session.proofs.Gone.{port_of_lane}
@@ -44,7 +49,7 @@ use Rattle.afdx_session.proofs.Numbered.{all_slice_get}
 use Rattle.afdx_session.proofs.Parts.{have_over, same_length}
 use Rattle.afdx_session.proofs.Pieces.{found_output, all_continued}
 use Rattle.afdx_session.proofs.Rounds.{same_both}
-use Rattle.afdx_session.proofs.Writing.{mapped_from, all_appended}
+use Rattle.afdx_session.proofs.Writing.{mapped_from, all_appended, done_of}
 
 -- ---- all captures have ended
 
@@ -268,3 +273,32 @@ finished_into {F} {Z} stays prefix isolate contents m new begun r read files mid
       have_over contents new.switch.run.table t texts texts r.taken start mid same.table refl
       (subst (λ ns. HaveMore contents new.switch.run.table texts ns start mid) (sym taken)
       (ended.more start (have_over contents t new.switch.run.table texts texts (taken_by m.lanes.items) start files (sym same.table) refl have)))
+
+-- ---- the switch that is left
+
+-- handing out what is left changes no more of it
+done_before : (cleared : Bool) (t : Content) (texts : List Text) (old new : State) → IsDoneOf cleared t texts old → IsAsBefore old new → IsDoneOf cleared t texts new
+done_before cleared t texts old new done before = record {
+  ports = done.ports;
+  read = done.read;
+  are_read = done.are_read;
+  table = before.table ∙ done.table;
+  rows = before.rows ∙ done.rows;
+  is_run = record {
+    arrivals = subst (λ (u : Content). All (IsOfAnArrival u) new.run.rows) (sym before.table) (subst (λ (rows : List Row). All (IsOfAnArrival old.run.table) rows) (sym before.rows) done.is_run.arrivals);
+    stamps = subst (λ (rows : List Row). InOrder 0 (map frame_of_row rows)) (sym before.rows) done.is_run.stamps;
+    latest = subst (λ (n : ℕ). All (λ (row : Row). row.stamp ≤ n) new.run.rows) (sym before.latest)
+        (subst (λ (rows : List Row). All (λ (row : Row). row.stamp ≤ old.run.latest) rows) (sym before.rows) done.is_run.latest);
+  };
+  all = before.finished ∙ done.all;
+  accepted = before.accepted ∙ done.accepted;
+}
+
+pub session_done : {Z : Type 0} → TakenAreTheCapture → (m new : Machine Z) (s now : State) (begun : Bool) → IsKeptMachine m begun false → IsOfSameTable m.switch new.switch
+    → HaveGone (texts_at m.lanes.items) new → s.run ≡ after_finish new.switch.run → Keeps new.switch s → IsRun s.run → IsAsBefore s now
+    → IsDoneOf (seen_of m begun false).accepted (seen_of m begun false).table (texts_in (seen_of m begun false)) now
+session_done takes m new s now begun kept same gone run keeps is_run before =
+    let t = m.switch.run.table in
+    let texts = texts_at m.lanes.items in
+    done_before m.switch.accepted t texts s now
+    (done_of takes m.switch.accepted t texts new s (text_ports m.lanes.items ∙ kept.of.ports) same.table same.accepted gone run keeps.accepted is_run) before

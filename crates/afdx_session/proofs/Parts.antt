@@ -1,5 +1,5 @@
 -- What goes to the files of the ports in parts.
-use Rattle.std.proofs.Common.{◌≡◌, ◌≢◌, ◌⊎◌, ℕ, zero, suc, ◌+◌, ◌<◌, ◌≤◌, ◌^◌, Bool, true, List, [], ◌∷◌, ◌++◌, map, length, take, drop, set, slice_get, Option, Some, option_map}
+use Rattle.std.proofs.Common.{◌≡◌, ◌≢◌, ◌⊎◌, ℕ, zero, suc, ◌+◌, ◌<◌, ◌≤◌, ◌^◌, true, List, [], ◌∷◌, ◌++◌, map, length, take, drop, set, slice_get, Option, Some, option_map}
 use Rattle.std.proofs.Common.{refl, ap, sym, ◌∙◌, arith, subst, append_assoc, inl, inr, length-set}
 use Rattle.std.specs.List.{AllByRecursion}
 use Rattle.std.specs.Io.KnownBytes.{Appends}
@@ -25,7 +25,7 @@ use Rattle.afdx_session.specs.Output.{output_text}
 use Rattle.afdx_session.specs.Streams.{Stream}
 use Rattle.afdx_session.specs.Inner.Settled.{IsSettling}
 use Rattle.afdx_session.specs.Inner.Lanes.{waiting_of}
-use Rattle.afdx_session.specs.Inner.Lent.{IsOver, texts_over, taken_by, left_of, left_in, IsCarrying, CarriesOn, HandsOn}
+use Rattle.afdx_session.specs.Inner.Lent.{IsOver, texts_over, taken_by, left_of, left_in, IsCarrying, HandsOn}
 use Rattle.afdx_session.specs.Inner.Kept.{IsLaneOf, AreLanesOf, AreOfTable, text_up_to, IsOutAt, IsOut, IsGoing, IsOfSameTable}
 use Rattle.afdx_session.specs.Inner.View.{AreFreshLanes}
 use Rattle.afdx_session.specs.Inner.Files.{HandsOver, HavePrefixes, HaveMore, PutsOut, Proceeds, HasWritten}

@@ -119,14 +119,15 @@ taken_at {F} {Z} stays joins contents new w p place l n text f e g is = record {
 -- ---- all ports
 
 pub takes_parts : {F Z : Type 0} → ByStampIsOrdered → EarlierEventsStayAdmitted → ReachesInOrder → AllStartBeforeTheLastInstant → TakenStays → TakesJoin → (contents : F → Option (List ℕ))
-    (old new : Machine Z) (w : Seen) (files now : List F) → AreOfTable old.switch.run.table old.lanes.items → IsOfTable old.switch.run.table w → w.begun ≡ true
+    (old new : Machine Z) (w : Seen) (files now : List F) → AreOfTable old.switch.run.table old.lanes.items → IsOfTable old.switch.run.table w → w.accepted ≡ old.switch.accepted → w.begun ≡ true
     → ((place : ℕ) (l : Lane Z) (i : Intake) → slice_get old.lanes.items place ≡ Some l → slice_get w.intakes place ≡ Some i → i.taken ≡ l.taken)
     → GoesOnInto contents old files new now w.intakes → TakesParts contents w files (seen_of new true false) now
-takes_parts {F} {Z} ordered stay reaches ends stays joins contents old new w files now of of_w begun untaken on = record {
+takes_parts {F} {Z} ordered stay reaches ends stays joins contents old new w files now of of_w accepted begun untaken on = record {
   of = subst (λ (c : Content). IsOfTable c later) table (of_seen new true on.of);
   same = on.same;
   many = on.put.long;
   taken = λ start have. record { long = on.put.long ∙ have.long; each = λ place p f g is_p is_f is_g. each start have place p f g is_p is_f is_g };
+  accepted = on.table.accepted ∙ sym accepted;
 } where
   later : Seen
   later = seen_of new true false
@@ -200,7 +201,7 @@ pub fed_parts : {F Z : Type 0} → ByStampIsOrdered → EarlierEventsStayAdmitte
     → TakesParts contents (after_feed v port piece) files (seen_of new true false) now
 fed_parts {F} {Z} ordered stay reaches ends stays joins contents old new begun failed v port place piece files now view not_failed of is_open is =
     subst (λ w. TakesParts contents (after_feed w port piece) files (seen_of new true false) now) (seen_so_far old begun failed v view not_failed)
-    (takes_parts ordered stay reaches ends stays joins contents old new w files now of (of_feed old.switch.run.table (seen_of old begun false) port piece (of_seen old begun of)) refl
+    (takes_parts ordered stay reaches ends stays joins contents old new w files now of (of_feed old.switch.run.table (seen_of old begun false) port piece (of_seen old begun of)) refl refl
     (same_untaken old.lanes.items place is.lane (fed piece (intake_of is.lane)) w.intakes is.at refl changes)
     (subst (GoesOnInto contents old files new now) (sym changes) is.on)) where
       w : Seen
@@ -219,7 +220,7 @@ pub ended_parts : {F Z : Type 0} → ByStampIsOrdered → EarlierEventsStayAdmit
     → TakesParts contents (after_close v port) files (seen_of new true false) now
 ended_parts {F} {Z} ordered stay reaches ends stays joins contents old new begun failed v port place files now view not_failed of is_open is =
     subst (λ w. TakesParts contents (after_close w port) files (seen_of new true false) now) (seen_so_far old begun failed v view not_failed)
-    (takes_parts ordered stay reaches ends stays joins contents old new w files now of (of_close old.switch.run.table (seen_of old begun false) port (of_seen old begun of)) refl
+    (takes_parts ordered stay reaches ends stays joins contents old new w files now of (of_close old.switch.run.table (seen_of old begun false) port (of_seen old begun of)) refl refl
     (same_untaken old.lanes.items place is.lane (closed_intake (intake_of is.lane)) w.intakes is.at refl changes)
     (subst (GoesOnInto contents old files new now) (sym changes) is.on)) where
       w : Seen

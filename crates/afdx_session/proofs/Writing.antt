@@ -1,6 +1,6 @@
 -- What is left of the outputs when a run is over.
 use Rattle.std.proofs.Common.{◌≡◌, ◌≢◌, ◌⊎◌, ℕ, zero, suc, ◌+◌, ◌<◌, ◌≤◌, ◌==◌, Bool, true, List, [], ◌∷◌, ◌++◌, map, length, take, drop, set, slice_get, slice_index, Option, Some, None}
-use Rattle.std.proofs.Common.{get_or, option_map, refl, ap, sym, ◌∙◌, arith, subst, inl, inr, append_assoc, length-set, Vec}
+use Rattle.std.proofs.Common.{get_or, option_map, refl, ap, sym, ◌∙◌, arith, subst, inl, inr, append_assoc, length-set}
 use Rattle.std.specs.List.{AllByRecursion, flat_map, position}
 use Rattle.std.specs.Io.KnownBytes.{Appends}
 use Rattle.std.proofs.KnownBytes.{Appends-trans}
@@ -26,7 +26,7 @@ use Rattle.afdx_count.specs.Run.{counts_so_far, counts_of}
 use Rattle.afdx_count.specs.Inner.Laws.{EndCountsTheRun}
 use Rattle.afdx_session.specs.declared.lane.Lane.{Lane}
 use Rattle.afdx_session.specs.declared.machine.Machine.{Machine}
-use Rattle.afdx_session.specs.Texts.{Text, texts_of, AreOfPorts}
+use Rattle.afdx_session.specs.Texts.{Text, AreOfPorts}
 use Rattle.afdx_session.specs.Reading.{AreCaptures}
 use Rattle.afdx_session.specs.Outcome.{IsDoneOf}
 use Rattle.afdx_session.specs.Output.{rows_of, written, output_text, outputs, sent_by}
@@ -36,8 +36,8 @@ use Rattle.afdx_session.specs.Inner.Settled.{Draws}
 use Rattle.afdx_session.specs.Inner.Lanes.{waiting_of}
 use Rattle.afdx_session.specs.Inner.Lent.{IsOver, texts_over, taken_by, HaveGone, HasPassed}
 use Rattle.afdx_session.specs.Inner.Kept.{AreLanesOf, AreOfTable, text_up_to, IsOut, IsGoing}
-use Rattle.afdx_session.specs.Inner.Files.{HavePrefixes, HasWritten}
-use Rattle.afdx_session.specs.Inner.Rest.{Rest, IsLeft, HaveRests, HasRest}
+use Rattle.afdx_session.specs.Inner.Files.{HavePrefixes}
+use Rattle.afdx_session.specs.Inner.Rest.{Rest, IsLeft, HaveRests}
 use Rattle.afdx_session.specs.Written.{AreAppended}
 use Rattle.afdx_session.proofs.Draining.{none_left}
 use Rattle.afdx_session.proofs.Drawing.{sent-prefix, capture-append, same_handed}
@@ -229,21 +229,26 @@ all_read takes texts m gone =
     subst (λ ts. AreCaptures ts (captures_of streams)) gone.over (over_captures takes m.lanes.items streams gone.carrying.over gone.all gone.carrying.going.lanes_are)
 
 -- its switch, once it is finished
+pub done_of : {Z : Type 0} → TakenAreTheCapture → (cleared : Bool) (t : Content) (texts : List Text) (m : Machine Z) (s : State) → AreOfPorts t texts → m.switch.run.table ≡ t
+    → m.switch.accepted ≡ cleared → (gone : HaveGone texts m) → s.run ≡ after_finish m.switch.run → s.accepted ≡ m.switch.accepted → IsRun s.run → IsDoneOf cleared t texts s
+done_of takes cleared t texts m s ports table is_cleared gone run accepted is_run =
+    let going = gone.carrying.going in
+    record {
+      ports = ports;
+      read = captures_of going.streams;
+      are_read = all_read takes texts m gone;
+      table = ap (λ (r : Run). r.table) run ∙ table;
+      rows = ap (λ (r : Run). r.rows) run ∙ going.is_given.rows ∙ ap (rows_of m.switch.run.table) (sym (all_given texts m gone))
+          ∙ ap (λ (c : Content). rows_of c (merged (captures_of going.streams))) table;
+      is_run = is_run;
+      all = ap (λ (r : Run). r.finished) run;
+      accepted = accepted ∙ is_cleared;
+    }
+
 pub passed_done : {Z : Type 0} → TakenAreTheCapture → (cleared : Bool) (t : Content) (texts : List Text) (m : Machine Z) (s : State) → HasPassed cleared t texts m → s.run ≡ after_finish m.switch.run
     → s.accepted ≡ m.switch.accepted → IsRun s.run → IsDoneOf cleared t texts s
 passed_done takes cleared t texts m s passed run accepted is_run =
-    let going = passed.gone.carrying.going in
-    record {
-      ports = passed.ports;
-      read = captures_of going.streams;
-      are_read = all_read takes texts m passed.gone;
-      table = ap (λ (r : Run). r.table) run ∙ passed.table;
-      rows = ap (λ (r : Run). r.rows) run ∙ going.is_given.rows ∙ ap (rows_of m.switch.run.table) (sym (all_given texts m passed.gone))
-          ∙ ap (λ (c : Content). rows_of c (merged (captures_of going.streams))) passed.table;
-      is_run = is_run;
-      all = ap (λ (r : Run). r.finished) run;
-      accepted = accepted ∙ passed.accepted;
-    }
+    done_of takes cleared t texts m s passed.ports passed.table passed.accepted passed.gone run accepted is_run
 
 -- what is left of it
 pub gone_is_left : {Z : Type 0} → SentGoesOn → ReachesInOrder → TakenAreTheCapture → EndCountsTheRun → (t : Content) (texts : List Text) (m : Machine Z) (r : Rest) (gone : HaveGone texts m)

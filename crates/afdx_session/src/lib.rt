@@ -22,5 +22,5 @@ mod whole;
 
 pub use plan::{Outcome, Plan, RunFault};
 pub use session::Session;
-pub use sources::{SourceFault, run_from};
+pub use sources::{SourceFault, measured_from, run_from};
 pub use whole::{finished, run};

@@ -4,7 +4,9 @@ ghost use Rattle.std.specs.Prelude.{◌≡◌, ◌<◌, ◌≤◌, ◌^◌, ℕ,
 ghost use Rattle.afdx_units.specs.Time.{last_second, stamp_end};
 ghost use Rattle.afdx_table.specs.WellFormed.{IsWellFormed};
 ghost use Rattle.afdx_load.specs.Accepted.{IsAccepted};
+ghost use Rattle.afdx_measure.specs.Wanted.{keeps_lists};
 ghost use Rattle.afdx_session.specs.Outcome.{table_in, is_cleared};
+ghost use Rattle.afdx_core.specs.Isolation.{IsRun};
 ghost use Rattle.afdx_core.specs.Step.{Step};
 ghost use Rattle.afdx_core.specs.Held.{not_of_memory, IsTaken, Keeps};
 ghost use Rattle.afdx_core.specs.Rows.{row_of};
@@ -27,12 +29,13 @@ use crate::lane::{
 };
 use crate::plan::{Outcome, Plan, RunFault};
 use crate::rest::Rest;
+use afdx_core::CoreFault;
 use afdx_core::laws::{by_stamp_is_ordered, merged_is_a_merge, merged_is_by_stamp_and_port};
-use afdx_core::{CoreFault, Relay};
 use afdx_count::Counts;
 use afdx_count::laws::note_counts_one_more;
 use afdx_earliest::Instants;
 use afdx_folder::NewFile;
+use afdx_measure::{Measuring, Wanted};
 use afdx_pcap::Record;
 use afdx_pcap::laws::{
     each_file_has_one_reading, taken_records_are_the_first, taken_records_begin_the_capture,
@@ -63,7 +66,7 @@ pub(crate) enum Leaving {
 /// A switch, its counters, and what there is of each port.
 #[derive(Drop)]
 pub(crate) struct Machine<'a, A: Allocator> {
-    pub(crate) switch: Relay<'a, A>,
+    pub(crate) switch: Measuring<'a, A>,
     pub(crate) counts: Counts<A>,
     /// By rising port.
     pub(crate) lanes: Vec<Lane<'a, A>, A>,
@@ -121,15 +124,15 @@ fn first_fault<A: Allocator + Copy>(
 
 impl<'a, A: Allocator + Copy> Machine<'a, A> {
     /// A switch over a plan that took nothing.
-    pub(crate) fn new(alloc: A, plan: Plan, keeps: bool) -> Result<Machine<'a, A>, AllocError>
-        ensures fresh { IfOk result (λ m. (m.switch ≡ fresh_state (is_cleared plan) keeps (table_in plan)) × (m.counts ≡ fresh (table_in plan))
+    pub(crate) fn new(alloc: A, plan: Plan, wanted: Wanted) -> Result<Machine<'a, A>, AllocError>
+        ensures fresh { IfOk result (λ m. (m.switch ≡ fresh_state (is_cleared plan) (keeps_lists wanted) (table_in plan)) × (m.counts ≡ fresh (table_in plan))
             × AreFreshLanes (table_in plan).ports m.lanes.items) }
         ensures formed { IsWellFormed (table_in plan) }
         ensures accepted { is_cleared plan ≡ true → IsAccepted (table_in plan) }
     {
         let lanes = lanes_of(alloc, plan.table().ports())?;
         let counts = Counts::new(alloc, plan.table())?;
-        let switch = plan.into_switch(alloc, keeps)?;
+        let switch = plan.into_switch(alloc, wanted)?;
         Ok(Machine {
             switch,
             counts,
@@ -666,6 +669,7 @@ impl<'a, A: Allocator + Copy> Machine<'a, A> {
     pub(crate) fn into_rest(self) -> Rest<'a, A>
         ensures run { result.state.run ≡ after_finish self.entry.switch.run }
         ensures keeps { Keeps self.entry.switch result.state }
+        ensures is_run { IsRun result.state.run }
         ensures counts { result.counts ≡ ended_tally (after_finish self.entry.switch.run) self.entry.counts }
         ensures texts { result.texts ≡ map (λ l. (l.port, l.out.items)) self.entry.lanes.items }
         ensures taken { result.taken ≡ taken_by self.entry.lanes.items }
@@ -676,7 +680,7 @@ impl<'a, A: Allocator + Copy> Machine<'a, A> {
             lanes,
         } = self;
         let switch = switch.finish();
-        counts.note_relayed(&switch);
+        counts.note_relayed(switch.relayed());
         Rest {
             switch,
             counts,
@@ -696,7 +700,7 @@ impl<'a, A: Allocator + Copy> Machine<'a, A> {
             mut counts,
             lanes,
         } = self;
-        counts.note_relayed(&switch.finish());
+        counts.note_relayed(switch.finish().relayed());
         let mut captures = room;
         for lane in lanes {
             let Lane { port, out, .. } = lane;

@@ -2,19 +2,22 @@
 
 ghost use Rattle.std.specs.Prelude.{◌≡◌, ◌<◌, ◌==◌, List, length, map, position, true, IfOk, IfErr, OnOk, IfSome, IfNone};
 ghost use Rattle.std.specs.List.{AllByRecursion};
-ghost use Rattle.afdx_session.specs.Outcome.{table_in};
+ghost use Rattle.afdx_session.specs.Outcome.{table_in, is_cleared};
 ghost use Rattle.afdx_session.specs.Texts.{Text};
 ghost use Rattle.afdx_session.specs.Sources.{AreRead, IsSourceFault};
 ghost use Rattle.afdx_session.specs.Written.{IsWritten};
+ghost use Rattle.afdx_session.specs.Measured.{IsMeasuredRun};
 ghost use Rattle.afdx_session.specs.Inner.Sources.{IsOfBytes, source_fault, IsOfTable, IsNextAt, AreReadUpTo, AreAtEnd, ReadsOn, GoesOnReading};
 ghost use Rattle.afdx_session.specs.Inner.Stop.{IsStopSince};
 
 use crate::laws::takes_join_to_the_output;
 use crate::plan::{Plan, RunFault};
+use crate::rest::Rest;
 use crate::session::Session;
 use crate::stop::{Stop, stop_of};
 use afdx_count::Counts;
 use afdx_folder::NewFile;
+use afdx_measure::{Measured, Wanted};
 use afdx_pcap::PcapFault;
 use afdx_table::PortRow;
 use std::alloc::{AllocError, Allocator};
@@ -202,10 +205,29 @@ pub fn run_from<A: Allocator + Copy, R: Read, F: NewFile>(
         × IsWritten F.contents (table_in plan) texts files.old files.new counts) }
     ensures err { IfErr result (λ fault. IsSourceFault R.remaining (table_in plan) readers.old fault) }
 {
+    let Rest { counts, .. } = run_all(alloc, plan, Wanted::Nothing, readers, files)?;
+    Ok(counts)
+}
+
+/// The same run, of which this is wanted beside its output, with the switch that is left.
+fn run_all<A: Allocator + Copy, R: Read, F: NewFile>(
+    alloc: A,
+    plan: Plan,
+    wanted: Wanted,
+    readers: &mut [R],
+    files: &mut [F],
+) -> Result<Rest<'static, A>, SourceFault>
+    requires readers { length readers.old ≡ length (table_in plan).ports }
+    requires files { length files.old ≡ length (table_in plan).ports }
+    ensures ok { IfOk result (λ rest. (texts : List Text) × AreRead R.remaining readers.old texts
+        × IsWritten F.contents (table_in plan) texts files.old files.new rest.counts
+        × IsMeasuredRun (is_cleared plan) (table_in plan) texts rest.counts rest.state) }
+    ensures err { IfErr result (λ fault. IsSourceFault R.remaining (table_in plan) readers.old fault) }
+{
     takes_join_to_the_output();
     let ports = numbers_of(alloc, plan.table().ports())?;
     let mut piece = vec![in alloc; 0u8; PIECE]?;
-    let session = match Session::new(alloc, plan) {
+    let session = match Session::wanting(alloc, plan, wanted) {
         Ok(session) => session,
         Err(fault) => return Err(source_fault(fault)),
     };
@@ -213,8 +235,48 @@ pub fn run_from<A: Allocator + Copy, R: Read, F: NewFile>(
         Ok(session) => session,
         Err(stop) => return Err(stop.first_failure(readers, &mut piece)),
     };
-    match session.finish_into(files) {
-        Ok(counts) => Ok(counts),
+    match session.end_into(files) {
+        Ok(rest) => Ok(rest),
         Err(fault) => Err(source_fault(fault)),
     }
+}
+
+/// A file that keeps nothing.
+#[derive(Drop)]
+struct Nowhere {}
+
+impl NewFile for Nowhere {
+    fn append(&mut self, _bytes: &[u8]) -> Result<(), AllocError> {
+        Ok(())
+    }
+}
+
+/// One for each of so many ports.
+fn to_nowhere<A: Allocator + Copy>(alloc: A, count: usize) -> Result<Vec<Nowhere, A>, AllocError>
+    ensures { IfOk result (λ files. length files.items ≡ count) }
+{
+    let mut files = Vec::new(alloc);
+    for _place in 0..count {
+        files.push(Nowhere {})?;
+    }
+    Ok(files)
+}
+
+/// The run of [`run_from`], of which nothing goes out: its counts, and what was wanted of it.
+///
+/// The errors are those of [`run_from`], in its order; so is the cost.
+pub fn measured_from<A: Allocator + Copy, R: Read>(
+    alloc: A,
+    plan: Plan,
+    wanted: Wanted,
+    readers: &mut [R],
+) -> Result<(Counts<A>, Measured<'static, A>), SourceFault>
+    requires { length readers.old ≡ length (table_in plan).ports }
+    ensures ok { IfOk result (λ both. (texts : List Text) × AreRead R.remaining readers.old texts
+        × IsMeasuredRun (is_cleared plan) (table_in plan) texts both.0 both.1) }
+    ensures err { IfErr result (λ fault. IsSourceFault R.remaining (table_in plan) readers.old fault) }
+{
+    let mut files = to_nowhere(alloc, plan.table().ports().len())?;
+    let Rest { switch, counts, .. } = run_all(alloc, plan, wanted, readers, &mut files)?;
+    Ok((counts, switch))
 }

@@ -11,7 +11,7 @@ use Rattle.afdx_arguments.specs.declared.request.Paths.{Paths}
 use Rattle.afdx_messages.specs.declared.failure.Failure.{Failure}
 use Rattle.afdx_messages.specs.declared.failure.Failure.TheVariants as failure
 use Rattle.afdx_folder.specs.Files.{Files, IsOpened, DeviceLog}
-use Rattle.afdx_serve.specs.Runs.{HasCaptures, LeadsTo, names_in, bytes_of_captures, FailsToGetAll, FailsToLead}
+use Rattle.afdx_serve.specs.Runs.{HasCaptures, LeadsTo, port_names, names_in, bytes_of_captures, FailsToGetAll, FailsToLead}
 use Rattle.afdx_serve.specs.Inner.Outputs.{HaveBytes}
 
 -- ---- a plan
@@ -36,6 +36,11 @@ FailsToReadPlan _ text unchecked = ⊥
 pub record AreOpened {R : Type 0} (remaining : R → Option (List ℕ)) (files : Option Files) (names : List (List ℕ)) (readers : List R) : Type 0 where
   pub many : length readers ≡ length names
   pub each : (place : ℕ) (reader : R) (name : List ℕ) → slice_get readers place ≡ Some reader → slice_get names place ≡ Some name → IsOpened files name (remaining reader)
+
+-- these are the names of the captures of the table's ports in a folder, by rising number, and these their readers
+pub record AreOpenedPorts {R : Type 0} (remaining : R → Option (List ℕ)) (files : Option Files) (path : List ℕ) (t : Content) (names : List (List ℕ)) (readers : List R) : Type 0 where
+  pub named : names ≡ port_names path t
+  pub opened : AreOpened remaining files names readers
 
 -- ---- new files
 

@@ -51,3 +51,11 @@ pub record HasRest {F : Type 0} (contents : F → Option (List ℕ)) (t : Conten
   pub are_read : AreCaptures texts read
   pub left : IsLeft t (merged read) 0 r
   pub prefixes : HavePrefixes contents t (merged read) r.taken files now
+
+-- but for what was handed out the switch is as it was
+pub record IsAsBefore (old new : State) : Type 0 where
+  pub table : new.run.table ≡ old.run.table
+  pub rows : new.run.rows ≡ old.run.rows
+  pub latest : new.run.latest ≡ old.run.latest
+  pub finished : new.run.finished ≡ old.run.finished
+  pub accepted : new.accepted ≡ old.accepted

@@ -70,6 +70,7 @@ pub record TakesParts {F : Type 0} (contents : F → Option (List ℕ)) (v : See
   pub same : HaveSameBytes v.intakes later.intakes
   pub many : length now ≡ length files
   pub taken : (start : List F) → HaveTaken contents v start files → HaveTaken contents later start now
+  pub accepted : later.accepted ≡ v.accepted
 
 -- a run went on: this is what the readers gave, and what was taken is in the files
 pub record GoesOnReading {R F : Type 0} (remaining : R → Option (List ℕ)) (contents : F → Option (List ℕ)) (v : Seen) (readers : List R) (files : List F) (later : Seen) (now : List R)
@@ -79,6 +80,7 @@ pub record GoesOnReading {R F : Type 0} (remaining : R → Option (List ℕ)) (c
   pub long : length written ≡ length files
   pub read : (first : List R) → AreReadUpTo remaining v first readers → AreReadUpTo remaining later first now
   pub taken : (start : List F) → HaveTaken contents v start files → HaveTaken contents later start written
+  pub accepted : later.accepted ≡ v.accepted
 
 -- by one more read; where none is to be made any more, all readers are at their ends
 pub record ReadsOn {R F : Type 0} (remaining : R → Option (List ℕ)) (contents : F → Option (List ℕ)) (v : Seen) (readers : List R) (files : List F) (more : Bool) (later : Seen) (now : List R)

@@ -7,7 +7,6 @@ from pathlib import Path
 
 from afdx.campaign.worker.files import put_copy
 from afdx.campaign.worker.program import Program, Said
-from afdx.campaign.worker.survey import polices, survey
 from afdx.campaign.worker.task import Task
 
 ASKS = ("survey", "run", "trace")
@@ -22,7 +21,7 @@ def ask(task: Task, program: Program, scratch: Path) -> Said:
         return run(task, program, scratch, ("network", "run", table, folder), ())
     if task.ask == "run":
         return run(task, program, scratch, ("run", table, folder), options)
-    said = survey(program, table, folder, options, scratch)
+    said = program("survey", table, folder, *options)
     if task.ask == "survey" or said.status:
         return said
     traced = run(task, program, scratch, ("trace", table, folder), options, polices(said.text))
@@ -40,6 +39,11 @@ def run(task: Task, program: Program, scratch: Path, arguments: tuple[str, ...],
         keep(out, Path(task.root, "kept", task.table.name, task.recording.name))
     shutil.rmtree(out)
     return said
+
+
+def polices(report: str) -> bool:
+    """Answers whether a report says of a link that its frames were policed."""
+    return any(" policed " in line and not line.endswith(" policed 0") for line in report.splitlines())
 
 
 def wanted(keeps: str, policed: bool) -> bool:

@@ -5,9 +5,9 @@ use Rattle.afdx_table.specs.Content.{Content}
 use Rattle.afdx_table.specs.WellFormed.{IsWellFormed}
 use Rattle.afdx_measure.proofs.reporting.put_ports.Goals as goal
 
-pub peak_at-requires-clause-row : goal.peak_at-requires-clause-row
-peak_at-requires-clause-row g c =
-    let ports = c.args.done.now.run.table.ports in
+pub put_port-requires : goal.put_port-requires
+put_port-requires g c =
+    let ports = c.args.measures.now.run.table.ports in
     let within : c.loop-row.row-index < length ports = subst (λ (rows : List PortRow). c.loop-row.row-index < length rows) c.loop-row.invariant.0 c.loop-row-test.true in
-    let formed : IsWellFormed c.args.done.now.run.table = subst (λ (t : Content). IsWellFormed t) c.table.ensures c.ports-row-items.ensures.well_formed in
-    rw c.loop-row.invariant.0 (c.ports_are_found.ensures c.args.done.now.run.table formed _ (Contains-get_or ports c.loop-row.row-index _ within))
+    let formed : IsWellFormed c.args.measures.now.run.table = subst (λ (t : Content). IsWellFormed t) c.table.ensures c.ports-row-items.ensures.well_formed in
+    rw c.loop-row.invariant.0 (c.ports_are_found.ensures c.args.measures.now.run.table formed _ (Contains-get_or ports c.loop-row.row-index _ within))

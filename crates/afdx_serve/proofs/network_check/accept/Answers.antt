@@ -1,4 +1,4 @@
-use Rattle.std.proofs.Common.{rules, ◌≡◌, ◌<◌, length, map, string_bytes, Ok, inl}
+use Rattle.std.proofs.Common.{rules, ◌≡◌, ◌<◌, length, Ok, inl}
 use Rattle.afdx_messages.specs.declared.network_failure.JitterRule.TheVariants.{Jitter}
 use Rattle.afdx_serve.specs.Networks.{names_of, verdict_of, AreRefusedRows}
 use Rattle.afdx_serve.proofs.VerdictLemmas.{of_loads, of_rest, of_shorts}

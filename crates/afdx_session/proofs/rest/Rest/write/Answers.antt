@@ -3,7 +3,7 @@ use Rattle.std.proofs.lemmas.List.{length-map}
 use Rattle.std.proofs.lemmas.Result.{on_ok_weaker}
 use Rattle.std.proofs.lemmas.Option.{slice_get-map, slice_get-get_or}
 use Rattle.afdx_session.specs.Inner.Lent.{taken_by}
-use Rattle.afdx_session.specs.Inner.Rest.{Rest, IsLeft}
+use Rattle.afdx_session.specs.Inner.Rest.{Rest, IsLeft, IsAsBefore}
 use Rattle.afdx_session.proofs.Writing.{writes, text_by}
 use Rattle.afdx_session.proofs.rest.Rest.write.Goals as goal
 
@@ -21,3 +21,6 @@ returns-clause-rest g c = λ t arrivals p k left is_port is_taken.
     on_ok_weaker c.drain_rest.result
     (λ none. writes t arrivals c.args.place k p _ _ (lane.port, lane.out.items) c.extend_from_slice.new.self.items c.drain_rest.new.out.items (subst (IsLeft t arrivals c.args.place) was left) is_port
     taken_is is_text refl refl refl before c.drain_rest.ensures.draws none) c.drain_rest.ensures.none
+
+pub returns-clause-before : goal.returns-clause-before
+returns-clause-before g c = subst (λ (r : Rest). IsAsBefore r.state c.drain_rest.new.switch) c.self.view_is c.drain_rest.ensures.before

@@ -1,11 +1,13 @@
 use Rattle.std.proofs.Common.{refl, ap, subst, arith, ◌≡◌, ◌∙◌, ◌<◌, ℕ, List, length, length-set, slice_get, slice_index_or, get_or, inl, inr}
 use Rattle.std.specs.Io.KnownBytes.{Appends}
 use Rattle.std.proofs.lemmas.Option.{slice_get-get_or, slice_get_cases}
+use Rattle.afdx_session.proofs.Drawing.{as_itself, then_before}
 use Rattle.afdx_session.proofs.Writing.{rests_none, rests_on}
 use Rattle.afdx_session.proofs.rest.Rest.write_all.Goals as goal
 
 pub loop-place-init : goal.loop-place-init
 loop-place-init g c = record {
+  before = as_itself c.args.self.now.state;
   long = refl;
   on = λ t arrivals left many. (left, refl, rests_none g.F.NewFile.contents t arrivals _ c.args.files.now);
 }
@@ -20,6 +22,7 @@ loop-place-preserved g c =
     let there : place < length files = let test = c.loop-place-test.true in let long = c.loop-place.invariant.long in omega (arith, test, long) in
     let appends = subst (Appends (contents file) (contents c.append.new.self)) c.deref.ensures.value c.in_ok-append.ensures in
     record {
+      before = then_before _ _ _ c.loop-place.invariant.before c.write.ensures.before;
       long = length-set files place c.append.new.self ∙ c.loop-place.invariant.long;
       on = λ t arrivals left many.
           let was = c.loop-place.invariant.on t arrivals left many in
@@ -37,11 +40,17 @@ loop-place-preserved g c =
           ];
     }
 
-pub returns : goal.returns
-returns g c = λ t arrivals left many.
+pub returns-clause-rests : goal.returns-clause-rests
+returns-clause-rests g c = λ t arrivals left many.
     let was = c.loop-place.invariant.on t arrivals left many in
     let test = c.loop-place-test.false in
     let bound = c.loop-place.auto.place-end in
     let long = c.loop-place.invariant.long in
     let same : c.loop-place.place ≡ length t.ports = omega (arith, test, bound, long, many) in
     rw (← same) (was.0, was.2)
+
+pub returns-in_err-write-clause-before : goal.returns-in_err-write-clause-before
+returns-in_err-write-clause-before g c = then_before _ _ _ c.loop-place.invariant.before c.write.ensures.before
+
+pub returns-in_err-append-clause-before : goal.returns-in_err-append-clause-before
+returns-in_err-append-clause-before g c = then_before _ _ _ c.loop-place.invariant.before c.write.ensures.before

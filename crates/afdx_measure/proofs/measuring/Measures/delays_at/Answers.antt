@@ -1,0 +1,15 @@
+use Rattle.std.proofs.Common.{List, [], Option, sym, ap, ◌∙◌}
+use Rattle.afdx_table.specs.declared.rows.PortRow.{PortRow}
+use Rattle.afdx_port.specs.declared.Sent.{Sent}
+use Rattle.afdx_core.specs.State.{sent_in}
+use Rattle.afdx_measure.specs.Delays.{delays_of, summary_of}
+use Rattle.afdx_measure.proofs.Handing.{all_handed}
+use Rattle.afdx_measure.proofs.measuring.Measures.delays_at.Goals as goal
+
+pub returns-in-Some : goal.returns-in-Some
+returns-in-Some g c = λ l here.
+    let r = c.args.self.now.run in
+    let o = c.in-Some.ensures.at in
+    c.delays_of.ensures ∙ o.gauged.delays c.args.link l (summary_of []) here
+    ∙ ap (λ (xs : List Sent). summary_of (delays_of l.id xs)) (all_handed r o.place o.row c.in-Some.ensures.all o.there o.gauged.handed)
+    ∙ ap (λ (p : Option PortRow). summary_of (delays_of l.id (sent_in r p))) (sym o.row_is)

@@ -1,0 +1,3 @@
+pub mod Arriving
+pub mod Gauged
+pub mod Policed

@@ -1,0 +1,10 @@
+use Rattle.std.proofs.Common.{string_bytes}
+use Rattle.afdx_messages.specs.declared.failure.Failure.TheVariants.{Write}
+use Rattle.afdx_serve.proofs.Errors.{of_error}
+use Rattle.afdx_serve.proofs.survey.survey.Goals as goal
+
+pub returns-in_err-write_bytes : goal.returns-in_err-write_bytes
+returns-in_err-write_bytes g c =
+    let prefix = rw c.as_bytes.ensures.value at c.in_err-write_bytes.ensures.prefix in
+    let text = c.in_ok-text.ensures in
+    of_error _ _ _ Write c.from_residual-in_err-write_bytes.ensures (string_bytes c.in_ok-text.text, text.led.0, prefix, (text.same, text.led.1))
