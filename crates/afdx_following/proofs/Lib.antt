@@ -1,0 +1,9 @@
+pub mod Changing
+pub mod Counting
+pub mod Deciding
+pub mod Explained
+pub mod Growing
+pub mod InStep
+pub mod Paired
+pub mod Ports
+pub mod Seeing

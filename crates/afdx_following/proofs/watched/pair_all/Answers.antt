@@ -1,0 +1,13 @@
+use Rattle.std.proofs.Common.{arith}
+use Rattle.afdx_following.specs.Output.{Output, paired_up_to}
+use Rattle.afdx_following.proofs.Changing.{one_changed, all_changed}
+use Rattle.afdx_following.proofs.watched.pair_all.Goals as goal
+
+pub loop-output-preserved : goal.loop-output-preserved
+loop-output-preserved g c =
+    one_changed (λ (o : Output). paired_up_to c.args.unknown o) c.args.outputs.now c.loop-output.outputs c.loop-output.output-index c.output-item.result c.pair.new.self (omega arith)
+    c.loop-output.invariant c.output-item.is c.in_ok-pair.ensures
+
+pub returns : goal.returns
+returns g c =
+    all_changed (λ (o : Output). paired_up_to c.args.unknown o) c.args.outputs.now c.loop-output.outputs c.loop-output.output-index (omega arith) c.loop-output.invariant

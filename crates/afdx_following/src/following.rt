@@ -1,0 +1,163 @@
+//! A link at all its output ports.
+
+ghost use Rattle.std.specs.Prelude.{◌≡◌, ◌==◌, ◌≤◌, ◌<◌, nat_le, true, false, length, option_map, slice_get, IfSome, OnOk};
+ghost use Rattle.std.specs.List.{AllByRecursion, position};
+ghost use Rattle.afdx_account.specs.Account.{account_terms};
+ghost use Rattle.afdx_following.specs.Output.{IsFresh, left_by};
+ghost use Rattle.afdx_following.specs.Watched.{at_first, conforms, frame_size, Fits, with_own, left_by_at, with_record, with_ends};
+
+use crate::output::Output;
+use crate::watched::Watched;
+use afdx_account::Account;
+use afdx_levels::MAX_TOLERANCE;
+use afdx_pairing::Numbered;
+use afdx_units::Stamp;
+use std::alloc::{AllocError, Allocator};
+use std::marker::Model;
+
+/// One link at a watched switch: it takes the link's own frames and the records that left for the link at each of its ports, in the order of
+/// the instants at which they came and, by the stamps at most so late, left (profile).
+///
+/// It tells by what is known of the account which frames were passed; an unsure one was where a record within its bounds has its bytes,
+/// at any port. It holds frames and records of one bound. Once a call fails, which is where memory runs out, all later ones fail.
+#[derive(Drop)]
+pub struct Following<'a, A: Allocator> {
+    link: Watched<'a, A>,
+    failed: bool,
+}
+
+impl<'a, A: Allocator> Model for Following<'a, A> {
+    ghost use Rattle.std.specs.Prelude.{◌≡◌, false};
+    ghost use Rattle.afdx_following.specs.Watched.{Watched as Seen};
+    ghost use Rattle.afdx_following.specs.Inner.InStep.{IsInStep};
+
+    ghost Value = { Seen };
+
+    ghost view = { λ f. f.link };
+
+    ghost invariant = { λ f. f.failed ≡ false → IsInStep f.link };
+}
+
+impl<'a, A: Allocator + Copy> Following<'a, A> {
+    /// A link of which nothing came or left, at these ports, policed as this account polices. It was full, or nothing is known of it at an
+    /// instant; stamps may be off by the tolerance in nanoseconds. It takes no memory.
+    pub fn new(
+        alloc: A,
+        account: Account,
+        tolerance: u64,
+        since: Option<Stamp>,
+        outputs: Vec<Output<'a, A>, A>,
+    ) -> Following<'a, A>
+        requires tolerance { tolerance ≤ MAX_TOLERANCE }
+        requires fresh { AllByRecursion IsFresh outputs.items }
+        ensures { result ≡ at_first account tolerance since outputs.entry.items }
+    {
+        Following {
+            link: Watched::new(alloc, account, tolerance, since, outputs),
+            failed: false,
+        }
+    }
+
+    /// Its ports. O(1).
+    pub fn outputs(&self) -> &[Output<'a, A>]
+        ensures { result.now ≡ self.now.outputs }
+    {
+        &self.link.outputs
+    }
+
+    /// The place of the port of a number among them. O(ports).
+    pub fn place_of(&self, port: u8) -> Option<usize>
+        ensures place { result ≡ position (λ o. o.port == port) self.now.outputs }
+        ensures some { IfSome result (λ place. place < length self.now.outputs) }
+    {
+        self.link.place_of(port)
+    }
+
+    /// How many frames may have been passed and may have been policed, as far as was known when they came.
+    pub fn unsure(&self) -> u64
+        ensures { result ≡ self.now.unsure }
+    {
+        self.link.unsure
+    }
+
+    /// The instant, in nanoseconds, of the last frame or record that was taken. O(1).
+    pub fn latest(&self) -> u128
+        ensures { result ≡ self.now.latest }
+    {
+        self.link.latest
+    }
+
+    /// Whether a frame is one that the link may send: its account, if full, passes it. O(1).
+    pub fn fits(&self, frame: &Numbered<'a, A>) -> bool
+        ensures { result ≡ nat_le ((account_terms self.now.account).price (frame_size frame.now)) (account_terms self.now.account).cap }
+    {
+        self.link.fits(frame)
+    }
+
+    /// Whether nothing speaks against the switch. O(ports).
+    pub fn conforms(&self) -> bool
+        ensures { result ≡ conforms self.now }
+    {
+        self.link
+            .outputs
+            .iter()
+            .all(|output| output.tally().conforms())
+    }
+
+    /// Takes a frame that came, and that the link may send. O(bytes, log of what is held), beside what it decides of frames and records before it,
+    /// each once.
+    pub fn came(&mut self, frame: Numbered<'a, A>) -> Result<(), AllocError>
+        requires in_order { self.old.latest ≤ frame.frame.stamp }
+        requires fits { Fits self.old.account frame }
+        ensures { OnOk result (self.new ≡ with_own frame.entry self.old) }
+    {
+        begin(&mut self.failed)?;
+        self.link.came(frame)?;
+        self.failed = false;
+        Ok(())
+    }
+
+    /// The latest instant, in nanoseconds, at which by the stamps the line was free again after a record at the port at a place; none if there is no
+    /// such place. O(1).
+    pub fn left_by(&self, place: usize, left: &Numbered<'a, A>) -> Option<u128>
+        ensures by { result ≡ option_map (λ o. left_by left.now o) (slice_get self.now.outputs place) }
+        ensures there { IfSome result (λ at. place < length self.now.outputs) }
+        ensures at { IfSome result (λ at. at ≡ left_by_at place left.now self.now) }
+    {
+        self.link.left_by(place, left)
+    }
+
+    /// Takes a record that left at the port at a place.
+    pub fn left(&mut self, place: usize, left: Numbered<'a, A>) -> Result<(), AllocError>
+        requires place { place < length self.old.outputs }
+        requires in_order { self.old.latest ≤ left_by_at place left self.old }
+        ensures { OnOk result (self.new ≡ with_record place left.entry self.old) }
+    {
+        begin(&mut self.failed)?;
+        self.link.left(place, left)?;
+        self.failed = false;
+        Ok(())
+    }
+
+    /// Ends, where all frames and records were taken; records were recorded up to an instant in nanoseconds, or all had left.
+    pub fn end(&mut self, last: Option<u64>) -> Result<(), AllocError>
+        ensures { OnOk result (self.new ≡ with_ends last self.old) }
+    {
+        begin(&mut self.failed)?;
+        self.link.end(last)?;
+        self.failed = false;
+        Ok(())
+    }
+}
+
+/// Takes notice that a call has begun, which has failed until it ends. An error says that one failed before.
+fn begin(failed: &mut bool) -> Result<(), AllocError>
+    ensures before { OnOk result (failed.old ≡ false) }
+    ensures now { failed.new ≡ true }
+{
+    if *failed {
+        return Err(AllocError);
+    }
+    *failed = true;
+    Ok(())
+}

@@ -1,0 +1,21 @@
+//! Laws over the definitions: functions that do nothing, or call laws of lower crates, whose contracts are the laws.
+
+ghost use Rattle.afdx_following.specs.Followed.{FollowedIsKept};
+ghost use Rattle.afdx_following.specs.Tally.{ConformsWhereFine};
+
+use afdx_levels::laws::told_is_allowed;
+use afdx_pairing::laws::fine_is_kept;
+
+/// The numbers that speak against a switch are all 0 exactly where nothing does that was told.
+pub fn conforms_where_fine()
+    ensures { ConformsWhereFine }
+{}
+
+/// At a port at which nothing speaks against the switch, whatever a link was told of, the records are what left of the frames that an account of
+/// the link may have passed, the same at all its ports.
+pub fn followed_is_kept()
+    ensures { FollowedIsKept }
+{
+    fine_is_kept();
+    told_is_allowed();
+}
