@@ -48,7 +48,7 @@ def rows(rule: str, numbers: str) -> str:
 
 NETWORK = [
     rows("J1 Jitter", f"switch {NAME}, link [0-9]+, need [0-9]+, has [0-9]+"),
-    rows("J2 NoJitter", f"switch {NAME}, link [0-9]+, need [0-9]+"), "R1 Unsettled"]
+    rows("J2 NoJitter", f"switch {NAME}, link [0-9]+, need [0-9]+")]
 DEVICE = ["(get|put) (?s:.+)", "read", "write"]
 
 

@@ -117,21 +117,25 @@ no_table() {
         ends 5 "afdx: device get work/none.toml" /dev/null network check work/network.toml
 }
 
-# ring_of COUNT: so many frames over a ring, each of which delays the next one at the next switch, so that a round settles three
-# more of them (ring.py): 188 take all 64 rounds.
+# ring_of COUNT: so many frames over a ring, each of which delays the next one at the next switch (ring.py).
 ring_of() {
-    mkdir -p ring/out/A ring/out/B ring/out/C && python3 "$top/end_to_end/ring.py" ring "$1"
+    mkdir -p "ring/$1/out/A" "ring/$1/out/B" "ring/$1/out/C" && python3 "$top/end_to_end/ring.py" "ring/$1" "$1" &&
+        "$afdx" network run "ring/$1/network.toml" "ring/$1" "ring/$1/out" >"ring/$1/lines.txt"
 }
 
-# unsettled: a frame more than the rounds settle.
-unsettled() {
-    ring_of 189 && ends 4 "afdx: network R1 Unsettled" /dev/null network run ring/network.toml ring ring/out
+# ring_as_modelled COUNT: it ends, with what the model makes of it.
+ring_as_modelled() {
+    ring_of "$1" && python3 "$model" run "ring/$1/network.toml" "ring/$1" wanted-ring >wanted.txt && cmp wanted.txt "ring/$1/lines.txt" &&
+        diff -r wanted-ring "ring/$1/out"
 }
 
-# settled: what goes round comes to rest in the last round.
-settled() {
-    ring_of 188 && "$afdx" network run ring/network.toml ring ring/out >lines.txt &&
-        python3 "$model" run ring/network.toml ring wanted-ring >wanted.txt && cmp wanted.txt lines.txt && diff -r wanted-ring ring/out
+# ring_goes_on FEWER COUNT: it ends, and begins with what left of fewer frames, which no later one delays.
+ring_goes_on() {
+    local capture
+    ring_of "$2" || return 1
+    for capture in "ring/$1"/out/*/*.pcap; do
+        head -c "$(stat -c %s "$capture")" "ring/$2/${capture#ring/*/}" | cmp - "$capture" || return 1
+    done
 }
 
 # undisturbed: with the camera's capture empty, each other link puts out the same bytes in the same order at each port of each
@@ -186,9 +190,9 @@ provoked 4 "afdx: network J1 Jitter, and 1 more"
 check "101 rows that fall short" many
 provoked 3 "afdx: capture P2 NoHeader, port 3, switch bay"
 check "afdx: capture P2 NoHeader, port 3, switch bay" capture_refused
-provoked 4 "afdx: network R1 Unsettled"
-check "afdx: network R1 Unsettled" unsettled
-check "a ring that comes to rest in the last round" settled
+check "a ring in which 189 frames go round" ring_as_modelled 189
+check "one of 600 frames" ring_goes_on 189 600
+check "one of 3,000 frames" ring_goes_on 600 3000
 check "MESSAGES has these lines of networks, and no other" lines_are_the_pages
 fresh
 check "no network file" ends 5 "afdx: device get none.toml" /dev/null network check none.toml

@@ -24,7 +24,6 @@ MOST_SWITCHES = 64
 MOST_DELAY = 1_000_000
 MOST_JITTER_US = 10_000
 MOST_LATENCY_US = 100
-MOST_ROUNDS = 64
 MOST_LINES = 100  # of rows that one rule refuses
 
 Members = dict[str, Any]
@@ -525,26 +524,28 @@ def brought(net: Network, name: str, outcomes: dict[str, model.Outcome]) -> dict
             for wire in net.wires if wire.end.switch == name}
 
 
-def run_in_rounds(net: Network, given: dict[End, bytes], order: list[str], rounds: int) -> dict[str, model.Outcome]:
-    """The switches in this order over what is there, and again where a wire brings another text, until each brings what came in."""
+def run_in_rounds(net: Network, given: dict[End, bytes], order: list[str]) -> dict[str, model.Outcome]:
+    """The switches in this order over what is there, and again where a wire brings another text, until each brings what came in.
+
+    Another way than the program's, which takes all switches on by time. It ends too: each round settles what comes a line time later.
+    """
     came: dict[str, dict[int, bytes]] = {}
     outcomes: dict[str, model.Outcome] = {}
-    for _ in range(rounds):
+    while True:
         for name in order:
             texts = texts_at(net, name, given, brought(net, name, outcomes))
             if texts != came.get(name):
                 came[name], outcomes[name] = texts, of_switch(name, model.run, net.tables[name], texts)
         if all(texts_at(net, name, given, brought(net, name, outcomes)) == came[name] for name in order):
             return outcomes
-    refuse("R1 Unsettled")
 
 
-def run(net: Network, given: dict[End, bytes], rounds: int = MOST_ROUNDS) -> dict[str, model.Outcome]:
+def run(net: Network, given: dict[End, bytes]) -> dict[str, model.Outcome]:
     """What comes out of each switch, where these captures come in at the ports without a wire."""
     accept(net)
     for end in open_ends(net):
         of_switch(end.switch, model.records_of, given[end], end.port)
-    return run_in_rounds(net, given, order_of(net), rounds)
+    return run_in_rounds(net, given, order_of(net))
 
 
 def open_ends(net: Network) -> list[End]:

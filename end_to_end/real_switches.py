@@ -19,6 +19,8 @@ import network_model
 import networks
 from network_model import End, Network
 
+MOST_ROUNDS = 64  # copies take another time each time, so that a ring need not come to rest
+
 
 def queued(net: Network, number: int, end: End, frames: Iterable[model.Arrival]) -> Iterator[tuple[int, int, model.Arrival]]:
     """The frames of a port, each as it comes to the queue: those of a link in their order, those of different links in any."""
@@ -58,7 +60,7 @@ def run_network(net: Network, number: int, given: dict[End, bytes]) -> dict[str,
     """What comes out of each switch; None where that does not come to rest."""
     came: dict[str, dict[int, bytes]] = {}
     outcomes: dict[str, model.Outcome] = {}
-    for _ in range(network_model.MOST_ROUNDS):
+    for _ in range(MOST_ROUNDS):
         for name in network_model.order_of(net):
             texts = network_model.texts_at(net, name, given, network_model.brought(net, name, outcomes))
             if texts != came.get(name):

@@ -5,8 +5,7 @@ It writes ROOM/network.toml with its tables, and ROOM/A/port-2.pcap and so on wi
 
 Each link comes in at port 2, goes on at port 3 of two switches and leaves at port 4 of the third. The first frame delays the one
 that comes in at A by 6,000 ns. Over the cable that one comes to B; the next frame comes in there when it would have left, were
-it not delayed, and so waits 6,000 ns too. The switches run in the order A, B, C: the first round lacks what C sends, each further
-one is right for three frames more, so that all wires agree after COUNT // 3 + 2 rounds.
+it not delayed, and so waits 6,000 ns too. So each frame's way rests on that of the frame before it, round and round the ring.
 """
 import argparse
 from pathlib import Path

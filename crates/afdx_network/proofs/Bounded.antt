@@ -56,7 +56,8 @@ a_part_is_left keeps t p formed accepted among there =
     × (0 < s.lows → (s.high_rate < parts) × (s.burst / (parts - s.high_rate) + t.latency ≤ row.max_delay))) t.ports p (keeps t formed accepted) among in
     (bounds.1 there).0
 
-pub has_bound : AcceptedKeepsBounds → (d : ℕ) (lined : ℕ → Bool) (t : Content) (p : PortRow) (l : Link) → IsWellFormed t → IsAccepted t → Contains t.ports p → Contains t.links l → leads_to p.id l ≡ true
+pub has_bound : AcceptedKeepsBounds → (d : ℕ) (lined : ℕ → Bool) (t : Content) (p : PortRow) (l : Link) → IsWellFormed t → IsAccepted t → Contains t.ports p → Contains t.links l
+    → leads_to p.id l ≡ true
     → (bound : ℕ) × (bound_of (lesser_load d lined t p) l.priority ≡ Some bound)
 has_bound keeps d lined t p l formed accepted among known leads = by l.priority refl where
   here : Contains (routed p.id t.links) l

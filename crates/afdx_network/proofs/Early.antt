@@ -4,8 +4,7 @@ use Rattle.std.specs.Prelude.{All, Contains}
 use Rattle.std.specs.List.{AllByRecursion}
 use Rattle.std.proofs.lemmas.List.Elements.{All-map, All-contains, Contains-get_or, All-from_recursion, recursion_from_All}
 use Rattle.afdx_units.specs.Time.{second, last_second}
-use Rattle.afdx_pcap.specs.Record.{Record, IsWithinLimit}
-use Rattle.afdx_pcap.specs.Text.{AreReadable}
+use Rattle.afdx_pcap.specs.Record.{Record}
 use Rattle.afdx_pcap.specs.Capture.{IsCapture}
 use Rattle.afdx_table.specs.declared.rows.PortRow.{PortRow}
 use Rattle.afdx_table.specs.Link.{Link, leads_to}
@@ -22,12 +21,15 @@ use Rattle.afdx_session.specs.Output.{output_of, output_text}
 use Rattle.afdx_session.specs.Headline.{records_for, IsIsolatedAt}
 use Rattle.afdx_session.specs.Lined.{OutcomesIsolate}
 use Rattle.afdx_session.specs.Inner.Readable.{OutputsAreReadable}
-use Rattle.afdx_network.specs.Early.{ComesBy, RunsLeaveInTime}
+use Rattle.afdx_network.specs.Early.{ComesBy, RunsLeaveInTime, RecordsLeaveInTime}
 use Rattle.afdx_network.proofs.Carried.{AreWritten}
 use Rattle.afdx_network.proofs.Leaves.{half, each_left, leave_later}
 use Rattle.afdx_network.proofs.Lists.{all_kept, all_weaken}
 use Rattle.afdx_network.proofs.Readings.{records_all, merged_all}
-use Rattle.afdx_network.proofs.Settling.{OneList}
+
+-- each file has one reading
+abbrev pub OneList : Type 0
+OneList = (bytes : List ℕ) (rs qs : List Record) → IsCapture bytes rs → IsCapture bytes qs → rs ≡ qs
 
 module _ (isolates : OutcomesIsolate) (ordered : ByStampIsOrdered) (readable : OutputsAreReadable) (written : AreWritten) (unique : OneList) (t : Content) (texts : List Text)
     (results : Results) (formed : IsWellFormed t) (accepted : IsAccepted t) (outcome : IsOutcome t texts results) (last : ℕ) (soon : last + second ≤ last_second)
@@ -47,26 +49,27 @@ module _ (isolates : OutcomesIsolate) (ordered : ByStampIsOrdered) (readable : O
       merged_all ordered (λ (r : Record). r.stamp + second ≤ last_second) read
       (λ port. all_weaken (λ (r : Record). r.stamp ≤ last) (λ (r : Record). r.stamp + second ≤ last_second) (records_of read port) (λ r by. omega (arith, by, soon)) (came_by port))
 
+  abbrev out : PortRow → List Record
+  out p = output_of t (merged read) p
+
+  pub records_leave_in_time : (p : PortRow) → Contains t.ports p → AllByRecursion (λ (r : Record). r.stamp ≤ last + half) (out p)
+  records_leave_in_time p among = each_left (λ (r : Record). r.stamp ≤ last + half) t read p (out p) isolated each where
+    isolated : IsIsolatedAt t read p (out p)
+    isolated = isolates t texts results formed accepted outcome p among
+
+    each : (l : Link) → Contains t.links l → leads_to p.id l ≡ true → AllByRecursion (λ (r : Record). r.stamp ≤ last + half) (records_for l (out p))
+    each l known leads =
+        leave_later t read p (out p) l last formed accepted among isolated known leads
+        (all_kept (λ (r : Record). r.stamp ≤ last) (λ (r : Record). says_clean l.id (verdict_of t l.from r)) (records_of read l.from) (came_by l.from))
+
   left_by : (p : PortRow) → Contains t.ports p → ComesBy (last + half) (output_text t (merged read) p)
   left_by p among =
+      let again = readable t texts read formed outcome.are_read came_soon p among in
       record {
-        records = out;
-        read = written out again.0 again.1;
-        none_later = All-from_recursion (λ (r : Record). r.stamp ≤ last + half) out (each_left (λ (r : Record). r.stamp ≤ last + half) t read p out isolated each);
-      } where
-        out : List Record
-        out = output_of t (merged read) p
-
-        again : AreReadable 0 out × All IsWithinLimit out
-        again = readable t texts read formed outcome.are_read came_soon p among
-
-        isolated : IsIsolatedAt t read p out
-        isolated = isolates t texts results formed accepted outcome p among
-
-        each : (l : Link) → Contains t.links l → leads_to p.id l ≡ true → AllByRecursion (λ (r : Record). r.stamp ≤ last + half) (records_for l out)
-        each l known leads =
-            leave_later t read p out l last formed accepted among isolated known leads
-            (all_kept (λ (r : Record). r.stamp ≤ last) (λ (r : Record). says_clean l.id (verdict_of t l.from r)) (records_of read l.from) (came_by l.from))
+        records = out p;
+        read = written (out p) again.0 again.1;
+        none_later = All-from_recursion (λ (r : Record). r.stamp ≤ last + half) (out p) (records_leave_in_time p among);
+      }
 
   pub leave_in_time : All (λ (text : Text). ComesBy (last + half) text.1) results.captures
   leave_in_time =
@@ -77,3 +80,7 @@ module _ (isolates : OutcomesIsolate) (ordered : ByStampIsOrdered) (readable : O
 pub runs_leave_in_time : OutcomesIsolate → ByStampIsOrdered → OutputsAreReadable → AreWritten → OneList → RunsLeaveInTime
 runs_leave_in_time isolates ordered readable written unique t texts results formed accepted outcome last soon came =
     leave_in_time isolates ordered readable written unique t texts results formed accepted outcome last soon came
+
+pub all_leave_in_time : OutcomesIsolate → ByStampIsOrdered → OutputsAreReadable → AreWritten → OneList → RecordsLeaveInTime
+all_leave_in_time isolates ordered readable written unique t texts results formed accepted outcome last soon came p among =
+    records_leave_in_time isolates ordered readable written unique t texts results formed accepted outcome last soon came p among

@@ -23,7 +23,8 @@ module _ (g : Ground) (keeps : AcceptedKeepsBounds) (wires : WiresKeepToLines) (
     is_stage : IsStage x
     is_stage =
         let same : x ≡ stage_by x.port h.run.table.latency x.bound (node_after h.run.table h.run.outcome.read) r.link
-        = ap (λ (n : ℕ). stage_by x.port n x.bound x.node x.link) h.least_is ∙ ap (λ (n : Node). stage_by x.port h.run.table.latency x.bound n x.link) (h.node ∙ node_same h.run) ∙ ap (λ (l : Link). stage_by x.port h.run.table.latency x.bound (node_after h.run.table h.run.outcome.read) l) h.link in
+        = ap (λ (n : ℕ). stage_by x.port n x.bound x.node x.link) h.least_is ∙ ap (λ (n : Node). stage_by x.port h.run.table.latency x.bound n x.link) (h.node ∙ node_same h.run)
+        ∙ ap (λ (l : Link). stage_by x.port h.run.table.latency x.bound (node_after h.run.table h.run.outcome.read) l) h.link in
         let is = stages h.run.table h.run.texts h.run.results (formed_at g net given runs acc r.switch h.run h.run_is) (accepted_at g net given runs acc r.switch h.run h.run_is) h.run.outcome
         (is_wired net r.switch) (wired_ports_keep g wires net given runs acc r.switch h.run h.run_is) x.port h.has h.burst h.high_burst h.enough r.link h.known h.leads x.bound h.bound_is in
         subst IsStage (sym same) is
@@ -32,7 +33,8 @@ module _ (g : Ground) (keeps : AcceptedKeepsBounds) (wires : WiresKeepToLines) (
     least_bound : (bound : ℕ) × IsStageAt net runs r (stage_by x.port (least_at net r.switch h.run.table) bound x.node x.link)
     least_bound =
         let table = table_at g net given runs acc r.switch h.run h.run_is in
-        let b = has_bound keeps (scatter_at net r.switch h.run.table) (is_wired net r.switch) h.run.table x.port r.link (formed_at g net given runs acc r.switch h.run h.run_is) (accepted_at g net given runs acc r.switch h.run h.run_is) h.has h.known h.leads in (
+        let b = has_bound keeps (scatter_at net r.switch h.run.table) (is_wired net r.switch) h.run.table x.port r.link (formed_at g net given runs acc r.switch h.run h.run_is)
+        (accepted_at g net given runs acc r.switch h.run h.run_is) h.has h.known h.leads in (
           b.0,
           record {
             run = h.run;

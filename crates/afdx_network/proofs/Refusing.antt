@@ -12,7 +12,7 @@ use Rattle.afdx_wiring.specs.Net.{Network}
 use Rattle.afdx_network.specs.declared.fault.NetworkRunFault.{NetworkRunFault}
 use Rattle.afdx_network.specs.declared.fault.NetworkRunFault.TheVariants as fault
 use Rattle.afdx_network.specs.Runs.{Given}
-use Rattle.afdx_network.specs.Given.{given_of, AreGiven, AreSound, NoneIsLateAnywhere, IsFirstUnsound, IsRefusal, IsTextFault, IsGivenFault, IsWireFault}
+use Rattle.afdx_network.specs.Given.{given_of, AreGiven, AreSound, HasOrder, NoneIsLateAnywhere, IsFirstUngiven, IsFirstUnsound, IsRefusal, IsTextFault, IsGivenFault, IsWireFault}
 
 -- ---- the first given text that is no capture
 
@@ -55,3 +55,20 @@ refused_wire net given (fault.Capture switch port why) are sound broken soon = (
   no_memory : fault.Capture switch port why ≡ fault.Memory → ⊥
   no_memory is = cc
 refused_wire net given fault.Unsettled are sound broken soon = absurd broken
+
+-- what stops it before the switches run
+
+pub refused_ports : (net : Network) (given : Given) (why : NetworkRunFault) → (switch : ℕ) × (why ≡ fault.WrongPorts switch) × IsFirstUngiven net given switch → IsRefusal net given why
+refused_ports net given why is = subst (IsRefusal net given) (sym is.1) is.2
+
+pub refused_texts : (net : Network) (given : Given) (why : NetworkRunFault) → AreGiven net given → IsGivenFault given why → IsRefusal net given why
+refused_texts net given fault.Memory are broken = are
+refused_texts net given (fault.WrongPorts switch) are broken = absurd broken
+refused_texts net given (fault.Capture switch port why) are broken = (are, inl broken)
+refused_texts net given fault.Unsettled are broken = absurd broken
+
+pub refused_wires : (net : Network) (given : Given) (why : NetworkRunFault) → AreGiven net given → AreSound given → (why ≡ fault.Unsettled) × (HasOrder net → ⊥) → IsRefusal net given why
+refused_wires net given why are sound is = subst (IsRefusal net given) (sym is.0) (are, sound, is.1)
+
+pub refused_memory : (net : Network) (given : Given) (why : NetworkRunFault) → AreGiven net given → why ≡ fault.Memory → IsRefusal net given why
+refused_memory net given why are is = subst (IsRefusal net given) (sym is) are

@@ -5,8 +5,6 @@ use Rattle.afdx_pcap.specs.declared.fault.PcapFault.{PcapFault}
 use Rattle.afdx_pcap.specs.Record.{Record}
 use Rattle.afdx_pcap.specs.Capture.{IsCapture}
 use Rattle.afdx_table.specs.Content.{Content}
-use Rattle.afdx_session.specs.declared.plan.RunFault.{RunFault}
-use Rattle.afdx_session.specs.declared.plan.RunFault.TheVariants as run
 use Rattle.afdx_session.specs.Texts.{Text, texts_of}
 use Rattle.afdx_session.specs.Reading.{IsSound, IsFirstFault}
 use Rattle.afdx_wiring.specs.declared.layout.Wire.{Wire}
@@ -112,17 +110,9 @@ IsGivenFault given (fault.WrongPorts at) = ⊥
 IsGivenFault given (fault.Capture switch port why) = IsFirstUnsound given switch port why
 IsGivenFault given fault.Unsettled = ⊥
 
--- what stops a round
+-- what stops the run on its way
 abbrev pub IsWireFault : Network → NetworkRunFault → Type 0
 IsWireFault net fault.Memory = Unit {0}
 IsWireFault net (fault.WrongPorts switch) = ⊥
 IsWireFault net (fault.Capture switch port why) = IsWired net switch port
 IsWireFault net fault.Unsettled = ⊥
-
--- the fault of a switch's run
-abbrev pub fault_of : ℕ → RunFault → NetworkRunFault
-fault_of switch run.Memory = fault.Memory
-fault_of switch (run.Capture port why) = fault.Capture switch port why
-fault_of switch run.WrongPorts = fault.WrongPorts switch
-fault_of switch run.Closed = fault.WrongPorts switch
-fault_of switch run.Failed = fault.WrongPorts switch

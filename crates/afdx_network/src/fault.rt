@@ -1,10 +1,8 @@
 //! Why there is no run of a network.
 
 ghost use Rattle.std.specs.Prelude.{◌≡◌};
-ghost use Rattle.afdx_network.specs.Given.{fault_of};
 
 use afdx_pcap::PcapFault;
-use afdx_session::RunFault;
 use std::alloc::{AllocError, AllocFailed};
 
 /// Why there is no run of a network. A switch is named by its place in the network file, from 0.
@@ -16,24 +14,8 @@ pub enum NetworkRunFault {
     WrongPorts(usize),
     /// What comes in at this port of a switch is no capture, and this is its first fault.
     Capture(usize, u8, PcapFault),
-    /// The wires' texts did not come to rest.
+    /// Two wires go to one port, or one to a port that its table lacks.
     Unsettled,
-}
-
-impl NetworkRunFault {
-    /// The fault of a switch's run.
-    pub(crate) fn of_switch(switch: usize, fault: RunFault) -> NetworkRunFault
-        ensures { result ≡ fault_of switch fault }
-    {
-        match fault {
-            RunFault::Capture(port, fault) => NetworkRunFault::Capture(switch, port, fault),
-            RunFault::Memory => NetworkRunFault::Memory,
-            // The texts are those of the table's ports, and given whole.
-            RunFault::WrongPorts | RunFault::Closed | RunFault::Failed => {
-                NetworkRunFault::WrongPorts(switch)
-            }
-        }
-    }
 }
 
 impl From<AllocError> for NetworkRunFault {

@@ -1,22 +1,19 @@
 //! What is given for a run: the captures of the ports to which no wire goes.
 
-ghost use Rattle.std.specs.Prelude.{◌≡◌, ℕ, All, IfErr, IfOk, Ok, OnOk, IsTrue, ◌↔◌};
+ghost use Rattle.std.specs.Prelude.{◌≡◌, ℕ, All, IfErr, IfOk, Ok, OnOk, Some, IsTrue, ◌↔◌};
 ghost use Rattle.afdx_session.specs.Texts.{texts_of};
 ghost use Rattle.afdx_session.specs.Reading.{IsSound};
 ghost use Rattle.afdx_wiring.specs.Net.{wire_to};
 ghost use Rattle.afdx_wiring.specs.Order.{lost_port};
-ghost use Rattle.afdx_network.specs.declared.fault.NetworkRunFault.TheVariants.{WrongPorts};
-ghost use Rattle.afdx_network.specs.Given.{given_of, is_open, AreOpen, IsGivenAt, AreGiven, AreSound, IsFirstUngiven, IsGivenFault, IsTextFault};
-ghost use Rattle.afdx_network.specs.Early.{ComesBy};
-ghost use Rattle.afdx_network.specs.Inner.Sites.{ComesIn};
+ghost use Rattle.afdx_network.specs.declared.fault.NetworkRunFault.TheVariants.{WrongPorts, Unsettled};
+ghost use Rattle.afdx_network.specs.Given.{given_of, is_open, AreOpen, IsGivenAt, AreGiven, AreSound, HasOrder, IsFirstUngiven, IsGivenFault, IsTextFault};
 
 use crate::fault::NetworkRunFault;
 use crate::site::Texts;
-use afdx_pcap::laws::what_is_written_is_a_capture;
-use afdx_pcap::{PcapFault, read_all, write_header};
+use afdx_pcap::{PcapFault, read_all};
 use afdx_table::Table;
-use afdx_wiring::{End, Network};
-use std::alloc::{AllocError, Global};
+use afdx_wiring::{End, Network, Wire};
+use std::alloc::Global;
 
 /// Whether no wire goes to this port of the switch at this place, so that its capture is one of those that are given. O(wires).
 pub fn is_open(network: &Network, switch: usize, port: u8) -> bool
@@ -95,27 +92,26 @@ pub(crate) fn check_captures(alloc: Global, given: &[Texts]) -> Result<(), Netwo
     Ok(())
 }
 
-/// What comes in at a switch before another one has run: what is given, and nothing on the wires.
-pub(crate) fn first_texts(
-    alloc: Global,
-    network: &Network,
-    switch: usize,
-    table: &Table,
-    given: Texts,
-) -> Result<Texts, AllocError>
-    requires { AreOpen network.now switch table.now (texts_of given.items) }
-    ensures comes { IfOk result (λ came. ComesIn network.now switch table.now (texts_of given.items) (texts_of came.items)) }
-    ensures early { (last : ℕ) → All (λ text. ComesBy last text.1) (texts_of given.items) → IfOk result (λ came. All (λ text. ComesBy last text.1) (texts_of came.items)) }
+/// Whether this is the first wire that goes to its port. O(wires).
+fn is_first(network: &Network, wire: &Wire) -> bool
+    ensures { IsTrue result ↔ (wire_to network.now wire.now.to ≡ Some wire.now) }
 {
-    what_is_written_is_a_capture();
-    let ports = table.ports();
-    let mut texts = given;
-    for (place, row) in ports.iter().enumerate() {
-        if !is_open(network, switch, row.id) {
-            let mut silence = Vec::new(alloc);
-            write_header(&mut silence)?;
-            texts.insert(place, (row.id, silence))?;
+    match network.wire_to(wire.to) {
+        Some(first) => first == wire,
+        None => false,
+    }
+}
+
+/// `Unsettled` where a wire goes to a port to which another one goes that is before it. O(wires^2).
+pub(crate) fn check_wires(network: &Network) -> Result<(), NetworkRunFault>
+    ensures ok { OnOk result (All (λ w. wire_to network.now w.to ≡ Some w) network.now.layout.wires) }
+    ensures err { IfErr result (λ fault. (fault ≡ Unsettled) × (HasOrder network.now → ⊥)) }
+{
+    let wires = network.layout().wires.as_slice();
+    for wire in wires {
+        if !is_first(network, wire) {
+            return Err(NetworkRunFault::Unsettled);
         }
     }
-    Ok(texts)
+    Ok(())
 }

@@ -1,20 +1,18 @@
 //! A network of switches: delivery and delay from end to end.
 //!
-//! [`run`] runs each switch over captures that agree with the wires.
+//! [`run`] runs all switches by time, so that what comes in at each agrees with the wires.
 //!
 //! `specs/Way.antt` says what is delivered at the end of a link's way, over the headline of each switch on it;
 //! `specs/Runs.antt` what a run of a network is, `specs/Ways.antt` which ways it has. The module `laws` says that each of
 //! them delivers.
 #![tactic(auto)]
 
-mod carrying;
 mod fault;
 mod given;
 pub mod laws;
-mod order;
-mod rounds;
 mod running;
 mod site;
+mod windows;
 
 pub use fault::NetworkRunFault;
 pub use given::is_open;

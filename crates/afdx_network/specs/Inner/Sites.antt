@@ -1,181 +1,325 @@
--- A network on its way to rest: what came in at each switch, and what that led to, where the switch has run over it.
-use Rattle.std.specs.Prelude.{◌≡◌, ◌==◌, ◌⊎◌, true, ◌+◌, ◌*◌, ◌<◌, ◌≤◌, ℕ, List, length, map, find, take, slice_get, slice_set, Option, Some, None, option_map, option_and_then}
-use Rattle.std.specs.Prelude.{IsSome, All, Contains, Result, MatchResult}
-use Rattle.std.specs.List.{list_any}
-use Rattle.afdx_units.specs.Time.{stamp_end}
-use Rattle.afdx_pcap.specs.declared.fault.PcapFault.{PcapFault}
-use Rattle.afdx_pcap.specs.declared.fault.PcapFault.TheVariants.{Late}
-use Rattle.afdx_pcap.specs.Record.{Record}
-use Rattle.afdx_pcap.specs.Text.{capture_text}
+-- A network in the course of a run: what came in at each switch so far, and what left it.
+use Rattle.std.specs.Prelude.{◌≡◌, ◌+◌, ◌-◌, ◌*◌, ◌<◌, ◌≤◌, ◌∷◌, ◌++◌, nat_lt, Bool, false, min, ℕ, List, [], length, map, filter, set, slice_get, slice_set, Option, Some, None}
+use Rattle.std.specs.Prelude.{option_and_then, All, Contains}
+use Rattle.std.specs.Prelude.{Result, MatchResult}
+use Rattle.std.specs.List.{AllByRecursion, position_or_len}
+use Rattle.afdx_units.specs.Time.{last_second}
+use Rattle.afdx_units.specs.Line.{cost_of, least_size}
+use Rattle.afdx_pcap.specs.Record.{Record, IsWithinLimit}
+use Rattle.afdx_pcap.specs.Text.{record_text, capture_text, AreReadable}
 use Rattle.afdx_pcap.specs.Capture.{IsCapture}
-use Rattle.afdx_pcap.specs.Fault.{IsFault}
-use Rattle.afdx_table.specs.Content.{Content}
+use Rattle.afdx_table.specs.declared.rows.PortRow.{PortRow}
+use Rattle.afdx_table.specs.Content.{Content, port_row}
 use Rattle.afdx_table.specs.WellFormed.{IsWellFormed}
-use Rattle.afdx_load.specs.Accepted.{IsAccepted}
-use Rattle.afdx_session.specs.Texts.{Text, AreOfPorts}
-use Rattle.afdx_session.specs.Outcome.{Results, IsOutcome}
-use Rattle.afdx_session.specs.Headline.{IsIsolated}
+use Rattle.afdx_count.specs.Run.{counts_of}
+use Rattle.afdx_core.specs.Merge.{Capture}
+use Rattle.afdx_session.specs.Texts.{Text}
+use Rattle.afdx_session.specs.Reading.{AreCaptures}
+use Rattle.afdx_session.specs.Output.{rows_of}
+use Rattle.afdx_session.specs.Outcome.{Results}
+use Rattle.afdx_paced.specs.Paced.{Lane, Paced, fresh_paced, lane_at, arrivals, out_up_to, put_refusal, after_put, after_going, GoesOut, NoneGoesOut, IsNext}
 use Rattle.afdx_wiring.specs.declared.layout.End.{End}
 use Rattle.afdx_wiring.specs.declared.layout.Wire.{Wire}
+use Rattle.afdx_wiring.specs.File.{is_end}
 use Rattle.afdx_wiring.specs.Net.{Network, wire_to}
 use Rattle.afdx_network.specs.declared.fault.NetworkRunFault.{NetworkRunFault}
 use Rattle.afdx_network.specs.declared.fault.NetworkRunFault.TheVariants as fault
 use Rattle.afdx_network.specs.Way.{delayed}
-use Rattle.afdx_network.specs.Runs.{Given, IsPlain}
+use Rattle.afdx_load.specs.Accepted.{IsAccepted}
+use Rattle.afdx_network.specs.Runs.{Given}
 use Rattle.afdx_network.specs.Given.{NoneIsLateAnywhere}
-use Rattle.afdx_network.specs.Early.{ComesBy}
 
+-- a switch that is fed by time, the captures of what left its ports so far, and an instant before which nothing happens there
 pub record Site : Type 0 where
-  pub came : List Text
-  pub outcome : Option Results
+  pub paced : Paced
+  pub left : List Text
+  pub next : Option ℕ
 
--- something comes in at each port of the table, and at those without a wire it is what was given
-pub record ComesIn (net : Network) (switch : ℕ) (t : Content) (own came : List Text) : Type 0 where
-  pub ports : AreOfPorts t came
-  pub others : (text : Text) → wire_to net (record { switch = switch; port = text.0 }) ≡ None → Contains came text → Contains own text
-
--- the table, which is accepted, leads from what came in to these results
-pub record LeadsTo (t : Content) (came : List Text) (results : Results) : Type 0 where
-  pub well_formed : IsWellFormed t
-  pub accepted : IsAccepted t
-  pub outcome : IsOutcome t came results
-  pub isolated : IsIsolated t came results
-  pub plain : IsPlain t came results outcome isolated
-
--- a site of a switch of the network
-pub record IsSite (net : Network) (given : Given) (switch : ℕ) (s : Site) : Type 0 where
-  pub table : Content
-  pub own : List Text
-  pub table_is : slice_get net.tables switch ≡ Some table
-  pub own_is : slice_get given switch ≡ Some own
-  pub comes : ComesIn net switch table own s.came
-  pub ran : (results : Results) → s.outcome ≡ Some results → LeadsTo table s.came results
-
-pub record AreSites (net : Network) (given : Given) (sites : List Site) : Type 0 where
-  pub each : (switch : ℕ) (s : Site) → slice_get sites switch ≡ Some s → IsSite net given switch s
-  pub all : length sites ≡ length net.tables
-
--- ---- texts
-
--- the capture of a port: the first of that number
-abbrev pub text_at : ℕ → List Text → Option (List ℕ)
-text_at port texts = option_map (λ text. text.1) (find (λ text. text.0 == port) texts)
-
--- what left a port, where the switch has run
-abbrev pub left_at : ℕ → Site → Option (List ℕ)
-left_at port s = option_and_then (λ results. text_at port results.captures) s.outcome
+-- the earlier of two instants, of which there may be one alone
+abbrev pub earlier : Option ℕ → ℕ → ℕ
+earlier None n = n
+earlier (Some m) n = min m n
 
 abbrev pub end_at : ℕ → ℕ → End
 end_at switch port = record { switch = switch; port = port }
 
--- what came in at a port
-abbrev pub came_at : List Site → End → Option (List ℕ)
-came_at sites e = option_and_then (λ s. text_at e.port s.came) (slice_get sites e.switch)
+-- what left each port, as a capture
+abbrev pub left_texts : List Lane → List Text
+left_texts lanes = map (λ l. (l.port, capture_text l.left)) lanes
 
--- what left at the start of a wire
-abbrev pub left_over : List Site → Wire → Option (List ℕ)
-left_over sites w = option_and_then (λ s. left_at w.from.port s) (slice_get sites w.from.switch)
+-- the lane of a port of one of the switches
+abbrev pub lane_there : List Site → End → Option Lane
+lane_there sites e = option_and_then (λ s. lane_at s.paced e.port) (slice_get sites e.switch)
+
+-- a fact of the row and of the lane of each port of a switch
+abbrev pub AtPorts : (PortRow → Lane → Type 0) → Paced → Type 0
+AtPorts P v = (port : ℕ) (p : PortRow) (l : Lane) → port_row v.table port ≡ Some p → lane_at v port ≡ Some l → P p l
+
+-- ---- a switch
+
+-- what came in at a port so far: what was given for it is read whole; what came over a wire can be written
+pub record IsCame (net : Network) (switch : ℕ) (own : List Text) (l : Lane) : Type 0 where
+  pub given : wire_to net (end_at switch l.port) ≡ None → (bytes : List ℕ) × Contains own (l.port, bytes) × IsCapture bytes l.came
+  pub brought : (w : Wire) → wire_to net (end_at switch l.port) ≡ Some w → AreReadable 0 l.came × All IsWithinLimit l.came
+
+-- what left a port comes first of what leaves it
+abbrev pub IsPrefix : Paced → PortRow → Lane → Type 0
+IsPrefix v p l = (rest : List Record) × (out_up_to v (Some v.reached) p ≡ l.left ++ rest)
+
+-- a switch in the course of a run
+pub record IsRunning (s : Site) : Type 0 where
+  pub formed : IsWellFormed s.paced.table
+  pub going : s.paced.failed ≡ false
+  pub ports : map (λ (l : Lane). l.port) s.paced.lanes ≡ map (λ (p : PortRow). p.id) s.paced.table.ports
+  pub left : s.left ≡ left_texts s.paced.lanes
+  pub next : IsNext s.paced s.next
+  pub prefix : AtPorts (IsPrefix s.paced) s.paced
+
+-- that of a place in the network
+pub record IsSite (net : Network) (given : Given) (switch : ℕ) (s : Site) : Type 0 where
+  pub own : List Text
+  pub table_is : slice_get net.tables switch ≡ Some s.paced.table
+  pub own_is : slice_get given switch ≡ Some own
+  pub running : IsRunning s
+  pub came : AllByRecursion (IsCame net switch own) s.paced.lanes
+
+-- all that leaves the ports of a switch up to an instant has left; all at all, where there is none
+abbrev pub HasSent : Option ℕ → Site → Type 0
+HasSent h s = AtPorts (λ p l. length (out_up_to s.paced h p) ≤ length l.left) s.paced
+
+-- so much at one port
+abbrev pub HasSentAt : Option ℕ → ℕ → Site → Type 0
+HasSentAt h port s = (p : PortRow) (l : Lane) → port_row s.paced.table port ≡ Some p → lane_at s.paced port ≡ Some l → length (out_up_to s.paced h p) ≤ length l.left
+
+-- how much leaves a port up to the instant that its switch has come to, beside what has left
+abbrev pub behind : Paced → Option PortRow → Option Lane → ℕ
+behind v None l = 0
+behind v (Some p) None = 0
+behind v (Some p) (Some l) = length (out_up_to v (Some v.reached) p) - length l.left
+
+-- ---- all switches
+
+-- what came in at the end of a wire is what left at its start, so much later
+pub record IsCarried (sites : List Site) (w : Wire) : Type 0 where
+  pub start : Lane
+  pub there : Lane
+  pub start_is : lane_there sites w.from ≡ Some start
+  pub there_is : lane_there sites w.to ≡ Some there
+  pub same : there.came ≡ map (delayed w.delay) start.left
+
+-- the place of the first wire that goes to the same port
+abbrev pub wire_place : List Wire → Wire → ℕ
+wire_place wires w = position_or_len (λ v. is_end v.to w.to) wires
+
+-- what leaves a port goes over the wire at this place: it begins there, and is the first to its port
+abbrev pub GoesOver : List Wire → (place : ℕ) → End → Wire → Type 0
+GoesOver wires place from w = (w.from ≡ from) × (wire_place wires w ≡ place)
+
+-- in the course of it: a record that left a port has gone over the port's wires up to a place, and waits at the others
+pub record IsPending (sites : List Site) (from : End) (frame : Record) (wires : List Wire) (k : ℕ) (w : Wire) : Type 0 where
+  pub start : Lane
+  pub there : Lane
+  pub start_is : lane_there sites w.from ≡ Some start
+  pub there_is : lane_there sites w.to ≡ Some there
+  pub done : (w.from ≡ from → wire_place wires w < k) → there.came ≡ map (delayed w.delay) start.left
+  pub waits : w.from ≡ from → k ≤ wire_place wires w → there.came ++ delayed w.delay frame ∷ [] ≡ map (delayed w.delay) start.left
+
+-- each switch of the network has its site
+pub record AreSites (net : Network) (given : Given) (sites : List Site) : Type 0 where
+  pub each : (switch : ℕ) (s : Site) → slice_get sites switch ≡ Some s → IsSite net given switch s
+  pub all : length sites ≡ length net.tables
+
+-- and whatever left has gone over the wires
+pub record AreCarried (net : Network) (given : Given) (sites : List Site) : Type 0 where
+  pub are : AreSites net given sites
+  pub wires : All (IsCarried sites) net.layout.wires
+
+-- ---- a window
+
+-- in a window that begins at one instant and ends at another, a switch has come no further than its end, and all that leaves up to its
+-- begin has left
+pub record IsIn (begin end : ℕ) (s : Site) : Type 0 where
+  pub reached : s.paced.reached ≤ end
+  pub sent : HasSent (Some begin) s
+
+-- a switch has come to an instant, and all that leaves up to there has left
+abbrev pub HasCome : ℕ → Site → Type 0
+HasCome end s = IsIn end end s
+
+-- a time is no longer than that from an arrival at the switch where a wire begins to the arrival that it causes at the wire's end
+abbrev pub IsWithin : Network → (look : ℕ) → Wire → Type 0
+IsWithin net look w = (t : Content) (p : PortRow) → slice_get net.tables w.from.switch ≡ Some t → port_row t w.from.port ≡ Some p
+    → look ≤ t.latency + cost_of p.speed least_size + w.delay
+
+-- no longer than that of any wire
+pub record IsLook (net : Network) (look : ℕ) : Type 0 where
+  pub positive : 0 < look
+  pub least : All (IsWithin net look) net.layout.wires
+
+-- the switches in a window, which is no longer than that
+pub record AreInWindow (net : Network) (given : Given) (begin end : ℕ) (sites : List Site) : Type 0 where
+  pub carried : AreCarried net given sites
+  pub one_each : All (λ w. wire_to net w.to ≡ Some w) net.layout.wires
+  pub look : ℕ
+  pub is_look : IsLook net look
+  pub short : end ≤ begin + look
+  pub inside : All (IsIn begin end) sites
+
+-- in the course of a record's way over the wires of a port
+pub record AreInCarry (net : Network) (given : Given) (begin end : ℕ) (from : End) (frame : Record) (k : ℕ) (sites : List Site) : Type 0 where
+  pub are : AreSites net given sites
+  pub inside : All (IsIn begin end) sites
+  pub wires : All (IsPending sites from frame net.layout.wires k) net.layout.wires
+
+-- an instant before which something can happen
+abbrev pub acts_before : ℕ → Option ℕ → Bool
+acts_before end None = false
+acts_before end (Some n) = nat_lt n end
+
+-- the earlier of two instants, of which there may be none
+abbrev pub earlier_of : Option ℕ → Option ℕ → Option ℕ
+earlier_of (Some a) (Some b) = Some (min a b)
+earlier_of (Some a) None = Some a
+earlier_of None other = other
+
+-- the first instant at which anything can happen at these switches
+abbrev pub IsFirst : List Site → Option ℕ → Type 0
+IsFirst sites None = All (λ s. s.next ≡ None) sites
+IsFirst sites (Some n) = All (λ s. acts_before n s.next ≡ false) sites
+
+-- the switches before the first window: all that was given came in, and nothing left
+pub record AreStarted (net : Network) (given : Given) (sites : List Site) : Type 0 where
+  pub carried : AreCarried net given sites
+  pub one_each : All (λ w. wire_to net w.to ≡ Some w) net.layout.wires
+  pub come : All (HasCome 0) sites
+
+-- a switch has a port's capture at this place
+pub record IsPortAt (sites : List Site) (e : End) (place : ℕ) : Type 0 where
+  pub site : Site
+  pub at : slice_get sites e.switch ≡ Some site
+  pub text : List ℕ
+  pub text_is : slice_get site.left place ≡ Some (e.port, text)
 
 -- ---- what calls do
 
--- another text is put in at a port, and the run is forgotten
-pub record IsPutIn (port : ℕ) (text : List ℕ) (old new : Site) : Type 0 where
-  pub place : ℕ
-  pub was : List ℕ
-  pub was_is : slice_get old.came place ≡ Some (port, was)
-  pub came : new.came ≡ slice_set old.came place (port, text)
-  pub forgotten : new.outcome ≡ None
+-- a record came in at a port
+abbrev pub after_putting : ℕ → Record → Site → Site
+after_putting port frame s = record { paced = after_put port frame s.paced; left = s.left; next = Some (earlier s.next frame.stamp) }
 
--- a text is put in at a port, where it is another one than before; the other ports keep theirs
-pub record Takes (port : ℕ) (text : List ℕ) (old new : Site) : Type 0 where
-  pub same : text_at port old.came ≡ Some text → new ≡ old
-  pub there : IsSome (text_at port old.came) → text_at port new.came ≡ Some text
-  pub others : (p : ℕ) → (p ≡ port → ⊥) → text_at p new.came ≡ text_at p old.came
+-- these records came in at a port, one after the other
+abbrev pub after_all : ℕ → List Record → Site → Site
+after_all port [] s = s
+after_all port (r ∷ rs) s = after_all port rs (after_putting port r s)
 
--- and so at a port of one of the switches
-pub record Puts (switch port : ℕ) (text : List ℕ) (old new : List Site) : Type 0 where
-  pub others : (n : ℕ) → (n ≡ switch → ⊥) → slice_get new n ≡ slice_get old n
-  pub there : IsSome (came_at old (end_at switch port)) → came_at new (end_at switch port) ≡ Some text
-  pub other_ports : (p : ℕ) → (p ≡ port → ⊥) → came_at new (end_at switch p) ≡ came_at old (end_at switch p)
-  pub quiet : came_at old (end_at switch port) ≡ Some text → new ≡ old
+-- a port takes these records, one after the other
+abbrev pub AllTake : ℕ → List Record → Paced → Type 0
+AllTake port [] v = Unit {0}
+AllTake port (r ∷ rs) v = (put_refusal v port r.stamp ≡ None) × AllTake port rs (after_put port r v)
 
--- it has run over what came, now or before
-pub record RunsOver (t : Content) (old new : Site) : Type 0 where
-  pub came : new.came ≡ old.came
-  pub results : Results
-  pub outcome : new.outcome ≡ Some results
-  pub led : (old.outcome ≡ Some results) ⊎ LeadsTo t old.came results
-  pub stays : IsSome old.outcome → new ≡ old
+-- a switch at which nothing came in
+pub record IsFresh (t : Content) (s : Site) : Type 0 where
+  pub paced : s.paced ≡ fresh_paced t
+  pub left : s.left ≡ map (λ p. (p.id, capture_text [])) t.ports
+  pub next : IsNext s.paced s.next
 
--- ---- wires
+-- nothing came in at a port of a switch that has not gone anywhere
+pub record IsSilent (port : ℕ) (v : Paced) : Type 0 where
+  pub lane : Lane
+  pub lane_is : lane_at v port ≡ Some lane
+  pub none : lane.came ≡ []
+  pub start : v.reached ≡ 0
 
--- the text that a wire brings to its end: what left at its start, as it is read, so much later
-pub record IsBrought (sites : List Site) (w : Wire) (text : List ℕ) : Type 0 where
-  pub bytes : List ℕ
-  pub records : List Record
-  pub left : left_over sites w ≡ Some bytes
-  pub read : IsCapture bytes records
-  pub text_is : text ≡ capture_text (map (delayed w.delay) records)
+-- what was read for several ports came in, port by port
+abbrev pub after_reads : List Capture → Site → Site
+after_reads [] s = s
+after_reads (c ∷ read) s = after_reads read (after_all c.port c.records s)
 
--- what came in at its end is that
-pub record Agrees (sites : List Site) (w : Wire) : Type 0 where
+-- captures for some of a table's ports, by rising number
+pub record AreForPorts (t : Content) (texts : List Text) : Type 0 where
+  pub chosen : ℕ → Bool
+  pub are : map (λ text. text.0) texts ≡ filter chosen (map (λ p. p.id) t.ports)
+
+-- these captures came in at a switch at which nothing came in before
+pub record HasRead (t : Content) (own : List Text) (s : Site) : Type 0 where
+  pub fresh : Site
+  pub is_fresh : IsFresh t fresh
+  pub read : List Capture
+  pub are_read : AreCaptures own read
+  pub after : s ≡ after_reads read fresh
+
+-- the switch went to an instant, and next is another one
+pub record WentTo (h : ℕ) (old new : Site) : Type 0 where
+  pub paced : new.paced ≡ after_going h old.paced
+  pub left : new.left ≡ old.left
+  pub next : IsNext new.paced new.next
+
+-- the next record that left the port at a place, or none, went to its capture
+pub record HandsOut (old new : Site) (place port : ℕ) (out : Record) : Type 0 where
+  pub out_is : GoesOut old.paced new.paced port out
   pub text : List ℕ
-  pub comes : came_at sites w.to ≡ Some text
-  pub brought : IsBrought sites w text
+  pub was : slice_get old.left place ≡ Some (port, text)
+  pub left : new.left ≡ set old.left place (port, text ++ record_text out)
+  pub next : new.next ≡ old.next
 
--- a frame of a capture would come over a cable after the last instant that pcap can hold: the first such
-pub record IsPastTheLast (bytes : List ℕ) (delay : ℕ) (why : PcapFault) : Type 0 where
-  pub records : List Record
-  pub read : IsCapture bytes records
-  pub place : ℕ
-  pub frame : Record
-  pub at : slice_get records place ≡ Some frame
-  pub past : stamp_end ≤ frame.stamp + delay
-  pub before : All (λ r. r.stamp + delay < stamp_end) (take place records)
-  pub why_is : why ≡ Late (place + 1)
+abbrev pub IsHandedOut : Site → Site → (place port : ℕ) → Option Record → Type 0
+IsHandedOut old new place port None = NoneGoesOut old.paced new.paced port × (new.left ≡ old.left) × (new.next ≡ old.next)
+IsHandedOut old new place port (Some out) = HandsOut old new place port out
 
--- why nothing comes over a cable: this is no capture, or a frame would come too late
-abbrev pub IsCarryFault : List ℕ → ℕ → PcapFault → Type 0
-IsCarryFault bytes delay why = IsFault bytes why ⊎ IsPastTheLast bytes delay why
+-- a switch from which all has left has led to these captures and counts
+pub record HasLed (s : Site) (results : Results) : Type 0 where
+  pub captures : results.captures ≡ s.left
+  pub counts : results.counts ≡ counts_of s.paced.table (rows_of s.paced.table (arrivals s.paced))
 
--- so what left at the start of a wire does not come over it
-pub record IsNotBrought (sites : List Site) (w : Wire) (why : PcapFault) : Type 0 where
-  pub bytes : List ℕ
-  pub left : left_over sites w ≡ Some bytes
-  pub because : IsCarryFault bytes w.delay why
+-- the port at a wire's end takes a record that much later
+pub record CanCome (sites : List Site) (w : Wire) (frame : Record) : Type 0 where
+  pub site : Site
+  pub at : slice_get sites w.to.switch ≡ Some site
+  pub fine : put_refusal site.paced w.to.port (frame.stamp + w.delay) ≡ None
 
-abbrev pub HasRun : Site → Type 0
-HasRun s = IsSome s.outcome
+-- it came there
+pub record CameOver (old new : List Site) (w : Wire) (frame : Record) : Type 0 where
+  pub site : Site
+  pub at : slice_get old w.to.switch ≡ Some site
+  pub fine : put_refusal site.paced w.to.port (frame.stamp + w.delay) ≡ None
+  pub early : frame.stamp + w.delay < last_second
+  pub small : IsWithinLimit frame
+  pub new_is : new ≡ slice_set old w.to.switch (after_putting w.to.port (delayed w.delay frame) site)
 
--- ---- switches that are settled
+-- why it did not: memory ran out, or it would come in the last second
+abbrev pub IsLateFault : Wire → Record → NetworkRunFault → Type 0
+IsLateFault w frame fault.Memory = Unit {0}
+IsLateFault w frame (fault.Capture switch port why) = (switch ≡ w.to.switch) × (port ≡ w.to.port) × (last_second ≤ frame.stamp + w.delay)
+IsLateFault w frame (fault.WrongPorts switch) = ⊥
+IsLateFault w frame fault.Unsettled = ⊥
 
--- the switch has run over what the wires bring to it
-pub record IsSettled (net : Network) (sites : List Site) (n : ℕ) : Type 0 where
-  pub ran : (s : Site) → slice_get sites n ≡ Some s → HasRun s
-  pub wires : (w : Wire) → Contains net.layout.wires w → w.to.switch ≡ n → Agrees sites w
+-- a switch goes on within a window: nothing that leaves it up to the window's end becomes more, and no less has left
+pub record SendsOn (end : ℕ) (old new : Site) : Type 0 where
+  pub table : new.paced.table ≡ old.paced.table
+  pub reached : new.paced.reached ≡ old.paced.reached
+  pub out : (h : ℕ) (p : PortRow) → h ≤ end → out_up_to new.paced (Some h) p ≡ out_up_to old.paced (Some h) p
+  pub left : (port : ℕ) (l : Lane) → lane_at new.paced port ≡ Some l → (was : Lane) × (lane_at old.paced port ≡ Some was) × (length was.left ≤ length l.left)
 
--- what the wires bring is put in at these ports of a switch
-pub record Receives (net : Network) (switch : ℕ) (ports : List ℕ) (old new : List Site) : Type 0 where
-  pub others : (n : ℕ) → (n ≡ switch → ⊥) → slice_get new n ≡ slice_get old n
-  pub same_ports : (p : ℕ) → IsSome (came_at old (end_at switch p)) → IsSome (came_at new (end_at switch p))
-  pub brings : (w : Wire) → w.to.switch ≡ switch → (w.from.switch ≡ switch → ⊥) → wire_to net w.to ≡ Some w → Contains ports w.to.port
-      → IsSome (came_at old w.to) → IsSome (left_over old w) → Agrees new w
-  pub quiet : ((w : Wire) → w.to.switch ≡ switch → wire_to net w.to ≡ Some w → Agrees old w) → new ≡ old
+-- so do all
+pub record SendOn (end : ℕ) (old new : List Site) : Type 0 where
+  pub all : length new ≡ length old
+  pub each : (n : ℕ) (s : Site) → slice_get new n ≡ Some s → (was : Site) × (slice_get old n ≡ Some was) × SendsOn end was s
 
--- and the switch runs. Where it is settled, nothing changes; it is settled then, where each switch before it has run
-pub record Steps (net : Network) (switch : ℕ) (old new : List Site) : Type 0 where
-  pub others : (n : ℕ) → (n ≡ switch → ⊥) → slice_get new n ≡ slice_get old n
-  pub quiet : IsSettled net old switch → new ≡ old
-  pub settles : ((w : Wire) → Contains net.layout.wires w → w.to.switch ≡ switch
-      → (w.from.switch ≡ switch → ⊥) × (wire_to net w.to ≡ Some w) × IsSome (came_at old w.to) × IsSome (left_over old w)) → IsSettled net new switch
+-- what still waits to be handed out at a port, where it has come to
+abbrev pub waits_at : Option Site → ℕ → ℕ
+waits_at None port = 0
+waits_at (Some s) port = behind s.paced (port_row s.paced.table port) (lane_at s.paced port)
 
--- each number below this one is in a list
-abbrev pub HasAll : ℕ → List ℕ → Type 0
-HasAll count ns = (n : ℕ) → n < count → list_any (λ m. m == n) ns ≡ true
+-- a record, or none, that left a port of a switch went over the port's wires within a window
+pub record Carries (net : Network) (given : Given) (begin end : ℕ) (from : End) (more : Bool) (old new : List Site) : Type 0 where
+  pub window : AreInWindow net given begin end new
+  pub on : SendOn end old new
+  pub none : more ≡ false → (s : Site) → slice_get new from.switch ≡ Some s → HasSentAt (Some s.paced.reached) from.port s
 
--- all switches are settled that have a place below this one
-abbrev pub AreSettled : (net : Network) → (place : ℕ → ℕ) → ℕ → List Site → Type 0
-AreSettled net place k sites = (n : ℕ) → n < length net.tables → place n < k → IsSettled net sites n
+-- a switch came to the end of a window, and all that left it went on
+pub record Visits (net : Network) (given : Given) (begin end switch : ℕ) (old new : List Site) : Type 0 where
+  pub window : AreInWindow net given begin end new
+  pub others : (n : ℕ) (s : Site) → (n ≡ switch → ⊥) → slice_get new n ≡ Some s → (was : Site) × (slice_get old n ≡ Some was) × SendsOn end was s
+  pub here : (s : Site) → slice_get new switch ≡ Some s → HasCome end s
 
 -- ---- how late frames are
 
@@ -187,11 +331,11 @@ latest = 4294967231000000000
 abbrev pub after_hops : ℕ → ℕ
 after_hops n = latest + n * 501000000
 
--- what came in at the switches is captures, and no frame is later than the switch's place allows
+-- no record came in at a switch later than its place allows
 abbrev pub AreEarly : (place : ℕ → ℕ) → List Site → Type 0
-AreEarly place sites = (n : ℕ) (s : Site) → slice_get sites n ≡ Some s → All (λ text. ComesBy (after_hops (place n)) text.1) s.came
+AreEarly place sites = (n : ℕ) (s : Site) → slice_get sites n ≡ Some s → AllByRecursion (λ (l : Lane). AllByRecursion (λ (r : Record). r.stamp ≤ after_hops (place n)) l.came) s.paced.lanes
 
 -- where no frame can be late, none is late after a call either, which fails for memory alone
-abbrev pub StayEarly : {X : Type 0} → Network → List Site → List Site → Result X NetworkRunFault → Type 0
-StayEarly net old new result = (given : Given) → AreSites net given old → (none : NoneIsLateAnywhere net given) → AreEarly none.order.place old
+abbrev pub StayEarly : {X : Type 0} → Network → Given → List Site → List Site → Result X NetworkRunFault → Type 0
+StayEarly net given old new result = (none : NoneIsLateAnywhere net given) → All IsAccepted net.tables → AreEarly none.order.place old
     → MatchResult result (λ _. AreEarly none.order.place new) (λ why. why ≡ fault.Memory)

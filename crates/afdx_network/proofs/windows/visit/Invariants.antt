@@ -1,0 +1,6 @@
+use Rattle.afdx_network.proofs.Rounds.{OnVisit}
+use Rattle.afdx_network.proofs.windows.visit.Given as goal
+
+-- all has left the ports before a place
+abbrev pub invariant-loop-place : goal.invariant-loop-place
+invariant-loop-place l = OnVisit l.network l.fn.end l.switch l.fn.sites l.initial.sites l.place l.sites

@@ -1,0 +1,410 @@
+//! A run of all switches of a network by time, window by window.
+
+ghost use Rattle.std.specs.Prelude.{◌≡◌, ◌+◌, ◌*◌, ◌<◌, ◌≤◌, ◌↔◌, ℕ, IsTrue, MatchOption, IfOk, IfErr, IfSome, OnOk, All, None, Some, false, length, map, max, slice_get, position};
+ghost use Rattle.std.specs.List.{AllZip};
+ghost use Rattle.afdx_units.specs.Time.{last_second};
+ghost use Rattle.afdx_units.specs.Line.{cost_of, least_size};
+ghost use Rattle.afdx_pcap.specs.Record.{IsWithinLimit};
+ghost use Rattle.afdx_table.specs.declared.rows.PortRow.{PortRow as Row};
+ghost use Rattle.afdx_table.specs.Content.{Content, port_row};
+ghost use Rattle.afdx_table.specs.WellFormed.{IsWellFormed};
+ghost use Rattle.afdx_session.specs.Texts.{texts_of};
+ghost use Rattle.afdx_session.specs.Reading.{IsSound};
+ghost use Rattle.afdx_session.specs.Streams.{last_instant};
+ghost use Rattle.afdx_load.specs.Accepted.{IsAccepted};
+ghost use Rattle.afdx_wiring.specs.File.{is_end};
+ghost use Rattle.afdx_wiring.specs.declared.layout.Wire.{Wire as Cable};
+ghost use Rattle.afdx_wiring.specs.Net.{wire_to};
+ghost use Rattle.afdx_network.specs.declared.fault.NetworkRunFault.TheVariants as fault;
+ghost use Rattle.afdx_network.specs.Way.{delayed};
+ghost use Rattle.afdx_network.specs.Runs.{Given};
+ghost use Rattle.afdx_network.specs.Given.{given_of, AreGiven, AreSound, NoneIsLateAnywhere, IsWireFault};
+ghost use Rattle.afdx_network.specs.Inner.Sites.{IsLook, IsFirst, earlier_of, acts_before, wire_place, GoesOver, AreForPorts, HasRead, HasSent, HasCome, AreInWindow, AreCarried, AreStarted, HasLed};
+ghost use Rattle.afdx_network.specs.Inner.Sites.{CanCome, CameOver, IsLateFault, AreEarly, StayEarly, IsPortAt, waits_at, Carries, Visits};
+
+use crate::fault::NetworkRunFault;
+use crate::laws::runs_leave_in_time;
+use crate::site::{Site, Texts};
+use afdx_core::laws::by_stamp_is_ordered;
+use afdx_paced::laws::{
+    later_records_change_nothing, nothing_leaves_before, out_goes_on, out_is_in_order,
+};
+use afdx_pcap::laws::{one_more_record_is_appended, what_is_written_is_a_capture};
+use afdx_pcap::{PcapFault, Record};
+use afdx_session::Outcome;
+use afdx_session::laws::{all_start_before_the_last_instant, records_are_early};
+use afdx_table::Table;
+use afdx_units::{Stamp, cost};
+use afdx_wiring::{End, Network, Wire};
+use std::alloc::{AllocError, Global};
+
+/// The least size of a frame in bytes (IEEE 802.3).
+const LEAST_SIZE: u32 = 64;
+
+/// How long a window is where there are no wires: any length is right then.
+const ALONE: u64 = 1_000_000;
+
+/// The last instant that a stamp can hold: whatever is sent starts before it.
+fn last_instant() -> Stamp
+    ensures { result ≡ last_instant }
+{
+    match Stamp::from_ns(4_294_967_295_999_999_999) {
+        Some(stamp) => stamp,
+        None => unreachable!(),
+    }
+}
+
+/// Whether two ends are one port.
+fn is_end(one: End, other: End) -> bool
+    ensures { result ≡ is_end one other }
+{
+    one.switch == other.switch && one.port == other.port
+}
+
+/// The least time from an arrival at the switch where a wire of this delay begins to the arrival that it causes at the wire's end: the
+/// switch's latency, the line time of the least frame, and the delay.
+fn least_of(network: &Network, from: End, delay: u32) -> Option<u64>
+    ensures least { (t : Content) (p : Row) → slice_get network.now.tables from.switch ≡ Some t → port_row t from.port ≡ Some p
+        → result ≡ Some (t.latency + cost_of p.speed least_size + delay) }
+    ensures positive { IfSome result (λ least. 0 < least) }
+{
+    let table = network.table(from.switch)?;
+    let row = table.port(from.port)?;
+    Some(table.latency() + cost(row.speed, LEAST_SIZE) + u64::from(delay))
+}
+
+/// The least of these times over all wires. O(wires).
+fn look_of(network: &Network) -> u64
+    ensures { IsLook network.now result }
+{
+    let wires = network.layout().wires.as_slice();
+    let mut look = ALONE;
+    for wire in wires {
+        if let Some(least) = least_of(network, wire.from, wire.delay) {
+            look = look.min(least);
+        }
+    }
+    look
+}
+
+/// A switch at which what is given for it came in.
+fn site_of<'a>(
+    alloc: Global,
+    switch: usize,
+    table: &Table,
+    texts: &'a [(u8, Vec<u8>)],
+) -> Result<Site<'a>, NetworkRunFault>
+    requires ports { AreForPorts table.now (texts_of texts.now) }
+    requires sound { All IsSound (texts_of texts.now) }
+    ensures ok { IfOk result (λ s. HasRead table.now (texts_of texts.now) s) }
+    ensures well_formed { IsWellFormed table.now }
+    ensures err { IfErr result (λ why. why ≡ fault.Memory) }
+{
+    later_records_change_nothing();
+    out_goes_on();
+    let mut site = Site::new(alloc, table)?;
+    for (port, text) in texts {
+        site.read(alloc, switch, *port, text)?;
+    }
+    Ok(site)
+}
+
+/// The switches at which what is given came in.
+pub(crate) fn sites_of<'a>(
+    alloc: Global,
+    network: &Network,
+    given: &'a [Texts],
+) -> Result<Vec<Site<'a>>, NetworkRunFault>
+    requires given { AreGiven network.now (given_of given.now) }
+    requires sound { AreSound (given_of given.now) }
+    requires one_each { All (λ w. wire_to network.now w.to ≡ Some w) network.now.layout.wires }
+    ensures ok { IfOk result (λ sites. AreStarted network.now (given_of given.now) sites.items) }
+    ensures early { (none : NoneIsLateAnywhere network.now (given_of given.now)) → IfOk result (λ sites. AreEarly none.order.place sites.items) }
+    ensures err { IfErr result (λ why. why ≡ fault.Memory) }
+{
+    later_records_change_nothing();
+    out_goes_on();
+    let mut sites = Vec::new(alloc);
+    for (switch, table) in network.tables().iter().enumerate() {
+        let Some(texts) = given.get(switch) else {
+            unreachable!();
+        };
+        sites.push(site_of(alloc, switch, table, texts)?)?;
+    }
+    Ok(sites)
+}
+
+/// A copy of a record that came over a wire; none where it comes in the last second that pcap can hold.
+fn brought(
+    alloc: Global,
+    frame: &Record<'_, Global>,
+    delay: u32,
+) -> Result<Option<Record<'static, Global>>, AllocError>
+    ensures { IfOk result (λ out. MatchOption out (last_second ≤ frame.now.stamp + delay)
+        (λ there. (there ≡ delayed delay frame.now) × (frame.now.stamp + delay < last_second) × IsWithinLimit frame.now)) }
+{
+    let Some(stamp) = frame.stamp().plus(u64::from(delay)) else {
+        return Ok(None);
+    };
+    if stamp.late() {
+        return Ok(None);
+    }
+    let bytes = Vec::from_slice(alloc, frame.bytes())?;
+    let original = bytes.len() as u32;
+    match Record::new(stamp, original, bytes) {
+        Ok(there) => Ok(Some(there)),
+        Err(_) => unreachable!(),
+    }
+}
+
+/// A record goes over a wire. `number` is the record's at the wire's end, counted from 1.
+fn bring<'a>(
+    alloc: Global,
+    sites: &mut [Site<'a>],
+    wire: &Wire,
+    frame: &Record<'a, Global>,
+    number: usize,
+) -> Result<(), NetworkRunFault>
+    requires going { All (λ s. s.paced.failed ≡ false) sites.old }
+    requires within { wire.now.to.switch < length sites.old }
+    ensures ok { OnOk result (CameOver sites.old sites.new wire.now frame.now) }
+    ensures going { All (λ s. s.paced.failed ≡ false) sites.new }
+    ensures err { CanCome sites.old wire.now frame.now → IfErr result (IsLateFault wire.now frame.now) }
+{
+    let Some(there) = brought(alloc, frame, wire.delay)? else {
+        return Err(NetworkRunFault::Capture(wire.to.switch, wire.to.port, PcapFault::Late(number)));
+    };
+    sites[wire.to.switch].put(wire.to.port, there)
+}
+
+/// The place of the first wire that goes to a port. O(wires).
+fn first_to(wires: &[Wire], to: End) -> Option<usize>
+    ensures { result ≡ position (λ w. is_end w.to to) wires.now }
+{
+    wires.iter().position(|wire| is_end(wire.to, to))
+}
+
+/// Whether no wire before the one at this place goes to the same port. O(wires).
+fn is_first(wires: &[Wire], index: usize) -> bool
+    requires { index < length wires.now }
+    ensures { (w : Cable) → slice_get wires.now index ≡ Some w → (IsTrue result ↔ (wire_place wires.now w ≡ index)) }
+{
+    match first_to(wires, wires[index].to) {
+        Some(place) => place == index,
+        None => false,
+    }
+}
+
+/// Whether what leaves a port goes over the wire at a place: it begins there, and no wire before it goes to the same port. O(wires).
+fn goes_over(wires: &[Wire], index: usize, from: End) -> bool
+    requires { index < length wires.now }
+    ensures { (w : Cable) → slice_get wires.now index ≡ Some w → (IsTrue result ↔ GoesOver wires.now index from w) }
+{
+    is_end(wires[index].from, from) && is_first(wires, index)
+}
+
+/// The next record that left a port goes to the port's capture, and over its wires. Whether there was one.
+fn carry<'a>(
+    alloc: Global,
+    network: &Network,
+    sites: &mut [Site<'a>],
+    from: End,
+    place: usize,
+) -> Result<bool, NetworkRunFault>
+    requires going { All (λ s. s.paced.failed ≡ false) sites.old }
+    requires all { length sites.old ≡ length network.now.tables }
+    requires place { IsPortAt sites.old from place }
+    ensures going { OnOk result (All (λ s. s.paced.failed ≡ false) sites.new × IsPortAt sites.new from place) }
+    ensures reached { (h : ℕ) → All (λ s. s.paced.reached ≤ h) sites.old → OnOk result (All (λ s. s.paced.reached ≤ h) sites.new) }
+    ensures fewer { IfOk result (λ more. IsTrue more → waits_at (slice_get sites.new from.switch) from.port < waits_at (slice_get sites.old from.switch) from.port) }
+    ensures ok { (given : Given) (begin end : ℕ) → begin ≤ end → AreInWindow network.now given begin end sites.old
+        → IfOk result (λ more. Carries network.now given begin end from more sites.old sites.new) }
+    ensures err { (given : Given) (begin end : ℕ) → begin ≤ end → AreInWindow network.now given begin end sites.old → IfErr result (IsWireFault network.now) }
+    ensures early { (given : Given) (begin end : ℕ) → begin ≤ end → AreInWindow network.now given begin end sites.old → StayEarly network.now given sites.old sites.new result }
+{
+    nothing_leaves_before();
+    later_records_change_nothing();
+    out_goes_on();
+    out_is_in_order();
+    one_more_record_is_appended();
+    what_is_written_is_a_capture();
+    runs_leave_in_time();
+    let Some(frame) = sites[from.switch].hand_out(place, from.port)? else {
+        return Ok(false);
+    };
+    let number = sites[from.switch].count(place);
+    let wires = network.layout().wires.as_slice();
+    for index in 0..wires.len() {
+        if goes_over(wires, index, from) {
+            bring(alloc, sites, &wires[index], &frame, number)?;
+        }
+    }
+    Ok(true)
+}
+
+/// All that left a port goes on.
+fn drain<'a>(
+    alloc: Global,
+    network: &Network,
+    sites: &mut [Site<'a>],
+    from: End,
+    place: usize,
+) -> Result<(), NetworkRunFault>
+    requires going { All (λ s. s.paced.failed ≡ false) sites.old }
+    requires all { length sites.old ≡ length network.now.tables }
+    requires place { IsPortAt sites.old from place }
+    ensures going { OnOk result (All (λ s. s.paced.failed ≡ false) sites.new) }
+    ensures reached { (h : ℕ) → All (λ s. s.paced.reached ≤ h) sites.old → OnOk result (All (λ s. s.paced.reached ≤ h) sites.new) }
+    ensures ok { (given : Given) (begin end : ℕ) → begin ≤ end → AreInWindow network.now given begin end sites.old
+        → OnOk result (Carries network.now given begin end from false sites.old sites.new) }
+    ensures err { (given : Given) (begin end : ℕ) → begin ≤ end → AreInWindow network.now given begin end sites.old → IfErr result (IsWireFault network.now) }
+    ensures early { (given : Given) (begin end : ℕ) → begin ≤ end → AreInWindow network.now given begin end sites.old → StayEarly network.now given sites.old sites.new result }
+{
+    while carry(alloc, network, sites, from, place)? {}
+    Ok(())
+}
+
+/// A switch comes to an instant, and all that left it goes on.
+fn visit<'a>(
+    alloc: Global,
+    network: &Network,
+    sites: &mut [Site<'a>],
+    switch: usize,
+    end: Stamp,
+) -> Result<(), NetworkRunFault>
+    requires going { All (λ s. s.paced.failed ≡ false) sites.old }
+    requires all { length sites.old ≡ length network.now.tables }
+    requires within { switch < length sites.old }
+    requires in_order { All (λ s. s.paced.reached ≤ end) sites.old }
+    ensures going { OnOk result (All (λ s. (s.paced.failed ≡ false) × (s.paced.reached ≤ end)) sites.new) }
+    ensures ok { (given : Given) (begin : ℕ) → begin ≤ end → AreInWindow network.now given begin end sites.old
+        → OnOk result (Visits network.now given begin end switch sites.old sites.new) }
+    ensures err { (given : Given) (begin : ℕ) → begin ≤ end → AreInWindow network.now given begin end sites.old → IfErr result (IsWireFault network.now) }
+    ensures early { (given : Given) (begin : ℕ) → begin ≤ end → AreInWindow network.now given begin end sites.old → StayEarly network.now given sites.old sites.new result }
+{
+    out_goes_on();
+    sites[switch].go_to(end)?;
+    for place in 0..sites[switch].ports() {
+        if let Some(port) = sites[switch].port(place) {
+            drain(alloc, network, sites, End { switch, port }, place)?;
+        }
+    }
+    Ok(())
+}
+
+/// The earlier of two instants, of which there may be none.
+fn earlier_of(one: Option<Stamp>, other: Option<Stamp>) -> Option<Stamp>
+    ensures { result ≡ earlier_of one other }
+{
+    match (one, other) {
+        (Some(a), Some(b)) => Some(a.min(b)),
+        (Some(a), None) => Some(a),
+        (None, b) => b,
+    }
+}
+
+/// The first instant at which anything can still happen at any switch. O(switches).
+fn first_of(sites: &[Site<'_>]) -> Option<Stamp>
+    ensures { IsFirst sites.now result }
+{
+    let mut first: Option<Stamp> = None;
+    for site in sites {
+        first = earlier_of(first, site.next());
+    }
+    first
+}
+
+/// Whether something can happen at a switch before an instant.
+fn acts_before(site: &Site<'_>, end: Stamp) -> bool
+    ensures { result ≡ acts_before end site.now.next }
+{
+    match site.next() {
+        Some(next) => next < end,
+        None => false,
+    }
+}
+
+/// Each switch at which something can happen before an instant comes to it.
+fn window<'a>(
+    alloc: Global,
+    network: &Network,
+    sites: &mut [Site<'a>],
+    end: Stamp,
+) -> Result<(), NetworkRunFault>
+    requires going { All (λ s. s.paced.failed ≡ false) sites.old }
+    requires all { length sites.old ≡ length network.now.tables }
+    requires in_order { All (λ s. s.paced.reached ≤ end) sites.old }
+    ensures going { OnOk result (All (λ s. (s.paced.failed ≡ false) × (s.paced.reached ≤ end)) sites.new) }
+    ensures ok { (given : Given) (begin : ℕ) → begin ≤ end → AreInWindow network.now given begin end sites.old → All (λ s. s.paced.reached ≤ begin) sites.old
+        → OnOk result (AreInWindow network.now given begin end sites.new × All (HasCome end) sites.new) }
+    ensures err { (given : Given) (begin : ℕ) → begin ≤ end → AreInWindow network.now given begin end sites.old → IfErr result (IsWireFault network.now) }
+    ensures early { (given : Given) (begin : ℕ) → begin ≤ end → AreInWindow network.now given begin end sites.old → StayEarly network.now given sites.old sites.new result }
+{
+    out_goes_on();
+    for switch in 0..sites.len() {
+        if acts_before(&sites[switch], end) {
+            visit(alloc, network, sites, switch, end)?;
+        }
+    }
+    Ok(())
+}
+
+/// The end of the window that begins at the later of two instants, and is so long; the last instant where it ends past that.
+fn end_of(last: Stamp, first: Stamp, look: u64) -> Stamp
+    requires { 0 < look }
+    ensures least { max first last ≤ result }
+    ensures most { result ≤ max first last + look }
+    ensures within { result ≤ last_instant }
+    ensures later { last < last_instant → last < result }
+{
+    let begin = if first < last { last } else { first };
+    match begin.plus(look) {
+        Some(end) => end,
+        None => last_instant(),
+    }
+}
+
+/// All switches go on until nothing is left.
+pub(crate) fn go_through<'a>(
+    alloc: Global,
+    network: &Network,
+    sites: &mut [Site<'a>],
+) -> Result<(), NetworkRunFault>
+    requires going { All (λ s. (s.paced.failed ≡ false) × (s.paced.reached ≤ 0)) sites.old }
+    requires all { length sites.old ≡ length network.now.tables }
+    ensures going { OnOk result (All (λ s. s.paced.failed ≡ false) sites.new) }
+    ensures ok { (given : Given) → AreStarted network.now given sites.old → OnOk result (AreCarried network.now given sites.new × All (HasSent None) sites.new) }
+    ensures err { (given : Given) → AreStarted network.now given sites.old → IfErr result (IsWireFault network.now) }
+    ensures early { (given : Given) → AreStarted network.now given sites.old → StayEarly network.now given sites.old sites.new result }
+{
+    out_goes_on();
+    by_stamp_is_ordered();
+    what_is_written_is_a_capture();
+    records_are_early();
+    all_start_before_the_last_instant();
+    let look = look_of(network);
+    let mut end = Stamp::ZERO;
+    while end < last_instant() {
+        let Some(first) = first_of(sites) else {
+            return Ok(());
+        };
+        end = end_of(end, first, look);
+        window(alloc, network, sites, end)?;
+    }
+    Ok(())
+}
+
+/// What each switch has led to.
+pub(crate) fn outcomes_of(
+    alloc: Global,
+    sites: Vec<Site<'_>>,
+) -> Result<Vec<Outcome<Global>>, AllocError>
+    requires { All (λ s. s.paced.failed ≡ false) sites.items }
+    ensures { IfOk result (λ outcomes. AllZip HasLed sites.entry.items outcomes.items) }
+{
+    let mut outcomes = Vec::new(alloc);
+    for site in sites {
+        outcomes.push(site.into_outcome()?)?;
+    }
+    Ok(outcomes)
+}

@@ -1,0 +1,3 @@
+pub mod Paced
+pub mod Laws
+pub mod Inner

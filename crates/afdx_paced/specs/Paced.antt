@@ -1,0 +1,117 @@
+-- A switch that is fed by time, as contracts see it: what came in at each port and what left there, up to the instant that it has come to
+-- (profile).
+use Rattle.std.specs.Prelude.{ℕ, ◌≡◌, ◌≤◌, ◌==◌, ◌||◌, Bool, false, nat_lt, if◌then◌else◌, List, [], ◌∷◌, ◌++◌, map, find, Option, Some, None, Contains}
+use Rattle.afdx_pcap.specs.Record.{Record}
+use Rattle.afdx_pcap.specs.Fault.{last_stamp}
+use Rattle.afdx_table.specs.declared.rows.PortRow.{PortRow}
+use Rattle.afdx_table.specs.Content.{Content, port_row}
+use Rattle.afdx_core.specs.Merge.{Arrival, Capture, merged}
+use Rattle.afdx_session.specs.Output.{written}
+use Rattle.afdx_session.specs.Streams.{sent_up_to}
+use Rattle.afdx_paced.specs.declared.paced.PacedFault.{PacedFault}
+use Rattle.afdx_paced.specs.declared.paced.PacedFault.TheVariants.{Memory, NoSuchPort, Early}
+
+-- what came in at a port, and what left it so far
+pub record Lane : Type 0 where
+  pub port : ℕ
+  pub came : List Record
+  pub left : List Record
+
+pub record Paced : Type 0 where
+  pub table : Content
+  -- by rising port
+  pub lanes : List Lane
+  -- the instant that it has come to
+  pub reached : ℕ
+  -- a call ran out of memory while it went on
+  pub failed : Bool
+
+-- what came in, as captures, and the program's merge of it
+abbrev pub capture_of : Lane → Capture
+capture_of l = record { port = l.port; records = l.came }
+
+abbrev pub captures_of : List Lane → List Capture
+captures_of lanes = map capture_of lanes
+
+abbrev pub arrivals : Paced → List Arrival
+arrivals v = merged (captures_of v.lanes)
+
+-- what leaves a port of what came in, as far as it starts before what an instant reaches; all where there is none
+abbrev pub out_up_to : Paced → Option ℕ → PortRow → List Record
+out_up_to v h p = map (written (arrivals v)) (sent_up_to v.table (arrivals v) h p)
+
+abbrev pub fresh_lane : PortRow → Lane
+fresh_lane p = record { port = p.id; came = []; left = [] }
+
+abbrev pub fresh_paced : Content → Paced
+fresh_paced t = record { table = t; lanes = map fresh_lane t.ports; reached = 0; failed = false }
+
+-- ---- what calls do
+
+-- the lanes where that of a port is another
+abbrev pub changed : ℕ → (Lane → Lane) → List Lane → List Lane
+changed port f [] = []
+changed port f (l ∷ lanes) = if l.port == port then f l ∷ lanes else l ∷ changed port f lanes
+
+abbrev pub lane_at : Paced → ℕ → Option Lane
+lane_at v port = find (λ l. l.port == port) v.lanes
+
+-- one more record came in, or left
+abbrev pub came_in : Record → Lane → Lane
+came_in frame l = record { port = l.port; came = l.came ++ frame ∷ []; left = l.left }
+
+abbrev pub went_out : Record → Lane → Lane
+went_out frame l = record { port = l.port; came = l.came; left = l.left ++ frame ∷ [] }
+
+abbrev pub after_put : ℕ → Record → Paced → Paced
+after_put port frame v = record { table = v.table; lanes = changed port (came_in frame) v.lanes; reached = v.reached; failed = v.failed }
+
+abbrev pub after_going : ℕ → Paced → Paced
+after_going h v = record { table = v.table; lanes = v.lanes; reached = h; failed = v.failed }
+
+abbrev pub after_leaving : ℕ → Record → Paced → Paced
+after_leaving port frame v = record { table = v.table; lanes = changed port (went_out frame) v.lanes; reached = v.reached; failed = v.failed }
+
+-- the first refusal that is none of memory
+abbrev pub early_at : ℕ → ℕ → Lane → Option PacedFault
+early_at h stamp l = if nat_lt stamp h || nat_lt stamp (last_stamp 0 l.came) then Some Early else None
+
+abbrev pub refusal_by : ℕ → ℕ → Option Lane → Option PacedFault
+refusal_by h stamp None = Some NoSuchPort
+refusal_by h stamp (Some l) = early_at h stamp l
+
+abbrev pub put_refusal : Paced → ℕ → ℕ → Option PacedFault
+put_refusal v port stamp = refusal_by v.reached stamp (lane_at v port)
+
+abbrev pub not_of_memory : PacedFault → Option PacedFault
+not_of_memory Memory = None
+not_of_memory NoSuchPort = Some NoSuchPort
+not_of_memory Early = Some Early
+
+-- the next record of a port went out: of what leaves it up to the instant, the one after those that left so far
+pub record GoesOut (old new : Paced) (port : ℕ) (out : Record) : Type 0 where
+  pub lane : Lane
+  pub row : PortRow
+  pub rest : List Record
+  pub lane_is : lane_at old port ≡ Some lane
+  pub row_is : port_row old.table port ≡ Some row
+  pub next : out_up_to old (Some old.reached) row ≡ lane.left ++ out ∷ rest
+  pub after : new ≡ after_leaving port out old
+
+-- all of it went out before, or the table has no such port
+pub record NoneGoesOut (old new : Paced) (port : ℕ) : Type 0 where
+  pub all : (lane : Lane) (row : PortRow) → lane_at old port ≡ Some lane → port_row old.table port ≡ Some row → lane.left ≡ out_up_to old (Some old.reached) row
+  pub same : new ≡ old
+
+abbrev pub IsNextOut : Paced → Paced → ℕ → Option Record → Type 0
+IsNextOut old new port None = NoneGoesOut old new port
+IsNextOut old new port (Some out) = GoesOut old new port out
+
+-- between the instant that it has come to and this one nothing starts at any port
+abbrev pub IsQuietUntil : Paced → Option ℕ → Type 0
+IsQuietUntil v h = (p : PortRow) → Contains v.table.ports p → out_up_to v h p ≡ out_up_to v (Some v.reached) p
+
+-- such an instant, which it has not passed; where there is none, nothing is left
+abbrev pub IsNext : Paced → Option ℕ → Type 0
+IsNext v None = IsQuietUntil v None
+IsNext v (Some n) = (v.reached ≤ n) × IsQuietUntil v (Some n)

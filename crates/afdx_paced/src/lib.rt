@@ -1,0 +1,13 @@
+//! A switch that is fed by time: at each port records come in, and leave up to the instant that it has come to (profile).
+//!
+//! [`Paced`] takes records at any port in any order of its calls, as long as none comes before the instant that the switch has come to.
+//! Contracts see at each port what came in and what left so far: what left is a prefix of what the definitions of the crates below
+//! let leave of all that came in. So a caller may take what left one switch, and put it in at another one.
+#![tactic(auto)]
+
+mod feeder;
+mod lane;
+pub mod laws;
+mod paced;
+
+pub use paced::{Paced, PacedFault};

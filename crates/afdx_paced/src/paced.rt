@@ -1,0 +1,231 @@
+//! A switch that is fed by time.
+
+ghost use Rattle.std.specs.Prelude.{◌≡◌, ◌<◌, ◌≤◌, ◌||◌, nat_lt, max, false, None, IfOk, IfErr, OnOk, OnErr};
+ghost use Rattle.afdx_units.specs.Time.{last_second};
+ghost use Rattle.afdx_count.specs.Run.{counts_of};
+ghost use Rattle.afdx_session.specs.Output.{rows_of};
+ghost use Rattle.afdx_paced.specs.Inner.Kept.{IsNoLater};
+ghost use Rattle.afdx_paced.specs.Paced.{arrivals, fresh_paced, put_refusal, not_of_memory, after_put, after_going, IsNextOut, IsNext};
+
+use crate::feeder::{Feeder, place_of};
+use crate::laws::{later_records_change_nothing, merges_are_cut};
+use afdx_core::laws::by_stamp_is_ordered;
+use afdx_count::Counts;
+use afdx_count::laws::end_counts_the_run;
+use afdx_pcap::Record;
+use afdx_port::laws::{events_follow_the_line, lagging_ports_follow, service_is_of_items};
+use afdx_session::laws::later_arrivals_change_nothing;
+use afdx_table::Table;
+use afdx_units::Stamp;
+use std::alloc::{AllocError, Allocator};
+use std::marker::Model;
+use thiserror::Error;
+
+/// Why a record was not taken in. Each message is its variant's name.
+#[derive(Clone, Copy, Debug, PartialEq, Eq, Error)]
+pub enum PacedFault {
+    /// Out of memory.
+    #[error("Memory")]
+    Memory,
+    /// The table has no port of this number.
+    #[error("NoSuchPort")]
+    NoSuchPort,
+    /// The stamp is below the instant that the switch has come to, or below that of the port's last record.
+    #[error("Early")]
+    Early,
+}
+
+impl From<AllocError> for PacedFault {
+    ghost use Rattle.afdx_paced.specs.declared.paced.PacedFault.TheVariants.{Memory};
+
+    ghost from_gives = { λ _ e. e ≡ Memory };
+
+    fn from(_error: AllocError) -> PacedFault {
+        PacedFault::Memory
+    }
+}
+
+/// A switch over one table at whose ports records come in and leave up to the instant that it has come to.
+///
+/// It keeps what waits: the records that it was not given, and the frames that it has not handed out. A call that runs out of memory
+/// while it goes on leaves it of no use.
+#[derive(Drop)]
+pub struct Paced<'a, A: Allocator> {
+    feeder: Feeder<'a, A>,
+    /// The instant that the switch has come to.
+    reached: Stamp,
+    /// A call has run out of memory while it went on.
+    failed: bool,
+}
+
+impl<'a, A: Allocator> Model for Paced<'a, A> {
+    ghost use Rattle.std.specs.Prelude.{◌≡◌, false};
+    ghost use Rattle.afdx_paced.specs.Paced.{Paced as Seen};
+    ghost use Rattle.afdx_paced.specs.Inner.Kept.{IsOfTable, IsGoing, paced_of};
+
+    ghost Value = { Seen };
+
+    ghost view = { λ p. paced_of p.feeder p.reached p.failed };
+
+    ghost invariant = { λ p. IsOfTable p.feeder × (p.failed ≡ false → IsGoing p.reached p.feeder) };
+}
+
+/// Whether a record of this stamp comes before the instant that the switch has come to, or before the port's last record.
+fn is_early(stamp: Stamp, reached: Stamp, last: Stamp) -> bool
+    ensures { result ≡ (nat_lt stamp reached || nat_lt stamp last) }
+{
+    stamp < reached || stamp < last
+}
+
+/// The last instant that a stamp can hold: whatever is sent starts before it.
+fn last_instant() -> Stamp
+    ensures { result ≡ 4294967295999999999 }
+{
+    match Stamp::from_ns(4_294_967_295_999_999_999) {
+        Some(stamp) => stamp,
+        None => unreachable!(),
+    }
+}
+
+/// The first of two instants.
+fn first_of(one: Option<Stamp>, other: Option<Stamp>) -> Option<Stamp>
+    ensures one { IsNoLater result one }
+    ensures other { IsNoLater result other }
+{
+    match (one, other) {
+        (Some(a), Some(b)) => Some(if a <= b { a } else { b }),
+        (Some(a), None) => Some(a),
+        (None, b) => b,
+    }
+}
+
+/// The later of two instants.
+fn later_of(one: Stamp, other: Stamp) -> Stamp
+    ensures { result ≡ max one other }
+{
+    if one < other { other } else { one }
+}
+
+impl<'a, A: Allocator + Copy> Paced<'a, A> {
+    /// Makes a switch at which nothing came in, over a table that need not be accepted.
+    ///
+    /// An error says that memory ran out; the table is dropped then. O(links + ports).
+    pub fn new(alloc: A, table: Table) -> Result<Self, AllocError>
+        ensures { IfOk result (λ p. p ≡ fresh_paced table) }
+    {
+        let feeder = Feeder::new(alloc, table)?;
+        Ok(Paced {
+            feeder,
+            reached: Stamp::ZERO,
+            failed: false,
+        })
+    }
+
+    /// Takes a record in at a port. O(ports).
+    ///
+    /// # Errors
+    ///
+    /// Nothing changes then. The first that holds, in this order:
+    ///
+    /// - `NoSuchPort`, `Early`, as their variants say.
+    /// - `Memory` where memory ran out.
+    pub fn put(&mut self, port: u8, frame: Record<'a, A>) -> Result<(), PacedFault>
+        requires going { self.old.failed ≡ false }
+        requires not_late { frame.stamp < last_second }
+        ensures ok { OnOk result ((put_refusal self.old port frame.entry.stamp ≡ None) × (self.new ≡ after_put port frame.entry self.old)) }
+        ensures err { IfErr result (λ fault. (put_refusal self.old port frame.entry.stamp ≡ not_of_memory fault) × (self.new ≡ self.old)) }
+    {
+        later_records_change_nothing();
+        let Some(place) = place_of(&self.feeder.lanes, port) else {
+            return Err(PacedFault::NoSuchPort);
+        };
+        let last = self.feeder.lanes[place].last();
+        if is_early(frame.stamp(), self.reached, last) {
+            return Err(PacedFault::Early);
+        }
+        self.feeder.lanes[place].join(frame)?;
+        Ok(())
+    }
+
+    /// The switch comes to an instant: it takes what came in before it, by stamp and then by port, and carries out the starts before
+    /// the instant that it reaches, one latency later.
+    ///
+    /// O(ports), and O(1) for each record that it takes, beside the switch's own work. Where memory runs out, it is of no use any more.
+    pub fn go_to(&mut self, instant: Stamp) -> Result<(), AllocError>
+        requires going { self.old.failed ≡ false }
+        requires in_order { self.old.reached ≤ instant }
+        ensures { OnOk result (self.new ≡ after_going instant self.old) }
+    {
+        self.failed = true;
+        self.feeder.come_to(self.reached, instant)?;
+        self.reached = instant;
+        self.failed = false;
+        Ok(())
+    }
+
+    /// Returns the port's next record that left up to the instant that the switch has come to, and was not handed out; none where there is
+    /// no such record or port. Its bytes are copied: O(ports + bytes).
+    ///
+    /// An error says that memory ran out; nothing changes then.
+    pub fn next_out(&mut self, port: u8) -> Result<Option<Record<'a, A>>, AllocError>
+        requires going { self.old.failed ≡ false }
+        ensures ok { IfOk result (λ out. IsNextOut self.old self.new port out) }
+        ensures err { OnErr result (self.new ≡ self.old) }
+    {
+        by_stamp_is_ordered();
+        merges_are_cut();
+        later_arrivals_change_nothing();
+        service_is_of_items();
+        let Some(place) = place_of(&self.feeder.lanes, port) else {
+            return Ok(None);
+        };
+        match self.feeder.switch.next_out(port)? {
+            Some(frame) => {
+                self.feeder.lanes[place].depart(&frame);
+                Ok(Some(frame))
+            }
+            None => Ok(None),
+        }
+    }
+
+    /// Returns an instant before which nothing happens at the switch, unless something comes in: the first record that waits lies there, or
+    /// the first start that was not carried out one latency later. None where nothing is left. O(ports).
+    pub fn next(&self) -> Option<Stamp>
+        requires going { self.now.failed ≡ false }
+        ensures { IsNext self.now result }
+    {
+        by_stamp_is_ordered();
+        merges_are_cut();
+        later_arrivals_change_nothing();
+        lagging_ports_follow();
+        events_follow_the_line();
+        let first = first_of(self.feeder.next_arrival(), self.feeder.next_start())?;
+        Some(later_of(first, self.reached))
+    }
+
+    /// Takes all that came in, and carries out all that is left: the counts of the run. O(ports), and O(1) for each record and start, beside
+    /// the switch's own work.
+    ///
+    /// An error says that memory ran out.
+    pub fn finish(self) -> Result<Counts<A>, AllocError>
+        requires going { self.failed ≡ false }
+        ensures { IfOk result (λ counts. counts ≡ counts_of self.entry.table (rows_of self.entry.table (arrivals self.entry))) }
+    {
+        by_stamp_is_ordered();
+        merges_are_cut();
+        end_counts_the_run();
+        let Paced {
+            mut feeder,
+            reached,
+            ..
+        } = self;
+        feeder.come_to(reached, last_instant())?;
+        let Feeder {
+            switch,
+            mut counts,
+            ..
+        } = feeder;
+        counts.note_relayed(&switch.finish());
+        Ok(counts)
+    }
+}
