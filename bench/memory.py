@@ -1,10 +1,11 @@
 #!/usr/bin/env python3
-"""Fails if the memory of `afdx run`, `measure` or `survey` grows with the frames of its captures.
+"""Fails if the memory of `afdx run`, `measure` or `survey` grows with the frames of its captures, or that of `network run` by too much.
 
 One link sends a frame each millisecond, so at most one frame is in flight, and whatever is kept of the frames before it shows.
 The peak is the greater of the program's and this script's own, about 15 MB, and each count of frames is so large that 4 bytes kept
 for each of them would pass the limit. Then links send bursts of large frames to 23 ports, ten seconds apart: what waits at the ports
-leaves in the silence after each. Needs 1.2 GB under /tmp.
+leaves in the silence after each. Last `network run` has the link cross two switches. It keeps all captures, so its memory grows with
+them; this fails if it grows by more than it is known to. Needs 1.2 GB under /tmp.
 """
 import argparse
 import os
@@ -23,6 +24,20 @@ GROWTH = 1.0  # megabytes between a count and its double
 BURSTS = (1, 4)
 IN_A_BURST = 3_250  # frames of 1518 bytes that come at 1000 Mbit/s, each to 23 ports
 MOST_OF_BURSTS = 30.0  # megabytes: the frames that wait are 5 MB, and the ports' outputs were some 100 MB more if made at once
+COUNTS_OF_NETWORKS = {64: (200_000, 400_000), 1518: (20_000, 40_000)}  # frames, by their size: 15 and 30 MB
+MOST_KEPT = {64: 6.0, 1518: 5.0}  # bytes for each byte more that comes in, by the size of frames
+NETWORK = """[[switch]]
+name = "A"
+table = "table.toml"
+
+[[switch]]
+name = "B"
+table = "later.toml"
+
+[[wire]]
+from = "A.2"
+to = "B.1"
+"""
 TABLE = """[[port]]
 id = 1
 mbit = 100
@@ -88,6 +103,38 @@ def peaks_of(afdx: str, room: str, count: int, size: int) -> dict[str, float]:
     return peaks
 
 
+def make_network(room: str) -> None:
+    """Writes a network of two switches with the table, whose link crosses both, and the captures of the ports that nothing comes in at."""
+    for name, text in (("network.toml", NETWORK), ("later.toml", TABLE.replace("jitter_us = 0", "jitter_us = 200"))):
+        with open(f"{room}/{name}", "w", encoding="utf-8") as file:
+            file.write(text)
+    for switch in "AB":
+        for side in ("in", "out"):
+            os.mkdir(f"{room}/{side}/{switch}")
+        with open(f"{room}/in/{switch}/port-2.pcap", "wb") as file:
+            file.write(HEADER)
+
+
+def peak_of_network(afdx: str, room: str, count: int, size: int) -> tuple[float, float]:
+    """Returns the megabytes that come in with so many frames, and those that a run of the network takes at its peak."""
+    write_capture(f"{room}/in/A/port-1.pcap", count, size, MILLISECOND)
+    arguments = [afdx, "network", "run", f"{room}/network.toml", f"{room}/in", f"{room}/out"]
+    _, _, megabytes = measured(arguments, f"{room}/network.toml", f"{room}/report")
+    return os.path.getsize(f"{room}/in/A/port-1.pcap") / 1e6, megabytes
+
+
+def try_networks(afdx: str, room: str) -> None:
+    """Ends with a line if a network's run keeps more than it is known to."""
+    make_network(room)
+    for size, counts in COUNTS_OF_NETWORKS.items():
+        (came, peak), (more_came, more) = (peak_of_network(afdx, room, count, size) for count in counts)
+        kept = (more - peak) / (more_came - came)
+        print(f"network run over two switches, frames of {size} bytes: {came:.1f} MB take {peak:.1f} MB, "
+              f"{more_came:.1f} take {more:.1f} MB, {kept:.1f} bytes for each more")
+        if kept > MOST_KEPT[size]:
+            sys.exit("network run keeps more of its captures than it is known to")
+
+
 def main() -> None:
     parser = argparse.ArgumentParser(description=__doc__, formatter_class=argparse.RawDescriptionHelpFormatter)
     parser.add_argument("afdx", nargs="?", default=AFDX, help="the program; the one that ./test builds if none is named")
@@ -111,6 +158,7 @@ def main() -> None:
         print("bursts to 23 ports: " + ", ".join(f"{count} take {peak:.1f} MB" for count, peak in zip(BURSTS, peaks)))
         if max(peaks) > MOST_OF_BURSTS or peaks[1] - peaks[0] > GROWTH:
             sys.exit("memory grows with the bursts")
+        try_networks(afdx, room)
 
 
 if __name__ == "__main__":

@@ -66,6 +66,24 @@ def measure(table: model.Table, captures: dict[int, bytes], unchecked: bool) -> 
 # --- trace ---
 
 
+@dataclass(frozen=True)
+class Selection:
+    """Which lines of a trace are written, and whether its stamps count from that of the first frame."""
+    links: frozenset[int] = frozenset()  # those of all frames, if it is empty
+    relative: bool = False
+
+    def shows(self, link: str) -> bool:
+        """Whether the lines of a frame with this in the field of its link are written."""
+        return not self.links or (link != "" and int(link) in self.links)
+
+    def origin(self, arrivals: list[model.Arrival]) -> int:
+        """The stamp that counts as 0."""
+        return arrivals[0].stamp if self.relative and arrivals else 0
+
+
+EVERYTHING = Selection()
+
+
 def early(passed: list[model.Arrival], frame: model.Arrival) -> int:
     """The least number of ns by which the frame, had it come later, would have kept to its link's allowance: each window
     that ends with it and begins with a frame passed before it has to be long enough for what it holds."""
@@ -87,7 +105,8 @@ def claimed(table: model.Table, frame: model.Arrival) -> str:
     return ""
 
 
-def arrivals_text(table: model.Table, arrivals: list[model.Arrival], output_ports: list[OutputPort]) -> str:
+def arrivals_text(table: model.Table, arrivals: list[model.Arrival], output_ports: list[OutputPort], selection: Selection) -> str:
+    origin = selection.origin(arrivals)
     lines, records = [ARRIVALS], {port.id: 0 for port in table.ports}
     passed: dict[int, list[model.Arrival]] = {link.id: [] for link in table.links}
     for number, frame in enumerate(arrivals):
@@ -101,12 +120,15 @@ def arrivals_text(table: model.Table, arrivals: list[model.Arrival], output_port
             full = [port for port in frame.link.to if port in refusing]
         elif frame.link:
             fate, soon = "policed", str(early(passed[frame.link.id], frame))
-        lines.append(f"{number},{frame.port},{records[frame.port]},{frame.stamp},{claimed(table, frame)},{frame.size},{fate},{soon},"
-                     + ";".join(map(str, full)))
+        link = claimed(table, frame)
+        if selection.shows(link):
+            lines.append(f"{number},{frame.port},{records[frame.port]},{frame.stamp - origin},{link},{frame.size},{fate},{soon},"
+                         + ";".join(map(str, full)))
     return "".join(line + "\n" for line in lines)
 
 
-def departures_text(arrivals: list[model.Arrival], output_ports: list[OutputPort]) -> str:
+def departures_text(arrivals: list[model.Arrival], output_ports: list[OutputPort], selection: Selection) -> str:
+    origin = selection.origin(arrivals)
     lines, numbers = [DEPARTURES], {id(frame): number for number, frame in enumerate(arrivals)}
     for output_port in output_ports:
         record = 0
@@ -114,9 +136,11 @@ def departures_text(arrivals: list[model.Arrival], output_ports: list[OutputPort
             frame, place, left, delay = event.frame, "", "", ""
             if event.sent:
                 record += 1
-                place, left, delay = str(record), str(event.end), str(event.end - frame.stamp)
-            lines.append(f"{output_port.port.id},{place},{numbers[id(frame)]},{frame.link.id},{frame.link.priority},{frame.size},"
-                         f"{frame.stamp + output_port.port.latency},{event.begin},{left},{delay},{'sent' if event.sent else 'aged'}")
+                place, left, delay = str(record), str(event.end - origin), str(event.end - frame.stamp)
+            if selection.shows(str(frame.link.id)):
+                came = frame.stamp + output_port.port.latency - origin
+                lines.append(f"{output_port.port.id},{place},{numbers[id(frame)]},{frame.link.id},{frame.link.priority},{frame.size},"
+                             f"{came},{event.begin - origin},{left},{delay},{'sent' if event.sent else 'aged'}")
     return "".join(line + "\n" for line in lines)
 
 
@@ -162,11 +186,11 @@ def survey(table: model.Table, captures: dict[int, bytes], unchecked: bool) -> s
     return model.run(table, captures).report + measure(table, captures, unchecked) + "".join(line + "\n" for line in lines)
 
 
-def trace(table: model.Table, captures: dict[int, bytes]) -> tuple[str, str]:
+def trace(table: model.Table, captures: dict[int, bytes], selection: Selection = EVERYTHING) -> tuple[str, str]:
     """The texts of arrivals.csv and departures.csv."""
     arrivals = model.arrivals_of(table, captures)
     output_ports = output_ports_of(table, arrivals)
-    return arrivals_text(table, arrivals, output_ports), departures_text(arrivals, output_ports)
+    return arrivals_text(table, arrivals, output_ports, selection), departures_text(arrivals, output_ports, selection)
 
 
 PRINTED = {"measure": measure, "survey": survey}  # what is on standard output, of a table, captures and whether it is unchecked
@@ -181,7 +205,8 @@ def main(given: argparse.Namespace) -> str:
     captures = model.captures_in(given.source, table)
     if given.command in PRINTED:
         return PRINTED[given.command](table, captures, given.unchecked)
-    for name, text in zip(("arrivals", "departures"), trace(table, captures)):
+    selection = Selection(frozenset(given.link), given.relative)
+    for name, text in zip(("arrivals", "departures"), trace(table, captures, selection)):
         Path(given.target, f"{name}.csv").write_text(text, encoding="ascii", newline="")
     return ""
 
@@ -197,6 +222,9 @@ def arguments() -> argparse.Namespace:
             command.add_argument(folder)
         if folders:
             command.add_argument("--unchecked", action="store_true")
+        if name == "trace":
+            command.add_argument("--link", type=int, action="append", default=[])
+            command.add_argument("--relative", action="store_true")
     return parser.parse_args()
 
 

@@ -10,6 +10,7 @@ cd "$top" || exit 1
 
 check "the quotes are their sources' texts, and nothing that the contracts rest on is left out" python3 docs/trust/quotes.py --check
 check "the maps of crates are those of crates.txt, and each crate's proofs have a place" python3 docs/develop/crates.py --check
+check "what \`afdx explain\` prints is in MESSAGES" python3 docs/develop/remedies.py --check
 check "numbers on the pages are the constants of the code" python3 end_to_end/constants.py
 check "the version is that of the code" python3 end_to_end/versions.py
 check "each wrong body can be applied, and PROOFS names it" python3 end_to_end/edits.py

@@ -288,9 +288,7 @@ def answer_of(command: str, sources: Sources, files: Files) -> Answer | None:
 @cache
 def base(number: int) -> tuple[Any, Any]:
     """Draws a network that is accepted, and what comes in."""
-    chance = Random(number)
-    net = networks.accepted_network(chance)
-    return net, networks.captures(chance, net)
+    return networks.drawn_network(number, Random(number))
 
 
 def trees_of(net: Any) -> dict[str, Tree]:

@@ -1,6 +1,7 @@
 #!/usr/bin/env bash
 # Captures of 26 MB, 136 MB and 1.2 GB: what goes out is what goes out without the frames that make them large, in a fraction of their memory;
-# and if they have faults, the one of the lowest port is named, and nothing is put, also if the memory is less than the capture.
+# and if they have faults, the one of the lowest port is named, and nothing is put, also if the memory is less than the capture. And what a
+# run of a network keeps of its captures.
 . "$(dirname "$0")/common.sh"
 install text2pcap=wireshark-common python3=python3
 export PYTHONDONTWRITEBYTECODE=1
@@ -45,5 +46,5 @@ check "and the other port's, where it is the only one" names_fault "afdx: captur
 mkdir long && cp small/* long && enlarge long/port-1.pcap 4600 && truncate -s -5 long/port-1.pcap
 check "the fault at the end of 1.2 GB is named in 300 MB" eval '(ulimit -v 307200; names_fault "afdx: capture P11 CutData, port 1, record 4604" long)'
 rm -rf in cut
-check "run, measure and survey over twice as many frames take no more memory" python3 "$top/bench/memory.py" "$afdx"
+check "run, measure and survey over twice as many frames take no more memory, and network run what it is known to" python3 "$top/bench/memory.py" "$afdx"
 finish

@@ -66,6 +66,7 @@ refuses "run of captures of 17 MB" 0 "" /dev/null run table.toml whole out
 refuses "measure" 0 "" /dev/null measure table.toml in
 refuses "survey" 0 "" /dev/null survey table.toml in
 refuses "trace" 0 "" /dev/null trace table.toml in out
+refuses "trace of two links, from the first frame" 0 "" /dev/null trace table.toml in out --link 10 --link 11 --relative
 refuses "network check" 0 "" /dev/null network check network.toml
 refuses "network jitter" 0 "" /dev/null network jitter network.toml
 refuses "help" 0 "" /dev/null --help

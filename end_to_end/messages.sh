@@ -12,6 +12,14 @@ cd "$room" || exit 1
 says() {
     echo "$1 $2" >>provoked.txt
     check "$2" ends "$1" "$2" "${input:-/dev/null}" "${@:3}"
+    check "$2, explained" explained "$1" "$2" "${input:-/dev/null}" "${@:3}"
+}
+
+# explained STATUS LINE FILE ARGUMENT..: with --explain it ends so too, and then says of the line's code what \`afdx explain\` says.
+explained() {
+    local code
+    code=$(sed -E 's/^afdx: ((table|capture|load|device) )?(\w+).*/\3/' <<<"$2")
+    "$afdx" explain "$code" >entry.txt && [ -s entry.txt ] && ends "$1" "$2"$'\n'"$(cat entry.txt)" "$3" --explain "${@:4}"
 }
 
 # cannot_write: a standard output that takes nothing.

@@ -201,6 +201,6 @@ check "no table" no_table
 check "help of network" helps network --help
 check "help of network check" helps network check --help
 check "no command of networks" ends 2 "afdx: usage" /dev/null network
-check "networks that are drawn by chance, with hostile senders" python3 "$top/end_to_end/networks.py" 40 "$afdx" "$room/drawn"
+check "networks that are drawn by chance, with hostile senders" python3 "$top/end_to_end/networks.py" 60 "$afdx" "$room/drawn"
 grep networks "$room/said"
 finish

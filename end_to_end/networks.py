@@ -2,15 +2,18 @@
 """A trial of networks: random ones of 2 to 5 switches, with senders that send whatever they like.
 
 They are the same ones each time, run by network_model.py and, if it is named, by the program, whose bytes and lines are then those
-of the model. The tables have the jitters that `jitter` finds. Of each link the frames that its first account passes leave each of its end
-ports, in order, each between the least and the most that `check` prints for its size; no later account polices a frame. With less jitter
-in some rows the program names the same rows as the model.
+of the model. Each third one is a ring in which frames come in, start and end on a grid of 5 us, so that many come in at one instant, at
+several ports and at several switches; what comes in begins in 1970 or in 2026. The tables have the jitters that `jitter` finds. Of each
+link the frames that its first account passes leave each of its end ports, in order, each between the least and the most that `check`
+prints for its size; no later account polices a frame. With less jitter in some rows the program names the same rows as the model.
 """
 import argparse
 import copy
 import subprocess
 import sys
-from collections.abc import Iterator
+from collections import Counter
+from collections.abc import Iterator, Sequence
+from dataclasses import dataclass
 from pathlib import Path
 from random import Random
 
@@ -22,16 +25,35 @@ from network_model import End, Network, Row, Wire
 
 MILLISECOND = 1_000_000
 MBIT = {800: 10, 80: 100, 8: 1000}
+GRID = 5_000  # ns
+BEGINS = [20 * MILLISECOND, 1_790_000_000 * model.SECOND]  # in 1970 and in 2026
 
 
 # --- A network ---
 
 
+@dataclass(frozen=True)
+class Range:
+    """What the numbers of a network are drawn from."""
+
+    trunks: Sequence[int]  # ns of a byte, of lines between switches
+    lines: Sequence[int]  # those of end systems' lines
+    delays: Sequence[int]  # ns, of wires
+    latencies: Sequence[int]  # us
+    sizes: Sequence[int]  # bytes, of links' largest frames
+    links: Sequence[int]  # how many
+
+
+FREE = Range([8, 80, 80, 80], [8, 80, 80, 800], [0, 25, 12_345], range(1, 101), [64, 64, 200, 1518], range(3, 11))
+# At 100 Mbit/s a frame of 105 bytes occupies a line for 10 us and one of 230 bytes for 20 us.
+TIED = Range([80], [80], [0, 0, GRID, 4 * GRID], [5, 10, 20], [105, 230], range(8, 17))
+
+
 class Plan:
     """Switches that get their ports one by one."""
 
-    def __init__(self, chance: Random) -> None:
-        self.chance = chance
+    def __init__(self, chance: Random, drawn: Range) -> None:
+        self.chance, self.drawn = chance, drawn
         self.names = list("ABCDE")[:chance.randint(2, 5)]
         self.ticks: dict[str, list[int]] = {name: [] for name in self.names}
         self.open: list[End] = []  # end systems' ports
@@ -43,31 +65,37 @@ class Plan:
 
     def wire(self, start: End, end: End) -> None:
         place = f"wire {len(self.wires) + 1}"
-        self.wires.append(Wire(place, start, end, self.chance.choice([0, 25, 12_345])))
+        self.wires.append(Wire(place, start, end, self.chance.choice(self.drawn.delays)))
 
     def cable(self, name: str, other: str) -> None:
         """Both directions, at one speed."""
-        tick = self.chance.choice([8, 80, 80, 80])
+        tick = self.chance.choice(self.drawn.trunks)
         here, there = self.port(name, tick), self.port(other, tick)
         self.wire(here, there)
         self.wire(there, here)
 
     def one_way(self, name: str, other: str) -> None:
-        tick = self.chance.choice([8, 80, 80, 80])
+        tick = self.chance.choice(self.drawn.trunks)
         self.wire(self.port(name, tick), self.port(other, tick))
 
+    def end_systems(self, least: int, most: int) -> None:
+        """So many more at each switch."""
+        for name in self.names:
+            self.open += [self.port(name, self.chance.choice(self.drawn.lines)) for _ in range(self.chance.randint(least, most))]
 
-def draw_plan(chance: Random) -> Plan:
-    """A tree of cables, or a ring in one direction; each switch has a few end systems."""
-    plan = Plan(chance)
-    if chance.random() < 0.4:
+
+def draw_plan(chance: Random, drawn: Range) -> Plan:
+    """A tree of cables or a ring, if it is tied always that, in one direction or in both; each switch has a few end systems."""
+    plan = Plan(chance, drawn)
+    plan.end_systems(0, 1)  # whose ports come before those of wires, where frames come in at one instant
+    if drawn is TIED or chance.random() < 0.4:
+        join = plan.cable if len(plan.names) > 2 and chance.random() < 0.3 else plan.one_way
         for name, other in zip(plan.names, plan.names[1:] + plan.names[:1]):
-            plan.one_way(name, other)
+            join(name, other)
     else:
         for number, name in enumerate(plan.names[1:], 1):
             plan.cable(chance.choice(plan.names[:number]), name)
-    for name in plan.names:
-        plan.open += [plan.port(name, chance.choice([8, 80, 80, 800])) for _ in range(chance.randint(2, 3))]
+    plan.end_systems(1, 2)
     return plan
 
 
@@ -98,12 +126,12 @@ def rows_of(plan: Plan, source: End, ends: list[End]) -> dict[str, tuple[int, se
 
 
 def draw_links(chance: Random, plan: Plan, tables: dict[str, model.Table]) -> None:
-    for number in chance.sample(range(65_536), chance.randint(3, 10)):
+    for number in chance.sample(range(65_536), chance.choice(plan.drawn.links)):
         source = chance.choice(plan.open)
         others = [end for end in plan.open if end != source]
         ends = chance.sample(others, min(len(others), chance.choice([1, 1, 2, 3])))
         bag, jitter = MILLISECOND << chance.randint(0, 3), 1000 * chance.choice([0, 0, chance.randint(1, 2_000)])
-        size, police = chance.choice([64, 64, 200, 1518]), chance.choice(model.POLICINGS)
+        size, police = chance.choice(plan.drawn.sizes), chance.choice(model.POLICINGS)
         for name, (port, to) in rows_of(plan, source, ends).items():
             tables[name].links.append(model.Link(number, port, sorted(to), bag, jitter, size, chance.choice(model.PRIORITIES), police))
 
@@ -113,11 +141,11 @@ def draw_least(chance: Random, latency: int) -> int:
     return 1000 * chance.choice([latency // 1000, 0, chance.randint(0, latency // 1000)])
 
 
-def draw_network(chance: Random) -> Network:
-    plan = draw_plan(chance)
+def draw_network(chance: Random, drawn: Range) -> Network:
+    plan = draw_plan(chance, drawn)
     tables: dict[str, model.Table] = {}
     for name in plan.names:
-        latency = 1000 * chance.choice([0, chance.randint(1, 100)])
+        latency = 1000 * chance.choice([0, chance.choice(drawn.latencies)])
         ports = [model.Port(number, tick, 16_777_216, 500_000_000, latency) for number, tick in enumerate(plan.ticks[name], 1)]
         tables[name] = model.Table(bytes.fromhex("03000000"), ports, [], latency)
     draw_links(chance, plan, tables)
@@ -125,10 +153,10 @@ def draw_network(chance: Random) -> Network:
     return network_model.network_of(switches, plan.wires, tables)
 
 
-def accepted_network(chance: Random) -> Network:
+def accepted_network(chance: Random, drawn: Range) -> Network:
     """A network whose jitters a table can have."""
     while True:
-        net = draw_network(chance)
+        net = draw_network(chance, drawn)
         try:
             if network_model.jitter(net)[1] is None:
                 network_model.accept(net)
@@ -157,14 +185,30 @@ def noise(chance: Random, net: Network, at: int) -> Iterator[babblers.Frame]:
                frame(number, size, chance.choice(["03000000", "03000000", "07000000"])))
 
 
-def captures(chance: Random, net: Network) -> dict[End, bytes]:
-    at = 20 * MILLISECOND
+def on_the_grid(chance: Random, links: list[model.Link], at: int) -> Iterator[babblers.Frame]:
+    """A few frames of each link, now and again, each at one of nine instants."""
+    for link in links:
+        for number in range(chance.randint(4, 9)):
+            for _ in range(chance.randint(1, 3)):
+                size = chance.choice([size for size in TIED.sizes if size <= link.max_size])
+                yield at + number * link.bag + GRID * chance.randint(0, 8), 0, frame(link.id, size)
+
+
+def captures(chance: Random, net: Network, drawn: Range) -> dict[End, bytes]:
+    at = chance.choice(BEGINS)
     given: dict[End, bytes] = {}
     for end in network_model.open_ends(net):
         links = [row.link for row in net.rows if row.switch == end.switch and row.link.source == end.port]
-        frames = [*bursts(chance, links, at), *noise(chance, net, at)]
-        given[end] = babblers.capture([(max(stamp, 0), lacking, data) for stamp, lacking, data in frames])
+        frames = on_the_grid(chance, links, at) if drawn is TIED else bursts(chance, links, at)
+        given[end] = babblers.capture([(max(stamp, 0), lacking, data) for stamp, lacking, data in [*frames, *noise(chance, net, at)]])
     return given
+
+
+def drawn_network(number: int, chance: Random) -> tuple[Network, dict[End, bytes]]:
+    """A network, and what comes in; each third one is tied."""
+    drawn = FREE if number % 3 else TIED
+    net = accepted_network(chance, drawn)
+    return net, captures(chance, net, drawn)
 
 
 # --- What must be so ---
@@ -213,6 +257,18 @@ def wrong_of(net: Network, given: dict[End, bytes], outcomes: dict[str, model.Ou
             line = next(line for line in outcomes[row.switch].report.splitlines() if line.startswith(f"link {row.link.id} "))
             if not line.endswith(" policed 0"):
                 yield f"switch {row.switch} {line}"
+
+
+def ties_of(net: Network, given: dict[End, bytes], outcomes: dict[str, model.Outcome]) -> int:
+    """How many frames come over a wire at the instant at which others come in at another port of the switch."""
+    found = 0
+    for name in net.names:
+        texts = network_model.texts_at(net, name, given, network_model.brought(net, name, outcomes))
+        stamps = {port: Counter(record.stamp for record in network_model.written(text)) for port, text in texts.items()}
+        wired = {wire.end.port for wire in net.wires if wire.end.switch == name}
+        found += sum(count for port in wired for stamp, count in stamps[port].items()
+                     if any(stamp in stamps[other] for other in stamps if other != port))
+    return found
 
 
 # --- The program ---
@@ -306,13 +362,13 @@ def main() -> None:
     given = parser.parse_args()
     if given.afdx and not given.room:
         parser.error("a folder is missing")
-    faults, inner = 0, 0
+    faults, inner, ties = 0, 0, 0
     for number in range(1, given.count + 1):
         chance = Random(number)
-        net = accepted_network(chance)
-        sent = captures(chance, net)
+        net, sent = drawn_network(number, chance)
         outcomes = network_model.run(net, sent)
         inner += sum(len(model.records_of(outcomes[wire.start.switch].captures[wire.start.port], 0)) for wire in net.wires)
+        ties += ties_of(net, sent, outcomes)
         wrong = list(wrong_of(net, sent, outcomes))
         if given.afdx:
             wrong += differs(given.afdx, given.room / str(number), net, sent, outcomes)
@@ -320,7 +376,7 @@ def main() -> None:
         for line in wrong:
             print(f"network {number}: {line}")
         faults += bool(wrong)
-    print(f"{given.count} networks, {inner} frames over wires, {faults} networks with faults")
+    print(f"{given.count} networks, {inner} frames over wires, {ties} of them with others at one instant, {faults} networks with faults")
     sys.exit(bool(faults))
 
 

@@ -263,6 +263,7 @@ afdx run --un<TAB> tab<TAB> inn<TAB> out<TAB> | afdx run --unchecked table.toml 
 afdx run --verd<TAB> --fail<TAB> lost tab<TAB> inn<TAB> out<TAB> | afdx run --verdict --fail-on lost table.toml inner outer
 afdx alone --id 10 --jit<TAB> | afdx alone --id 10 --jitter
 afdx --vers<TAB> | afdx --version
+afdx --expl<TAB> chec<TAB> tab<TAB> | afdx --explain check table.toml
 afdx-view --ans<TAB> old<TAB> tab<TAB> | afdx-view --answers older table.toml
 END
 for shell in bash zsh fish; do

@@ -76,8 +76,7 @@ def main() -> None:
     count, faults, inner = parser.parse_args().count, 0, 0
     for number in range(1, count + 1):
         chance = random.Random(number)
-        net = networks.accepted_network(chance)
-        given = networks.captures(chance, net)
+        net, given = networks.drawn_network(number, chance)
         outcomes = run_network(net, number, given)
         if outcomes is None:
             continue

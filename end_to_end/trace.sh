@@ -9,7 +9,7 @@ afdx=${AFDX:-$top/crates/afdx/out/afdx}
 network=$top/examples/network
 cd "$room" || exit 1
 
-# as_modelled TABLE IN [--unchecked]: the two files are the model's, with status 0; nothing else was put, and nothing was said.
+# as_modelled TABLE IN [OPTION..]: the two files are the model's, with status 0; nothing else was put, and nothing was said.
 as_modelled() {
     rm -rf rows wanted && mkdir rows wanted
     "$afdx" trace "$1" "$2" rows "${@:3}" >lines.txt 2>said.txt &&
@@ -50,6 +50,49 @@ END
         [ "$(cat pandas.txt)" = "Int64 int64 object" ]
 }
 
+# selects TABLE IN LINKS [OPTION..]: with a --link for each of LINKS, which a comma parts, the two files are the model's, and their lines
+# are those of the whole files with one of these links, as they stand there.
+selects() {
+    local link options=()
+    for link in ${3//,/ }; do options+=(--link "$link"); done
+    as_modelled "$1" "$2" "${@:4}" && rm -rf whole && mv rows whole && as_modelled "$1" "$2" "${@:4}" "${options[@]}" &&
+        awk -F, -v links=",$3," 'FNR == 1 || ($5 != "" && index(links, "," $5 ","))' whole/arrivals.csv | cmp - rows/arrivals.csv &&
+        awk -F, -v links=",$3," 'FNR == 1 || index(links, "," $4 ",")' whole/departures.csv | cmp - rows/departures.csv
+}
+
+# some LINKS [OPTION..]: of the example so; both files have lines of these links.
+some() {
+    selects "$network/table.toml" "$network/in" "$@" && [ "$(wc -l <rows/arrivals.csv)" -gt 1 ] && [ "$(wc -l <rows/departures.csv)" -gt 1 ]
+}
+
+# none LINKS: of the example so; both files are the heading alone.
+none() { selects "$network/table.toml" "$network/in" "$1" && [ "$(cat rows/*.csv | wc -l)" -eq 2 ]; }
+
+# counts_from_first TABLE IN [OPTION..]: with --relative the two files are the model's; each instant is by the first frame's stamp less than
+# without it, and all other fields are the same.
+counts_from_first() {
+    as_modelled "$1" "$2" "${@:3}" && rm -rf whole && mv rows whole && as_modelled "$@" --relative &&
+        first=$("$afdx" survey "$1" "$2" --unchecked | awk '$1 == "span" { print $3 }') &&
+        less "$first" 4 whole/arrivals.csv rows/arrivals.csv && less "$first" 7,8,9 whole/departures.csv rows/departures.csv
+}
+
+# less N FIELDS WHOLE LESS: LESS is WHOLE, with N less in these fields where they are not empty. awk has no numbers of 61 bits.
+less() {
+    /usr/bin/python3 - "$@" <<'END'
+import sys
+from pathlib import Path
+
+less, fields = int(sys.argv[1]), [int(field) - 1 for field in sys.argv[2].split(",")]
+whole, given = (Path(name).read_text(encoding="ascii").splitlines() for name in sys.argv[3:])
+for number, line in enumerate(whole[1:], 1):
+    words = line.split(",")
+    for field in fields:
+        words[field] = words[field] and str(int(words[field]) - less)
+    whole[number] = ",".join(words)
+sys.exit(whole != given)
+END
+}
+
 # tied_as_modelled: captures full of ties, most of them at ports where frames are lost.
 tied_as_modelled() {
     local seed
@@ -69,6 +112,7 @@ drawn_as_modelled() {
 }
 
 sed 's/^mbit = .*/mbit = 10/; s/^buffer = .*/buffer = 1000/; s/^max_delay_us = .*/max_delay_us = 300/' "$network/table.toml" >tight.toml
+third_version tight.toml 40 >tight-later.toml
 
 check "the example network" joined "$network/table.toml" "$network/in"
 check "the same on a faster switch" joined "$network/faster.toml" "$network/in"
@@ -78,6 +122,16 @@ check "pandas has each number, read as FORMATS says" reads_by_pandas
 check "every other fate is reported" shows ',cut,,$' ',short,,$' ',foreign,,$' ',no-link,,$' ',201,.*,wrong-port,,$' ',too-big,,$'
 check "ends, arrivals, starts and ages at one instant, also with a latency" tied_as_modelled
 check "networks that are drawn by chance, with a port that babbles" drawn_as_modelled
+check "one link" some 401
+check "two links" some 401,101
+check "in another order, one of them twice" some 101,401,101
+check "links of frames that the filter dropped too" some 201,400
+check "a link that the table lacks" none 77
+check "beside one that it has" some 77,401
+check "the least and the greatest number" none 0,65535
+check "stamps from the first frame" counts_from_first "$network/table.toml" "$network/in"
+check "also of selected links, which the first frame is not of" counts_from_first "$network/table.toml" "$network/in" --link 401
+check "also at tight ports, behind a latency" counts_from_first tight-later.toml "$network/in" --unchecked
 check "the load is checked first" ends 4 "$("$afdx" check tight.toml 2>&1 >/dev/null)" /dev/null trace tight.toml "$network/in" rows
 check "no file" ends 5 "afdx: device get none.toml" /dev/null trace none.toml "$network/in" rows
 check "no captures" ends 5 "afdx: device get nowhere/port-1.pcap" /dev/null trace "$network/table.toml" nowhere rows

@@ -7,13 +7,16 @@ from dataclasses import dataclass
 from described import Command, Row
 
 FOLDER = re.compile("(the|a) folder", re.IGNORECASE)
+CODE = re.compile("(the|a) code", re.IGNORECASE)
 
 
 def kind_of(row: Row, value: str) -> str:
     """Says what a value is: `folders`, `files`, or `nothing` that a shell can complete.
 
-    An argument is a file unless it is a folder. The value of an option is a file only if it is called so.
+    An argument is a file unless it is a folder or a code. The value of an option is a file only if it is called so.
     """
+    if CODE.match(row.words):
+        return "nothing"
     if value == "FOLDER" or FOLDER.match(row.words):
         return "folders"
     return "files" if not row.names or value == "FILE" or "." in value else "nothing"
@@ -34,9 +37,10 @@ class Place:
 
 
 def places(command: Command) -> Iterator[Place]:
-    """Goes through the arguments of a command."""
+    """Goes through the arguments of a command that a shell can complete."""
     for number, row in enumerate(command.arguments):
-        yield Place(number, row.head.strip("<>"), kind_of(row, row.head))
+        if (kind := kind_of(row, row.head)) != "nothing":
+            yield Place(number, row.head.strip("<>"), kind)
 
 
 @dataclass

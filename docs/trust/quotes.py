@@ -4,7 +4,8 @@
 It writes each quote anew from its source, also if that has moved to another file, and each count. It fails if a quote is not its
 source's text, if a name is not found, if a count is not what it counts, if something that the contracts of ROOTS rest on is not
 quoted, or something else is, if a word of the kit has no meaning in the table of these words, and if what a quote has under
-another name (`use .. as`) is in backticks under that name on no page.
+another name (`use .. as`) is in backticks under that name on no page. Constants of the code are not quoted: a definition that names
+one says what it is.
 
 A quote is a line `<!-- quote FILE NAME.. -->`, and after it the file's name and the block of code, which this script writes. In a
 file of specs/ a NAME is that of a definition. In a file of src/ it is that of a type, a trait or a function (its docstring and
@@ -39,6 +40,7 @@ ROOTS = [
     ("afdx_session", "Session.finish"),
     ("afdx_jitter", "jitter_enough"),
     ("afdx_network", "run"),
+    ("afdx_network", "run_unchecked"),
     ("afdx_network", "ways_deliver"),
     ("afdx_network", "ways_are_there"),
     ("afdx_network", "network_runs_deliver"),
@@ -173,7 +175,7 @@ def named(words: Names, brought: dict[str, str], here: dict[str, Place], kit: Na
     for word in words:
         if word in here:
             found.add(here[word])
-        elif word in brought:
+        elif word in brought and ".TheConstants." not in brought[word]:
             place = place_of(brought[word])
             if place is None:
                 kit.add(brought[word])

@@ -37,7 +37,7 @@ fn main(rt: HostRuntime) -> ExitCode {
             &mut err,
             &mut Disk::new(rt.alloc(), &rt),
         ),
-        Err(failure) => report(rt.alloc(), &failure, &mut err),
+        Err(failure) => report(rt.alloc(), &failure, false, &mut err),
     };
     ExitCode::from(ending.status)
 }

@@ -22,25 +22,26 @@ use Rattle.afdx_arguments.specs.declared.request.NoRequest.TheVariants.{Help, Us
 use Rattle.afdx_arguments.specs.declared.request.NetworkRequest.{NetworkRequest}
 use Rattle.afdx_arguments.specs.declared.request.Request.{Request}
 use Rattle.afdx_arguments.specs.declared.request.Request.TheVariants as request
-use Rattle.afdx_arguments.specs.Commands.{alone_app, check_app, size_app, paths_app, run_app, inputs_app, program}
-use Rattle.afdx_arguments.specs.Commands.{network_check_app, network_jitter_app, network_run_app, network_program}
+use Rattle.afdx_arguments.specs.Commands.{alone_app, check_app, size_app, paths_app, run_app, inputs_app, trace_app, explain_app, program}
+use Rattle.afdx_arguments.specs.Commands.{network_check_app, network_size_app, network_jitter_app, network_run_app, network_program}
+use Rattle.afdx_arguments.specs.Explaining.{HasEntry}
 use Rattle.afdx_arguments.specs.Requests.{HasNumber, HasLink, AsksFor, AsksOfNetwork, AsksIn, Explains, Reads}
 use Rattle.afdx_arguments.specs.Requests.{is_network, fault_in, faults_of, HasMatches, HasNoMatches}
 
 pub simple : is_simple program ≡ true
-unfolding program alone_app check_app size_app paths_app run_app inputs_app
+unfolding program alone_app check_app size_app paths_app run_app inputs_app trace_app explain_app
 simple = refl
 
 pub simple_and_free : is_simple_and_free program ≡ true
-unfolding program alone_app check_app size_app paths_app run_app inputs_app
+unfolding program alone_app check_app size_app paths_app run_app inputs_app trace_app explain_app
 simple_and_free = refl
 
 pub network_simple : is_simple network_program ≡ true
-unfolding network_program network_check_app network_jitter_app network_run_app
+unfolding network_program network_check_app network_size_app network_jitter_app network_run_app
 network_simple = refl
 
 pub network_simple_and_free : is_simple_and_free network_program ≡ true
-unfolding network_program network_check_app network_jitter_app network_run_app
+unfolding network_program network_check_app network_size_app network_jitter_app network_run_app
 network_simple_and_free = refl
 
 -- a text is one number, or none
@@ -82,16 +83,13 @@ entered m name rows = go (out-ArgMatches m).subcommand
 begins : (name a b : Text) → name ≡ a → name ≡ b → get_or a 0 0 ≡ get_or b 0 0
 begins name a b is_a is_b = ap (λ (t : Text). get_or t 0 0) (sym is_a ∙ is_b)
 
-module _ (sub : Option (Text × List Row)) (name : Text) (rows : List Row) (is : sub ≡ Some (name, rows)) where
-  asks_none : ((r : Request) → AsksFor (Some (name, rows)) r → ⊥) → (r : Request) → AsksFor sub r → ⊥
-  asks_none none r h = none r (subst (λ (s : Option (Text × List Row)). AsksFor s r) is h)
-
+module _ (name : Text) (rows : List Row) where
   -- the name of another subcommand begins with another letter
   other : (a b : Text) → (get_or a 0 0 ≡ get_or b 0 0 → ⊥) → name ≡ a → name ≡ b → ⊥
   other a b differ is_a is_b = differ (begins name a b is_a is_b)
 
-  pub no_link : name ≡ codes "alone" → ((link : Alone) → HasLink rows link → ⊥) → (r : Request) → AsksFor sub r → ⊥
-  no_link named none = asks_none go where
+  pub no_link : name ≡ codes "alone" → ((link : Alone) → HasLink rows link → ⊥) → (r : Request) → AsksFor (Some (name, rows)) r → ⊥
+  no_link named none = go where
     go : (r : Request) → AsksFor (Some (name, rows)) r → ⊥
     go (request.Alone link) h = none link h.1
     go (request.Check table) h = other (codes "alone") (codes "check") (λ bad. omega (arith, bad)) named h.0
@@ -99,7 +97,21 @@ module _ (sub : Option (Text × List Row)) (name : Text) (rows : List Row) (is :
     go (request.Run paths options) h = other (codes "alone") (codes "run") (λ bad. omega (arith, bad)) named h.0
     go (request.Measure inputs) h = other (codes "alone") (codes "measure") (λ bad. omega (arith, bad)) named h.0
     go (request.Survey inputs) h = other (codes "alone") (codes "survey") (λ bad. omega (arith, bad)) named h.0
-    go (request.Trace paths) h = other (codes "alone") (codes "trace") (λ bad. omega (arith, bad)) named h.0
+    go (request.Trace paths options) h = other (codes "alone") (codes "trace") (λ bad. omega (arith, bad)) named h.0
+    go (request.Explain entry) h = other (codes "alone") (codes "explain") (λ bad. omega (arith, bad)) named h.0
+    go (request.Network r) h = h
+
+  pub no_entry : name ≡ codes "explain" → ((entry : List ℕ) → HasEntry rows entry → ⊥) → (r : Request) → AsksFor (Some (name, rows)) r → ⊥
+  no_entry named none = go where
+    go : (r : Request) → AsksFor (Some (name, rows)) r → ⊥
+    go (request.Explain entry) h = none entry.now h.1
+    go (request.Alone link) h = other (codes "explain") (codes "alone") (λ bad. omega (arith, bad)) named h.0
+    go (request.Check table) h = other (codes "explain") (codes "check") (λ bad. omega (arith, bad)) named h.0
+    go (request.Size table) h = other (codes "explain") (codes "size") (λ bad. omega (arith, bad)) named h.0
+    go (request.Run paths options) h = other (codes "explain") (codes "run") (λ bad. omega (arith, bad)) named h.0
+    go (request.Measure inputs) h = other (codes "explain") (codes "measure") (λ bad. omega (arith, bad)) named h.0
+    go (request.Survey inputs) h = other (codes "explain") (codes "survey") (λ bad. omega (arith, bad)) named h.0
+    go (request.Trace paths options) h = other (codes "explain") (codes "trace") (λ bad. omega (arith, bad)) named h.0
     go (request.Network r) h = h
 
 -- an error of `clap`
@@ -138,7 +150,8 @@ none_of_networks arguments none (request.Size path) h = h
 none_of_networks arguments none (request.Run paths options) h = h
 none_of_networks arguments none (request.Measure inputs) h = h
 none_of_networks arguments none (request.Survey inputs) h = h
-none_of_networks arguments none (request.Trace paths) h = h
+none_of_networks arguments none (request.Trace paths options) h = h
+none_of_networks arguments none (request.Explain entry) h = h
 
 -- an error that a call returned
 pub reads_error : (arguments : List Text) (r : Result Request NoRequest) (n : NoRequest) → IsErr r × IsErrAnd r (λ x. x ≡ n) → Reads arguments (Err n) → Reads arguments r

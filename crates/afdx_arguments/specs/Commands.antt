@@ -2,7 +2,7 @@
 use Rattle.std.specs.Prelude.{codes, true, Some}
 use Rattle.clap.specs.Words.{App, Rule, Text, new_app, new_rule, with_rule, with_subcommand}
 use Rattle.clap.specs.Simple.{on_top}
-use Rattle.clap.specs.declared.builder.action.ArgAction.TheVariants.{SetTrue}
+use Rattle.clap.specs.declared.builder.action.ArgAction.TheVariants.{Append, SetTrue}
 use Rattle.clap.specs.declared.builder.value_parser.ValueParser.TheVariants.{Unsigned}
 
 -- an option with a whole number, which is required
@@ -20,6 +20,10 @@ flag_rule name = record (new_rule name) { long = Some name; action = Some SetTru
 abbrev pub list_rule : Text → Rule
 list_rule name = record (new_rule name) { long = Some name; value_names = 1 }
 
+-- an option with the number of a link, which may be there more than once
+abbrev pub links_rule : Text → Rule
+links_rule name = record (new_rule name) { long = Some name; value_names = 1; action = Some Append; parser = Some (Unsigned 0 65535) }
+
 -- afdx alone --id N --bag MS --jitter US --size N
 unfoldable pub alone_app : App
 alone_app =
@@ -34,7 +38,7 @@ check_app = with_rule (new_app (codes "check")) (path_rule (codes "TABLE"))
 unfoldable pub size_app : App
 size_app = with_rule (new_app (codes "size")) (path_rule (codes "TABLE"))
 
--- afdx trace TABLE IN OUT [--unchecked], and run with further ones
+-- a command with TABLE IN OUT [--unchecked], to which run and trace add their own
 unfoldable pub paths_app : Text → App
 paths_app name =
     with_rule (with_rule (with_rule (with_rule (new_app name) (path_rule (codes "TABLE"))) (path_rule (codes "IN"))) (path_rule (codes "OUT")))
@@ -44,18 +48,26 @@ paths_app name =
 unfoldable pub run_app : App
 run_app = with_rule (with_rule (paths_app (codes "run")) (flag_rule (codes "verdict"))) (list_rule (codes "fail-on"))
 
+-- afdx trace TABLE IN OUT [--unchecked] [--link N].. [--relative]
+unfoldable pub trace_app : App
+trace_app = with_rule (with_rule (paths_app (codes "trace")) (links_rule (codes "link"))) (flag_rule (codes "relative"))
+
 -- afdx measure TABLE IN [--unchecked], and survey with the same arguments
 unfoldable pub inputs_app : Text → App
 inputs_app name =
     with_rule (with_rule (with_rule (new_app name) (path_rule (codes "TABLE"))) (path_rule (codes "IN"))) (flag_rule (codes "unchecked"))
 
+-- afdx explain CODE
+unfoldable pub explain_app : App
+explain_app = with_rule (new_app (codes "explain")) (path_rule (codes "CODE"))
+
 -- afdx network, whose own arguments are read by the program below
 abbrev pub network_app : App
 network_app = new_app (codes "network")
 
--- afdx, which wants a subcommand and prints its version
+-- afdx [--explain], which wants a subcommand and prints its version
 abbrev pub bare_program : App
-bare_program = on_top (λ s. record s { subcommand_required = true; has_version = true }) (new_app (codes "afdx"))
+bare_program = with_rule (on_top (λ s. record s { subcommand_required = true; has_version = true }) (new_app (codes "afdx"))) (flag_rule (codes "explain"))
 
 unfoldable pub program : App
 program =
@@ -63,10 +75,12 @@ program =
     (with_subcommand
     (with_subcommand
     (with_subcommand
+    (with_subcommand
     (with_subcommand (with_subcommand (with_subcommand (with_subcommand bare_program alone_app.top) check_app.top) size_app.top) run_app.top)
     (inputs_app (codes "measure")).top)
     (inputs_app (codes "survey")).top)
-    (paths_app (codes "trace")).top)
+    trace_app.top)
+    explain_app.top)
     network_app.top
 
 -- ---- networks
@@ -75,17 +89,24 @@ program =
 unfoldable pub network_check_app : App
 network_check_app = with_rule (new_app (codes "check")) (path_rule (codes "NET"))
 
+-- network size NET
+unfoldable pub network_size_app : App
+network_size_app = with_rule (new_app (codes "size")) (path_rule (codes "NET"))
+
 -- network jitter NET
 unfoldable pub network_jitter_app : App
 network_jitter_app = with_rule (new_app (codes "jitter")) (path_rule (codes "NET"))
 
--- network run NET IN OUT
+-- network run NET IN OUT [--unchecked]
 unfoldable pub network_run_app : App
-network_run_app = with_rule (with_rule (with_rule (new_app (codes "run")) (path_rule (codes "NET"))) (path_rule (codes "IN"))) (path_rule (codes "OUT"))
+network_run_app =
+    with_rule (with_rule (with_rule (with_rule (new_app (codes "run")) (path_rule (codes "NET"))) (path_rule (codes "IN"))) (path_rule (codes "OUT")))
+    (flag_rule (codes "unchecked"))
 
 -- network, which wants a subcommand
 abbrev pub bare_network : App
 bare_network = on_top (λ s. record s { subcommand_required = true }) (new_app (codes "network"))
 
 unfoldable pub network_program : App
-network_program = with_subcommand (with_subcommand (with_subcommand bare_network network_check_app.top) network_jitter_app.top) network_run_app.top
+network_program =
+    with_subcommand (with_subcommand (with_subcommand (with_subcommand bare_network network_check_app.top) network_size_app.top) network_jitter_app.top) network_run_app.top

@@ -1,3 +1,4 @@
 pub mod Commands
+pub mod Explaining
 pub mod FailOn
 pub mod Requests

@@ -1,14 +1,16 @@
 -- What the arguments ask for.
-use Rattle.std.specs.Prelude.{◌≡◌, ◌≢◌, ◌⊎◌, ℕ, Bool, codes, List, [], drop, slice_get, Option, Some, None, Result, Ok, Err, true, false}
+use Rattle.std.specs.Prelude.{◌≡◌, ◌≢◌, ◌⊎◌, ℕ, Bool, codes, List, [], drop, slice_get, unwrap_or, Option, Some, None, Result, Ok, Err, true, false}
+use Rattle.std.specs.List.{AllZip}
 use Rattle.std.specs.Option.{option_map_or}
 use Rattle.std.specs.Str.{bytes_eq}
 use Rattle.std.specs.Str.Parse.{ParsesUnsigned}
-use Rattle.clap.specs.Words.{App, IsAmong, Kinds, Row, Text, fault_of, first_of, one_of, subcommand_of}
+use Rattle.clap.specs.Words.{App, IsAmong, Kinds, Row, Text, all_of, fault_of, first_of, one_of, subcommand_of}
 use Rattle.clap.specs.declared.error.kind.ErrorKind.{ErrorKind}
 use Rattle.clap.specs.declared.error.kind.ErrorKind.TheVariants.{DisplayHelp, DisplayVersion, OutOfMemory}
 use Rattle.afdx_alone.specs.declared.link.Alone.{Alone}
 use Rattle.afdx_arguments.specs.declared.request.Paths.{Paths}
 use Rattle.afdx_arguments.specs.declared.request.RunOptions.{RunOptions}
+use Rattle.afdx_arguments.specs.declared.request.TraceOptions.{TraceOptions}
 use Rattle.afdx_arguments.specs.declared.request.Inputs.{Inputs}
 use Rattle.afdx_arguments.specs.declared.request.NetworkPaths.{NetworkPaths}
 use Rattle.afdx_arguments.specs.declared.request.NetworkRequest.{NetworkRequest}
@@ -20,6 +22,7 @@ use Rattle.afdx_arguments.specs.declared.request.NoRequest.TheVariants.{Help, Us
 use Rattle.afdx_alone.specs.Link.{HasNumbers}
 use Rattle.afdx_arguments.specs.FailOn.{Chooses}
 use Rattle.afdx_arguments.specs.Commands.{program, network_program}
+use Rattle.afdx_arguments.specs.Explaining.{HasEntry}
 
 -- the entry of an option is this number
 abbrev pub HasNumber : Text → List Row → ℕ → Type 0
@@ -62,18 +65,29 @@ pub record HasOptions (rows : List Row) (options : RunOptions) : Type 0 where
   pub verdict : options.verdict ≡ is_set (codes "verdict") rows
   pub fail_on : Chooses (first_of (codes "fail-on") rows) options.fail_on
 
--- the entries name the files of a network's run
+-- these texts are these numbers of links, one by one
+abbrev pub AreLinks : List Text → List ℕ → Type 0
+AreLinks = AllZip (λ text link. ParsesUnsigned {E = Unit {0}} 16 10 text (Ok link))
+
+-- the entries say what is asked of a trace beside its files: the links in the order of their options, none where there is no such option
+pub record HasTraceOptions (rows : List Row) (options : TraceOptions) : Type 0 where
+  pub links : AreLinks (unwrap_or (all_of (codes "link") rows) []) options.links.items
+  pub relative : options.relative ≡ is_set (codes "relative") rows
+
+-- the entries name the files of a network's run, and whether it is unchecked
 pub record HasNetworkPaths (rows : List Row) (paths : NetworkPaths) : Type 0 where
   pub network : first_of (codes "NET") rows ≡ Some paths.network.now
   pub input : first_of (codes "IN") rows ≡ Some paths.input.now
   pub output : first_of (codes "OUT") rows ≡ Some paths.output.now
   pub has_input : paths.input.now ≢ []
   pub has_output : paths.output.now ≢ []
+  pub unchecked : paths.unchecked ≡ is_set (codes "unchecked") rows
 
 -- the subcommand of networks and its entries ask for this
 abbrev pub AsksOfNetwork : Option (Text × List Row) → NetworkRequest → Type 0
 AsksOfNetwork None r = ⊥
 AsksOfNetwork (Some (name, rows)) (network.Check path) = (name ≡ codes "check") × (first_of (codes "NET") rows ≡ Some path.now)
+AsksOfNetwork (Some (name, rows)) (network.Size path) = (name ≡ codes "size") × (first_of (codes "NET") rows ≡ Some path.now)
 AsksOfNetwork (Some (name, rows)) (network.Jitter path) = (name ≡ codes "jitter") × (first_of (codes "NET") rows ≡ Some path.now)
 AsksOfNetwork (Some (name, rows)) (network.Run paths) = (name ≡ codes "run") × HasNetworkPaths rows paths
 
@@ -86,7 +100,8 @@ AsksFor (Some (name, rows)) (request.Size table) = (name ≡ codes "size") × (f
 AsksFor (Some (name, rows)) (request.Run paths options) = (name ≡ codes "run") × HasPaths rows paths × HasOptions rows options
 AsksFor (Some (name, rows)) (request.Measure inputs) = (name ≡ codes "measure") × HasInputs rows inputs
 AsksFor (Some (name, rows)) (request.Survey inputs) = (name ≡ codes "survey") × HasInputs rows inputs
-AsksFor (Some (name, rows)) (request.Trace paths) = (name ≡ codes "trace") × HasPaths rows paths
+AsksFor (Some (name, rows)) (request.Trace paths options) = (name ≡ codes "trace") × HasPaths rows paths × HasTraceOptions rows options
+AsksFor (Some (name, rows)) (request.Explain entry) = (name ≡ codes "explain") × HasEntry rows entry.now
 AsksFor (Some (name, rows)) (request.Network r) = ⊥
 
 -- ---- the two programs

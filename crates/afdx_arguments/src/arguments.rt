@@ -1,25 +1,27 @@
 //! From the arguments to what they ask for.
 
-ghost use Rattle.std.specs.Prelude.{◌≡◌, ℕ, codes, true, false, map, option_map, string_bytes, MatchOption, MatchResult, Some};
+ghost use Rattle.std.specs.Prelude.{◌≡◌, ℕ, codes, true, false, map, option_map, unwrap_or, string_bytes, List, [], IfOk, MatchOption, MatchResult, Some};
 ghost use Rattle.std.specs.Str.{bytes_eq};
-ghost use Rattle.clap.specs.Words.{app_of, fault_of, first_of, found_of, is_simple, is_simple_and_free, kind_of, rows_of, subcommand_rows_of};
+ghost use Rattle.clap.specs.Words.{all_of, app_of, fault_of, first_of, found_of, is_simple, is_simple_and_free, kind_of, rows_of, subcommand_rows_of};
 ghost use Rattle.afdx_alone.specs.declared.link.Alone.{Alone as Link};
 ghost use Rattle.afdx_arguments.specs.declared.request.Paths.{Paths as Files};
 ghost use Rattle.afdx_arguments.specs.declared.request.Inputs.{Inputs as Given};
 ghost use Rattle.afdx_arguments.specs.declared.request.RunOptions.{RunOptions as Options};
+ghost use Rattle.afdx_arguments.specs.declared.request.TraceOptions.{TraceOptions as Shown};
 ghost use Rattle.afdx_arguments.specs.declared.request.Request.{Request as Asked};
-ghost use Rattle.afdx_arguments.specs.Requests.{HasNumber, is_set, HasLink, HasPaths, HasInputs, HasOptions, AsksFor, Explains, Reads};
+ghost use Rattle.afdx_arguments.specs.Requests.{HasNumber, is_set, HasLink, HasPaths, HasInputs, HasOptions, AreLinks, HasTraceOptions, AsksFor, Explains, Reads};
 ghost use Rattle.afdx_arguments.specs.Requests.{HasMatches, HasNoMatches, is_network};
 
 use crate::command::program;
+use crate::explaining::entry_asked;
 use crate::fail_on::FailOn;
 use crate::network_arguments::network_asked;
 use crate::network_command::network_program;
-use crate::request::{Inputs, NoRequest, Paths, Request, RunOptions};
+use crate::request::{Inputs, NoRequest, Paths, Request, RunOptions, TraceOptions};
 use afdx_alone::Alone;
 use clap::error::ErrorKind;
 use clap::{ArgMatches, Command, Error};
-use std::alloc::Global;
+use std::alloc::{AllocError, Global};
 
 /// The number of an option.
 fn number(matches: &ArgMatches<'_>, name: &str) -> Option<u64>
@@ -37,7 +39,7 @@ pub(crate) fn argument<'a>(matches: &ArgMatches<'a>, name: &str) -> Option<&'a s
 }
 
 /// Whether a flag is set: `clap` gives it as an argument.
-fn flag(matches: &ArgMatches<'_>, name: &str) -> bool
+pub(crate) fn flag(matches: &ArgMatches<'_>, name: &str) -> bool
     ensures { result ≡ is_set name.now (rows_of (found_of matches.now)) }
 {
     match argument(matches, name) {
@@ -109,11 +111,68 @@ fn options_of(matches: &ArgMatches<'_>) -> Option<RunOptions>
     Some(RunOptions { verdict, fail_on })
 }
 
-/// What a subcommand of runs asks for.
+/// The numbers of links that texts are.
+fn links_in(alloc: Global, texts: &[&str]) -> Result<Option<Vec<u16>>, AllocError>
+    ensures { IfOk result (λ found. MatchOption found ((links : List ℕ) → AreLinks (map (λ t. t.now) texts.now) links → ⊥)
+        (λ links. AreLinks (map (λ t. t.now) texts.now) links.items)) }
+{
+    let mut links = Vec::new(alloc);
+    for text in texts {
+        let Ok(link) = text.parse::<u16>() else {
+            return Ok(None);
+        };
+        links.push(link)?;
+    }
+    Ok(Some(links))
+}
+
+/// The links of a trace's options.
+fn links_of(alloc: Global, matches: &ArgMatches<'_>) -> Result<Option<Vec<u16>>, AllocError>
+    ensures { IfOk result (λ found. MatchOption found
+        ((links : List ℕ) → AreLinks (unwrap_or (all_of (codes "link") (rows_of (found_of matches.now))) []) links → ⊥)
+        (λ links. AreLinks (unwrap_or (all_of (codes "link") (rows_of (found_of matches.now))) []) links.items)) }
+{
+    match matches.get_strs("link") {
+        Some(texts) => links_in(alloc, texts),
+        None => Ok(Some(Vec::new(alloc))),
+    }
+}
+
+/// What is asked of a trace beside its files.
+fn trace_options_of(
+    alloc: Global,
+    matches: &ArgMatches<'_>,
+) -> Result<Option<TraceOptions>, AllocError>
+    ensures { IfOk result (λ found. MatchOption found ((options : Shown) → HasTraceOptions (rows_of (found_of matches.now)) options → ⊥)
+        (HasTraceOptions (rows_of (found_of matches.now)))) }
+{
+    let Some(links) = links_of(alloc, matches)? else {
+        return Ok(None);
+    };
+    let relative = flag(matches, "relative");
+    Ok(Some(TraceOptions { links, relative }))
+}
+
+/// What the subcommand `trace` asks for.
+fn trace_asked<'a>(alloc: Global, inner: &ArgMatches<'a>) -> Result<Option<Request<'a>>, AllocError>
+    ensures { IfOk result (λ found. MatchOption found ((request : Asked) → AsksFor (Some (codes "trace", rows_of (found_of inner.now))) request → ⊥)
+        (AsksFor (Some (codes "trace", rows_of (found_of inner.now))))) }
+{
+    let Some(paths) = paths_of(inner) else {
+        return Ok(None);
+    };
+    let Some(options) = trace_options_of(alloc, inner)? else {
+        return Ok(None);
+    };
+    Ok(Some(Request::Trace(paths, options)))
+}
+
+/// What another subcommand asks for.
 fn run_asked<'a>(name: &str, inner: &ArgMatches<'a>) -> Option<Request<'a>>
     requires alone { bytes_eq name.now (codes "alone") ≡ false }
     requires check { bytes_eq name.now (codes "check") ≡ false }
     requires size { bytes_eq name.now (codes "size") ≡ false }
+    requires trace { bytes_eq name.now (codes "trace") ≡ false }
     ensures { MatchOption result ((request : Asked) → AsksFor (Some (name.now, rows_of (found_of inner.now))) request → ⊥)
         (AsksFor (Some (name.now, rows_of (found_of inner.now)))) }
 {
@@ -127,20 +186,20 @@ fn run_asked<'a>(name: &str, inner: &ArgMatches<'a>) -> Option<Request<'a>>
     } else if name == "survey" {
         let inputs = inputs_of(inner)?;
         Some(Request::Survey(inputs))
-    } else if name == "trace" {
-        let paths = paths_of(inner)?;
-        Some(Request::Trace(paths))
+    } else if name == "explain" {
+        let entry = entry_asked(inner)?;
+        Some(Request::Explain(entry))
     } else {
         None
     }
 }
 
-/// What the subcommand that was entered asks for.
-fn asked<'a>(matches: &ArgMatches<'a>) -> Option<Request<'a>>
-    ensures { MatchOption result ((request : Asked) → AsksFor (subcommand_rows_of matches.now) request → ⊥)
-        (AsksFor (subcommand_rows_of matches.now)) }
+/// What a subcommand other than `trace` asks for.
+fn other_asked<'a>(name: &str, inner: &ArgMatches<'a>) -> Option<Request<'a>>
+    requires { bytes_eq name.now (codes "trace") ≡ false }
+    ensures { MatchOption result ((request : Asked) → AsksFor (Some (name.now, rows_of (found_of inner.now))) request → ⊥)
+        (AsksFor (Some (name.now, rows_of (found_of inner.now)))) }
 {
-    let (name, inner) = matches.subcommand()?;
     if name == "alone" {
         let link = alone_of(inner)?;
         Some(Request::Alone(link))
@@ -152,6 +211,21 @@ fn asked<'a>(matches: &ArgMatches<'a>) -> Option<Request<'a>>
         Some(Request::Size(table))
     } else {
         run_asked(name, inner)
+    }
+}
+
+/// What the subcommand that was entered asks for.
+fn asked<'a>(alloc: Global, matches: &ArgMatches<'a>) -> Result<Option<Request<'a>>, AllocError>
+    ensures { IfOk result (λ found. MatchOption found ((request : Asked) → AsksFor (subcommand_rows_of matches.now) request → ⊥)
+        (AsksFor (subcommand_rows_of matches.now))) }
+{
+    let Some((name, inner)) = matches.subcommand() else {
+        return Ok(None);
+    };
+    if name == "trace" {
+        trace_asked(alloc, inner)
+    } else {
+        Ok(other_asked(name, inner))
     }
 }
 
@@ -225,9 +299,10 @@ fn parse_other<'a>(
         return Err(NoRequest::Memory);
     };
     let matches = matches_of(alloc, command, arguments)?;
-    match asked(&matches) {
-        Some(request) => Ok(request),
-        None => Err(NoRequest::Usage),
+    match asked(alloc, &matches) {
+        Ok(Some(request)) => Ok(request),
+        Ok(None) => Err(NoRequest::Usage),
+        Err(_) => Err(NoRequest::Memory),
     }
 }
 
@@ -236,8 +311,8 @@ fn parse_other<'a>(
 /// # Errors
 ///
 /// `Help` with its text where `clap` is asked for help or the version; `Memory` where memory ran out; `Usage` where `clap` refuses
-/// the arguments for another cause, an option's number is out of its limits, IN or OUT is empty, or the list of what a run is to fail
-/// on has another word or one twice.
+/// the arguments for another cause, an option's number is out of its limits, IN or OUT is empty, the list of what a run is to fail
+/// on has another word or one twice, or a code is none of MESSAGES.
 ///
 /// O(arguments).
 pub fn parse<'a>(

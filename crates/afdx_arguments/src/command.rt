@@ -3,8 +3,10 @@
 ghost use Rattle.std.specs.Prelude.{◌≡◌, codes, false, IfOk};
 ghost use Rattle.clap.specs.Words.{App, app_of, new_app, rule_of, with_rule, with_subcommand};
 ghost use Rattle.clap.specs.declared.builder.command.Command.TheViews.{out-Command};
-ghost use Rattle.afdx_arguments.specs.Commands.{number_rule, path_rule, flag_rule, list_rule, alone_app, check_app, size_app, paths_app, run_app, inputs_app, network_app, bare_program, program};
+ghost use Rattle.afdx_arguments.specs.Commands.{number_rule, path_rule, flag_rule, list_rule, links_rule, alone_app, check_app, size_app, paths_app, run_app, inputs_app, trace_app};
+ghost use Rattle.afdx_arguments.specs.Commands.{network_app, bare_program, program};
 
+use crate::explaining::explain;
 use clap::builder::ValueParser;
 use clap::{Arg, ArgAction, Command};
 use std::alloc::{AllocError, Global};
@@ -30,7 +32,7 @@ pub(crate) fn path<'a>(alloc: Global, name: &'a str, about: &'a str) -> Arg<'a>
     Arg::new(alloc, name).help(about).required(true)
 }
 
-fn flag<'a>(alloc: Global, name: &'a str, about: &'a str) -> Arg<'a>
+pub(crate) fn flag<'a>(alloc: Global, name: &'a str, about: &'a str) -> Arg<'a>
     ensures rule { rule_of result ≡ flag_rule name.entry.now }
     ensures local { result.global ≡ false }
 {
@@ -49,6 +51,19 @@ fn list_option<'a>(alloc: Global, name: &'a str, value: &'a str, about: &'a str)
         .long(name)
         .value_name(value)
         .help(about)
+}
+
+/// An option with a link's number, which may be there again with another.
+fn links_option<'a>(alloc: Global, name: &'a str, value: &'a str, about: &'a str) -> Arg<'a>
+    ensures rule { rule_of result ≡ links_rule name.entry.now }
+    ensures local { result.global ≡ false }
+{
+    Arg::new(alloc, name)
+        .long(name)
+        .value_name(value)
+        .help(about)
+        .action(ArgAction::Append)
+        .value_parser(ValueParser::unsigned(0, 65535))
 }
 
 /// What the help of `alone` says at its end.
@@ -129,13 +144,16 @@ each frame that came in, with its fate, how many ns too early a policed one came
 and the ports whose buffers were full; departures.csv has one for each copy that a
 port sent or discarded. A file is written beside its name and then moved onto it.
 
+With --link both files have the lines of the links that are named alone, those of
+the whole files. A link that the table lacks has none.
+
 Status: 0 done, 2 arguments, 3 no table or capture, 4 a port cannot give what its
 links ask for, 5 memory or a device.
 
 Example: mkdir rows && afdx trace table.toml in rows";
 
 /// What the help of `network` says at its end. Its own commands are read by a program of their own.
-const NETWORK: &str = "Its commands are check, jitter and run: see afdx network --help.";
+const NETWORK: &str = "Its commands are check, size, jitter and run: see afdx network --help.";
 
 /// A command without its arguments.
 pub(crate) fn with_no_arguments<'a>(
@@ -293,12 +311,17 @@ fn survey<'a>(alloc: Global) -> Result<Command<'a>, AllocError>
 }
 
 fn trace<'a>(alloc: Global) -> Result<Command<'a>, AllocError>
-    ensures app { IfOk result (λ c. app_of c ≡ paths_app (codes "trace")) }
+    ensures app { IfOk result (λ c. app_of c ≡ trace_app) }
     ensures local { IfOk result (λ c. (out-Command c).has_globals ≡ false) }
 {
     let about = "Writes what became of each frame and of each copy";
     let output = "The folder for arrivals.csv and departures.csv";
-    with_paths(alloc, "trace", about, TRACE, output)
+    let lines = "Writes the lines of link N alone; may be repeated";
+    let links = links_option(alloc, "link", "N", lines);
+    let stamps = "Counts instants from the stamp of the first frame";
+    let relative = flag(alloc, "relative", stamps);
+    let command = with_paths(alloc, "trace", about, TRACE, output);
+    with_argument(with_argument(command, links), relative)
 }
 
 /// What the program's help says of the commands of networks.
@@ -311,20 +334,24 @@ fn network<'a>(alloc: Global) -> Command<'a>
 }
 
 /// The program without its commands.
-fn bare_program<'a>(alloc: Global, version: &'a str) -> Command<'a>
-    ensures { app_of result ≡ bare_program }
+fn bare_program<'a>(alloc: Global, version: &'a str) -> Result<Command<'a>, AllocError>
+    ensures { IfOk result (λ c. app_of c ≡ bare_program) }
 {
-    Command::new(alloc, "afdx")
+    let about = "Explains a refusal on further lines; goes before COMMAND";
+    let explained = flag(alloc, "explain", about);
+    let command = Command::new(alloc, "afdx")
         .about("An AFDX switch over captured traffic")
         .version(version)
         .subcommand_required(true)
+        .bin_name("afdx");
+    with_argument(command, explained)
 }
 
 /// The program with the commands of one link and of a table's load.
 fn with_checks<'a>(alloc: Global, version: &'a str) -> Result<Command<'a>, AllocError>
     ensures { IfOk result (λ c. app_of c ≡ with_subcommand (with_subcommand bare_program alone_app.top) check_app.top) }
 {
-    let program = with_command(bare_program(alloc, version), alone(alloc))?;
+    let program = with_command(bare_program(alloc, version)?, alone(alloc))?;
     with_command(program, check(alloc))
 }
 
@@ -338,7 +365,7 @@ fn with_run<'a>(alloc: Global, program: Command<'a>) -> Result<Command<'a>, Allo
 
 /// A program with the commands `measure`, `survey` and `trace` too.
 fn with_rows<'a>(alloc: Global, program: Command<'a>) -> Result<Command<'a>, AllocError>
-    ensures { IfOk result (λ c. app_of c ≡ with_subcommand (with_subcommand (with_subcommand (app_of program.entry) (inputs_app (codes "measure")).top) (inputs_app (codes "survey")).top) (paths_app (codes "trace")).top) }
+    ensures { IfOk result (λ c. app_of c ≡ with_subcommand (with_subcommand (with_subcommand (app_of program.entry) (inputs_app (codes "measure")).top) (inputs_app (codes "survey")).top) trace_app.top) }
 {
     let program = with_command(program, measure(alloc))?;
     let program = with_command(program, survey(alloc))?;
@@ -352,5 +379,6 @@ pub(crate) fn program<'a>(alloc: Global, version: &'a str) -> Result<Command<'a>
     let checks = with_checks(alloc, version)?;
     let runs = with_run(alloc, checks)?;
     let rows = with_rows(alloc, runs)?;
-    rows.subcommand(network(alloc))
+    let all = with_command(rows, explain(alloc))?;
+    all.subcommand(network(alloc))
 }

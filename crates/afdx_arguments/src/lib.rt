@@ -3,11 +3,15 @@
 
 mod arguments;
 mod command;
+mod explaining;
 mod fail_on;
 mod network_arguments;
 mod network_command;
 mod request;
 
 pub use arguments::parse;
+pub use explaining::{is_explained, plain_of};
 pub use fail_on::FailOn;
-pub use request::{Inputs, NetworkPaths, NetworkRequest, NoRequest, Paths, Request, RunOptions};
+pub use request::{
+    Inputs, NetworkPaths, NetworkRequest, NoRequest, Paths, Request, RunOptions, TraceOptions,
+};

@@ -6,7 +6,7 @@ ghost use Rattle.afdx_arguments.specs.declared.request.NetworkPaths.{NetworkPath
 ghost use Rattle.afdx_arguments.specs.declared.request.NetworkRequest.{NetworkRequest as Asked};
 ghost use Rattle.afdx_arguments.specs.Requests.{HasNetworkPaths, AsksOfNetwork};
 
-use crate::arguments::argument;
+use crate::arguments::{argument, flag};
 use crate::request::{NetworkPaths, NetworkRequest};
 use clap::ArgMatches;
 
@@ -21,10 +21,12 @@ fn network_paths_of<'a>(matches: &ArgMatches<'a>) -> Option<NetworkPaths<'a>>
     if input.is_empty() || output.is_empty() {
         return None;
     }
+    let unchecked = flag(matches, "unchecked");
     Some(NetworkPaths {
         network,
         input,
         output,
+        unchecked,
     })
 }
 
@@ -37,6 +39,9 @@ pub(crate) fn network_asked<'a>(matches: &ArgMatches<'a>) -> Option<NetworkReque
     if name == "check" {
         let path = argument(inner, "NET")?;
         Some(NetworkRequest::Check(path))
+    } else if name == "size" {
+        let path = argument(inner, "NET")?;
+        Some(NetworkRequest::Size(path))
     } else if name == "jitter" {
         let path = argument(inner, "NET")?;
         Some(NetworkRequest::Jitter(path))

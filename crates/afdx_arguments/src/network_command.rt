@@ -3,9 +3,9 @@
 ghost use Rattle.std.specs.Prelude.{◌≡◌, false, IfOk};
 ghost use Rattle.clap.specs.Words.{app_of, with_subcommand};
 ghost use Rattle.clap.specs.declared.builder.command.Command.TheViews.{out-Command};
-ghost use Rattle.afdx_arguments.specs.Commands.{network_check_app, network_jitter_app, network_run_app, bare_network, network_program};
+ghost use Rattle.afdx_arguments.specs.Commands.{network_check_app, network_size_app, network_jitter_app, network_run_app, bare_network, network_program};
 
-use crate::command::{path, with_argument, with_command, with_no_arguments};
+use crate::command::{flag, path, with_argument, with_command, with_no_arguments};
 use clap::Command;
 use std::alloc::{AllocError, Global};
 
@@ -21,6 +21,16 @@ Status: 0 accepted, 2 arguments, 3 no network or no table, 4 a port cannot give
 what its links ask for or a jitter is not enough, 5 memory or a device.
 
 Example: afdx network check network.toml";
+
+/// What the help of `size` says at its end.
+const SIZE: &str =
+    "For each port with links of each switch: what they need and what the port has, as
+size says of one table, with the name of the switch at the end of the line.
+
+Status: 0 done, whether each port fits or not, 2 arguments, 3 no network or no
+table, 5 memory or a device.
+
+Example: afdx network size network.toml";
 
 /// What the help of `jitter` says at its end.
 const JITTER: &str =
@@ -38,9 +48,11 @@ const RUN: &str = "Checks the network as check does. IN/A has the captures of th
 to which no wire leads, port-1.pcap and so on; those of all its output ports are
 put into OUT/A, which must be there. What leaves a port with a wire comes in at the
 wire's end. The report of each switch is written, with its name before each line.
+With --unchecked nothing is checked but the files, and nothing is promised: frames
+may be policed, lost or late at any switch.
 
 Status: 0 done, 2 arguments, 3 no network, table or capture, 4 a network that
-check refuses or that does not come to rest, 5 memory or a device.
+check refuses, 5 memory or a device.
 
 Example: mkdir -p out/A out/B && afdx network run network.toml in out";
 
@@ -51,6 +63,15 @@ fn check<'a>(alloc: Global) -> Result<Command<'a>, AllocError>
 {
     let about = "Checks a network and prints the way of each link";
     with_no_arguments(alloc, "check", about, CHECK).arg(path(alloc, "NET", "The network file"))
+}
+
+#[tactic(auto, unfolding(crate::specs::Commands::network_size_app))]
+fn size<'a>(alloc: Global) -> Result<Command<'a>, AllocError>
+    ensures app { IfOk result (λ c. app_of c ≡ network_size_app) }
+    ensures local { IfOk result (λ c. (out-Command c).has_globals ≡ false) }
+{
+    let about = "Prints what each port of each switch needs and has, whether it fits or not";
+    with_no_arguments(alloc, "size", about, SIZE).arg(path(alloc, "NET", "The network file"))
 }
 
 #[tactic(auto, unfolding(crate::specs::Commands::network_jitter_app))]
@@ -72,8 +93,13 @@ fn run<'a>(alloc: Global) -> Result<Command<'a>, AllocError>
     let input = path(alloc, "IN", inputs);
     let outputs = "The folder of a folder for each switch's captures";
     let output = path(alloc, "OUT", outputs);
+    let whatever = "Runs a network that check refuses, too";
+    let unchecked = flag(alloc, "unchecked", whatever);
     let command = with_no_arguments(alloc, "run", about, RUN).arg(network);
-    with_argument(with_argument(command, input), output)
+    with_argument(
+        with_argument(with_argument(command, input), output),
+        unchecked,
+    )
 }
 
 /// The program without its commands.
@@ -86,17 +112,18 @@ fn bare_network<'a>(alloc: Global) -> Result<Command<'a>, AllocError>
         .bin_name("afdx network")
 }
 
-/// The program with the commands `check` and `jitter`.
+/// The program with the commands `check` and `size`.
 fn with_checks<'a>(alloc: Global) -> Result<Command<'a>, AllocError>
-    ensures { IfOk result (λ c. app_of c ≡ with_subcommand (with_subcommand bare_network network_check_app.top) network_jitter_app.top) }
+    ensures { IfOk result (λ c. app_of c ≡ with_subcommand (with_subcommand bare_network network_check_app.top) network_size_app.top) }
 {
     let program = with_command(bare_network(alloc)?, check(alloc))?;
-    with_command(program, jitter(alloc))
+    with_command(program, size(alloc))
 }
 
 /// The program that reads the arguments after `afdx`, where the first of them is `network`.
 pub(crate) fn network_program<'a>(alloc: Global) -> Result<Command<'a>, AllocError>
     ensures { IfOk result (λ c. app_of c ≡ network_program) }
 {
-    with_command(with_checks(alloc)?, run(alloc))
+    let program = with_command(with_checks(alloc)?, jitter(alloc))?;
+    with_command(program, run(alloc))
 }

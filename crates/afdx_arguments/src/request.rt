@@ -25,6 +25,15 @@ pub struct RunOptions {
     pub fail_on: FailOn,
 }
 
+/// What is asked of a trace beside the files of its run.
+#[derive(Debug, Drop)]
+pub struct TraceOptions {
+    /// The links whose lines are written; if it is empty, the lines of all frames are.
+    pub links: Vec<u16>,
+    /// Whether stamps count from that of the first frame that came.
+    pub relative: bool,
+}
+
 /// The files of a run of which nothing is put, as they were written.
 #[derive(Clone, Copy, Debug, PartialEq, Eq)]
 pub struct Inputs<'a> {
@@ -45,6 +54,8 @@ pub struct NetworkPaths<'a> {
     pub input: &'a str,
     /// The folder that has one for each switch, into which its captures are put.
     pub output: &'a str,
+    /// Whether loads, jitters and what the tables agree on are left unchecked.
+    pub unchecked: bool,
 }
 
 /// A command of networks with what it goes by.
@@ -52,6 +63,8 @@ pub struct NetworkPaths<'a> {
 pub enum NetworkRequest<'a> {
     /// The check of the network in this file.
     Check(&'a str),
+    /// The need and the limit of each rule at the ports of the network in this file.
+    Size(&'a str),
     /// The jitters that the rows of the network in this file need.
     Jitter(&'a str),
     /// The network over captures.
@@ -59,7 +72,7 @@ pub enum NetworkRequest<'a> {
 }
 
 /// A command with what it goes by.
-#[derive(Clone, Copy, Debug, PartialEq, Eq)]
+#[derive(Debug, Drop)]
 pub enum Request<'a> {
     /// The policing of one link.
     Alone(Alone),
@@ -74,7 +87,9 @@ pub enum Request<'a> {
     /// The report, the delays, the buffers and the spells of policing of such a run.
     Survey(Inputs<'a>),
     /// What became of each frame and of each copy of such a run.
-    Trace(Paths<'a>),
+    Trace(Paths<'a>, TraceOptions),
+    /// What MESSAGES says of a code, which is this text.
+    Explain(&'static str),
     /// A command of networks.
     Network(NetworkRequest<'a>),
 }

@@ -13,7 +13,6 @@ use Rattle.afdx_account.specs.Level.{IsLevelAfter}
 use Rattle.afdx_account.specs.Account.{account_terms, account_since, account_level}
 use Rattle.afdx_account.specs.Early.{IsEarlyBy, early_by}
 use Rattle.afdx_load.specs.Load.{terms_of}
-use Rattle.afdx_core.specs.declared.step.Row.{Row}
 use Rattle.afdx_core.specs.Rows.{account_frames}
 use Rattle.afdx_core.specs.State.{Run, early_in}
 use Rattle.afdx_core.specs.Kept.{AccountAgrees, AccountsAgree}

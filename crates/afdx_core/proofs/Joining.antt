@@ -1,12 +1,12 @@
 -- What each call adds at a port.
-use Rattle.std.proofs.Common.{◌≡◌, ℕ, ◌+◌, ◌-◌, ◌<◌, ◌≤◌, ◌⊎◌, Bool, true, false, cond, ◌&&◌, List, [], ◌∷◌, ◌++◌, length, get_or, Option, Some, None, refl, ap, sym, ◌∙◌, arith, subst, inl, inr, length-append, append_assoc}
-use Rattle.std.specs.Prelude.{sum_by, AllPairs}
+use Rattle.std.proofs.Common.{◌≡◌, ℕ, ◌+◌, ◌-◌, ◌≤◌, ◌⊎◌, Bool, true, false, cond, ◌&&◌, List, [], ◌∷◌, ◌++◌, length, get_or, Option, Some, None, refl, ap, sym, ◌∙◌, arith, subst, inl, inr, length-append, append_assoc}
+use Rattle.std.specs.Prelude.{AllPairs}
 use Rattle.std.proofs.lemmas.Bool.{cases_Bool, cases_lt}
-use Rattle.std.proofs.lemmas.List.{get_or_append_left, get_or-append_right}
+use Rattle.std.proofs.lemmas.List.{get_or-append_right}
 use Rattle.std.proofs.lemmas.List.Quantifiers.{all_pairs_push}
 use Rattle.std.proofs.lemmas.List.Sums.{sum_by_push}
 use Rattle.afdx_account.specs.declared.frame.Frame.{Frame}
-use Rattle.afdx_account.specs.Policing.{conforms, passed_frames}
+use Rattle.afdx_account.specs.Policing.{passed_frames}
 use Rattle.afdx_account.specs.Early.{early_by}
 use Rattle.afdx_account.specs.Inner.Laws.{NextFrameJoinsWhereItConforms}
 use Rattle.afdx_load.specs.Load.{terms_of}
@@ -18,9 +18,9 @@ use Rattle.afdx_port.specs.declared.Item.{Item}
 use Rattle.afdx_port.specs.declared.Sent.{Sent}
 use Rattle.afdx_port.specs.declared.Offer.{Offer}
 use Rattle.afdx_port.specs.declared.Offer.TheVariants.{Full, Queued}
-use Rattle.afdx_port.specs.Service.{Event, reach, came, service, sent_of, aged_of}
+use Rattle.afdx_port.specs.Service.{Event, came, service, sent_of, aged_of}
 use Rattle.afdx_port.specs.Admission.{occupied, fits, admit}
-use Rattle.afdx_port.specs.Content.{Content, done, answer, offered, advanced}
+use Rattle.afdx_port.specs.Content.{Content, done, offered}
 use Rattle.afdx_port.specs.Inner.Admission.{AdmittedInParts, AdmittedInOrder}
 use Rattle.afdx_port.specs.Inner.Events.{SentInParts}
 use Rattle.afdx_port.specs.Inner.Gone.{gone, OccupiedIsWhatHasNotGone}
@@ -29,10 +29,10 @@ use Rattle.afdx_port.specs.Inner.Order.{InOrder, StampsInOrder}
 use Rattle.afdx_isolation.specs.Table.{settings_of}
 use Rattle.afdx_core.specs.declared.step.Row.{Row}
 use Rattle.afdx_core.specs.Rows.{named, passes, copy_of, copies, copies_by, frame_of_row, account_frames}
-use Rattle.afdx_core.specs.State.{Run, port_after, port_in, sent_in, occupied_in, early_in, answer_of, after_row, after_advance, after_finish}
+use Rattle.afdx_core.specs.State.{Run, port_after, port_in, early_in, answer_of, after_row, after_advance, after_finish}
 use Rattle.afdx_core.specs.Isolation.{IsRun}
 use Rattle.afdx_core.specs.Inner.Agreement.{VerdictsNameLinks}
-use Rattle.afdx_core.specs.Inner.Joining.{GoesOn, Joins, StaysOut, BecomesOf}
+use Rattle.afdx_core.specs.Inner.Joining.{GoesOn, StaysOut, BecomesOf}
 use Rattle.afdx_core.proofs.Feeds.{account-same, port-carried, port-offered, passed_copies}
 use Rattle.afdx_core.proofs.Ordered.{admitted_rise}
 

@@ -1,10 +1,9 @@
 -- Latencies that differ: curves in longer windows, and tables that are accepted with them.
-use Rattle.std.proofs.Common.{◌≡◌, ◌↔◌, ℕ, ◌+◌, ◌-◌, ◌*◌, ◌/◌, ◌<◌, ◌≤◌, ◌&&◌, Bool, true, false, cond, not, nat_lt, Some, None, Option, List, [], ◌∷◌, refl, ap, sym, subst, ◌∙◌, arith, inl, inr}
+use Rattle.std.proofs.Common.{◌≡◌, ◌↔◌, ℕ, ◌+◌, ◌-◌, ◌*◌, ◌/◌, ◌<◌, ◌≤◌, ◌&&◌, Bool, true, false, cond, not, nat_lt, Some, None, Option, List, [], ◌∷◌, refl, ap, sym, subst, ◌∙◌, arith}
 use Rattle.std.specs.Prelude.{option_map, min, All, IfSome, count_by}
 use Rattle.std.specs.Option.{option_or}
 use Rattle.std.proofs.Math.Nat.{div-mul-le_self, mul-le-mul_left}
 use Rattle.std.proofs.lemmas.Nat.{le-div}
-use Rattle.std.proofs.lemmas.Bool.{cases_Bool, le-ltb, ltb-false}
 use Rattle.std.proofs.lemmas.Bool.Decides.{nat_tests}
 use Rattle.std.proofs.lemmas.List.Elements.{All-nil, All-cons, All-head, All-tail, All-weaker}
 use Rattle.std.proofs.lemmas.List.Sums.{sum_by-cons}
@@ -15,7 +14,7 @@ use Rattle.afdx_table.specs.declared.rows.PortRow.{PortRow}
 use Rattle.afdx_table.specs.Link.{Link}
 use Rattle.afdx_table.specs.Content.{Content}
 use Rattle.afdx_load.specs.Load.{Load, is_high_link, is_low_link, routed, links_load, behind, load_of}
-use Rattle.afdx_load.specs.Bounds.{high_bound, low_bound, backlog, byte_time}
+use Rattle.afdx_load.specs.Bounds.{byte_time}
 use Rattle.afdx_load.specs.Accepted.{Carries, IsAccepted, fault_at}
 use Rattle.afdx_load.specs.Inner.Laws.{CarriesWithoutAFault}
 use Rattle.afdx_load.specs.declared.fault.LoadFault.{LoadFault}

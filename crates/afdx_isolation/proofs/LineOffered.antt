@@ -1,6 +1,6 @@
 -- What a port is offered over its lines stays within their supply: by induction over the arrivals.
 use Rattle.std.proofs.Common.{◌≡◌, ℕ, zero, suc, ◌+◌, ◌-◌, ◌*◌, ◌<◌, ◌≤◌, Bool, true, false, cond, List, [], ◌∷◌, ◌++◌, get_or, refl, ap, sym, ◌∙◌, subst, arith, ⊎_elim, append-nil, append_assoc}
-use Rattle.std.specs.Prelude.{nat_eq, nat_le, ◌&&◌, max, map, filter, All, AllPairs, Contains, Option, Some, None, IfSome}
+use Rattle.std.specs.Prelude.{nat_le, ◌&&◌, map, filter, All, AllPairs, Contains, Option, Some, None, IfSome}
 use Rattle.std.specs.List.{AllByRecursion}
 use Rattle.std.proofs.lemmas.Bool.{cases_Bool}
 use Rattle.std.proofs.lemmas.Bool.Decides.{nat_tests}

@@ -1,3 +1,4 @@
+pub mod Codes
 pub mod Inner
 pub mod Lines
 pub mod Reporting

@@ -174,7 +174,6 @@ network_failure_line (network.Refused fault name) = as_line (network_text (optio
 network_failure_line (network.Table refusal name) = as_line (table_text refusal ++ switch_part (Some (string_bytes name)))
 network_failure_line (network.Capture port fault name) = as_line (capture_text (Some port) fault ++ switch_part (Some (string_bytes name)))
 network_failure_line (network.Rows rule shorts names) = rows_lines rule (map string_bytes names.items) shorts.items
-network_failure_line network.Unsettled = as_line (network_rule (codes "R1 Unsettled"))
 
 abbrev pub fault_status : NetworkFault → ℕ
 fault_status net.Memory = 5
@@ -186,5 +185,4 @@ fault_status _ = 3
 abbrev pub network_status : NetworkFailure → ℕ
 network_status (network.Refused fault name) = fault_status fault
 network_status (network.Rows rule shorts names) = 4
-network_status network.Unsettled = 4
 network_status _ = 3

@@ -1,10 +1,11 @@
 //! Why a command ends with another status than 0, and the line that is written then.
 //!
 //! The lines are those of `specs/Lines.antt`; each ends with a line feed. [`report`] writes that of a [`Failure`] and gives its status,
-//! and whether the line went out whole.
+//! and whether the line went out whole; where failures are explained, what MESSAGES says of the line's code follows it.
 #![tactic(auto)]
 
 mod capture;
+mod code;
 mod failure;
 mod load;
 mod network;

@@ -276,7 +276,6 @@ pub fn network_failure_line(alloc: Global, failure: &NetworkFailure) -> Result<S
             lined(text)
         }
         NetworkFailure::Rows(rule, shorts, names) => rows_lines(alloc, *rule, names, shorts),
-        NetworkFailure::Unsettled => lined(rule_text(alloc, "R1 Unsettled")?),
     }
 }
 
@@ -291,7 +290,7 @@ pub fn network_status(failure: &NetworkFailure) -> u8
             NetworkFault::Load(_, _) | NetworkFault::Jitter(_) | NetworkFault::NoJitter(_) => 4,
             _ => 3,
         },
-        NetworkFailure::Rows(_, _, _) | NetworkFailure::Unsettled => 4,
+        NetworkFailure::Rows(_, _, _) => 4,
         NetworkFailure::Table(_, _) | NetworkFailure::Capture(_, _, _) => 3,
     }
 }

@@ -24,6 +24,4 @@ pub enum NetworkFailure {
     Capture(u8, PcapFault, String),
     /// These rows, by switch and in the order of its table, are refused by the rule. The names are those of all switches, in file order.
     Rows(JitterRule, Vec<Short>, Vec<String>),
-    /// What the wires bring did not come to rest.
-    Unsettled,
 }

@@ -13,28 +13,24 @@ use Rattle.afdx_pcap.specs.Text.{capture_text, AreReadable}
 use Rattle.afdx_table.specs.declared.rows.PortRow.{PortRow}
 use Rattle.afdx_table.specs.Content.{Content}
 use Rattle.afdx_table.specs.WellFormed.{Rises as PortsRise, IsWellFormed}
-use Rattle.afdx_load.specs.Accepted.{IsAccepted}
 use Rattle.afdx_core.specs.Merge.{Rises}
 use Rattle.afdx_session.specs.Texts.{Text}
 use Rattle.afdx_session.specs.Output.{sent_by, written, output_of}
 use Rattle.afdx_session.specs.Streams.{sent_up_to}
 use Rattle.afdx_session.specs.Outcome.{Results, IsOutcome}
-use Rattle.afdx_session.specs.Headline.{IsIsolated}
-use Rattle.afdx_session.specs.Lined.{PlainHeadlines}
 use Rattle.afdx_paced.specs.Paced.{Lane, Paced, captures_of, arrivals, out_up_to, lane_at}
 use Rattle.afdx_paced.specs.Laws.{OutGoesOn, OutIsInOrder}
 use Rattle.afdx_wiring.specs.declared.layout.End.{End}
 use Rattle.afdx_wiring.specs.declared.layout.Wire.{Wire}
 use Rattle.afdx_wiring.specs.Net.{Network, wire_to}
 use Rattle.afdx_network.specs.Way.{delayed}
-use Rattle.afdx_network.specs.Runs.{Given, IsPlain, Brings, IsGiven, AreRuns, IsRunOf}
+use Rattle.afdx_network.specs.Runs.{Given, Brings, IsGiven, AreOutcomes, IsUncheckedRunOf}
 use Rattle.afdx_network.specs.Inner.Sites.{Site, left_texts, lane_there, AtPorts, IsCame, IsSite, HasSent, IsCarried, AreCarried, HasLed}
 use Rattle.afdx_network.proofs.Carried.{AreWritten}
 use Rattle.afdx_network.proofs.Carrying.{rises_front}
 use Rattle.afdx_network.proofs.Found.{contains_head, contains_tail, found_passes, of_all}
 use Rattle.afdx_network.proofs.Lanes.{of_port, at_lane, port_is}
 use Rattle.afdx_network.proofs.LaneTexts.{IsText, texts_for, texts_read, texts_ports, text_there, lane_of_text}
-use Rattle.afdx_network.proofs.Rest.{rest_is_agreement}
 
 -- ---- one switch
 
@@ -142,21 +138,17 @@ choose {S = S} {X = X} P (s ∷ ss) each =
       at first rest zero u is = (first.0, refl, subst (λ v. P 0 v first.0) (same_Some s u is) first.1)
       at first rest (suc k) u is = rest.each k u is
 
--- runs one by one are the runs
-abbrev IsRunBy : Content → List Text → Results → Type 0
-IsRunBy t texts results = (outcome : IsOutcome t texts results) × (isolated : IsIsolated t texts results) × IsPlain t texts results outcome isolated
-
-runs : (tables : List Content) (came : List (List Text)) (left : List Results) → length came ≡ length tables → length left ≡ length tables
-    → ((k : ℕ) (t : Content) (texts : List Text) (r : Results) → slice_get tables k ≡ Some t → slice_get came k ≡ Some texts → slice_get left k ≡ Some r → IsRunBy t texts r)
-    → AreRuns tables came left
-runs [] [] [] long same each = tt
-runs [] [] (r ∷ left) long same each = absurd (omega (arith, same))
-runs [] (texts ∷ came) left long same each = absurd (omega (arith, long))
-runs (t ∷ tables) [] left long same each = absurd (omega (arith, long))
-runs (t ∷ tables) (texts ∷ came) [] long same each = absurd (omega (arith, same))
-runs (t ∷ tables) (texts ∷ came) (r ∷ left) long same each =
-    let first = each 0 t texts r refl refl refl in
-    (first.0, first.1, first.2, runs tables came left (omega (arith, long)) (omega (arith, same)) (λ k u c q a b d. each (suc k) u c q a b d))
+-- outcomes one by one are the outcomes
+outcomes_are : (tables : List Content) (came : List (List Text)) (left : List Results) → length came ≡ length tables → length left ≡ length tables
+    → ((k : ℕ) (t : Content) (texts : List Text) (r : Results) → slice_get tables k ≡ Some t → slice_get came k ≡ Some texts → slice_get left k ≡ Some r → IsOutcome t texts r)
+    → AreOutcomes tables came left
+outcomes_are [] [] [] long same each = tt
+outcomes_are [] [] (r ∷ left) long same each = absurd (omega (arith, same))
+outcomes_are [] (texts ∷ came) left long same each = absurd (omega (arith, long))
+outcomes_are (t ∷ tables) [] left long same each = absurd (omega (arith, long))
+outcomes_are (t ∷ tables) (texts ∷ came) [] long same each = absurd (omega (arith, same))
+outcomes_are (t ∷ tables) (texts ∷ came) (r ∷ left) long same each =
+    (each 0 t texts r refl refl refl, outcomes_are tables came left (omega (arith, long)) (omega (arith, same)) (λ k u c q a b d. each (suc k) u c q a b d))
 
 zip_long : {X Y : Type 0} (R : X → Y → Type 0) (xs : List X) (ys : List Y) → AllZip R xs ys → length xs ≡ length ys
 zip_long R [] [] zip = refl
@@ -339,16 +331,17 @@ module _ (on : OutGoesOn) (order : OutIsInOrder) (written : AreWritten) (net : N
         has = lane.1.given (ap (λ n. wire_to net (record { switch = e.switch; port = n })) (sym lane.1.port ∙ number) ∙ unwired);
       }
 
-pub is_run : OutGoesOn → OutIsInOrder → AreWritten → PlainHeadlines → (net : Network) (given : Given) (sites : List Site) (left : List Results) → AreCarried net given sites
-    → All IsAccepted net.tables → All (λ w. wire_to net w.to ≡ Some w) net.layout.wires → All (HasSent None) sites → AllZip HasLed sites left
-    → (came : List (List Text)) × IsRunOf net given came left
-is_run on order written plain net given sites left are accepted one sent led = (
+pub is_unchecked_run : OutGoesOn → OutIsInOrder → AreWritten → (net : Network) (given : Given) (sites : List Site) (left : List Results) → AreCarried net given sites
+    → All (λ w. wire_to net w.to ≡ Some w) net.layout.wires → All (HasSent None) sites → AllZip HasLed sites left → (came : List (List Text)) × IsUncheckedRunOf net given came left
+is_unchecked_run on order written net given sites left are one sent led = (
   all.xs,
-  rest_is_agreement net given all.xs all.xs left runs_are
-      (record {
-        wires = brings on order written net given sites left all.xs are one all.each all.long;
-        others = given_there on order written net given sites left all.xs are one all.each all.long;
-      }) refl,
+  record {
+    outcomes = outcomes;
+    fed = record {
+      wires = brings on order written net given sites left all.xs are one all.each all.long;
+      others = given_there on order written net given sites left all.xs are one all.each all.long;
+    };
+  },
 ) where
   P : ℕ → Site → List Text → Type 0
   P k s texts = (r : Results) × (slice_get left k ≡ Some r) × Ended net given k s r texts
@@ -359,16 +352,20 @@ is_run on order written plain net given sites left are accepted one sent led = (
       let e = ended on written net given k s r.0 (are.are.each k s is) (All-contains (HasSent None) sites s sent (at_among sites k s is)) r.2 in
       (e.0, (r.0, r.1, e.1)))
 
-  runs_are : AreRuns net.tables all.xs left
-  runs_are = runs net.tables all.xs left (all.long ∙ are.are.all) (sym (zip_long HasLed sites left led) ∙ are.are.all) (λ k t texts r table came_is left_is.
+  outcomes : AreOutcomes net.tables all.xs left
+  outcomes = outcomes_are net.tables all.xs left (all.long ∙ are.are.all) (sym (zip_long HasLed sites left led) ∙ are.are.all) (λ k t texts r table came_is left_is.
       let site = there_at sites k (let lt = slice_get_within net.tables k t table in let same = are.are.all in omega (arith, lt, same)) in
       let here = all.each k site.0 site.1 in
       let is = are.are.each k site.0 site.1 in
       let same_table : site.0.paced.table ≡ t = same_Some site.0.paced.table t (sym is.table_is ∙ table) in
       let same_texts : here.0 ≡ texts = same_Some here.0 texts (sym here.1 ∙ came_is) in
       let same_left : here.2.0 ≡ r = same_Some here.2.0 r (sym here.2.1 ∙ left_is) in
-      let outcome : IsOutcome t texts r
-      = subst (λ (c : Content). IsOutcome c texts r) same_table
-      (subst (λ (ts : List Text). IsOutcome site.0.paced.table ts r) same_texts (subst (IsOutcome site.0.paced.table here.0) same_left here.2.2.outcome)) in
-      let headline = plain t texts r (subst IsWellFormed same_table is.running.formed) (All-contains IsAccepted net.tables t accepted (at_among net.tables k t table)) outcome in
-      (outcome, headline.0, (headline.1, headline.2)))
+      subst (λ (c : Content). IsOutcome c texts r) same_table
+      (subst (λ (ts : List Text). IsOutcome site.0.paced.table ts r) same_texts (subst (IsOutcome site.0.paced.table here.0) same_left here.2.2.outcome)))
+
+-- the tables are well-formed
+pub are_formed : (net : Network) (given : Given) (sites : List Site) → AreCarried net given sites → All IsWellFormed net.tables
+are_formed net given sites are k t within =
+    let site = there_at sites k (let same = are.are.all in omega (arith, within, same)) in
+    let is = are.are.each k site.0 site.1 in
+    subst IsWellFormed (sym (get_or_from_slice_get net.tables k site.0.paced.table t is.table_is)) is.running.formed

@@ -1,18 +1,19 @@
 -- Why there is no run.
-use Rattle.std.proofs.Common.{◌≡◌, ℕ, zero, suc, ◌+◌, ◌<◌, ◌≤◌, List, [], ◌∷◌, ◌++◌, length, get_or, slice_get, take, Some, refl, ap, sym, ◌∙◌, inl, inr, subst, Vec}
-use Rattle.std.specs.Prelude.{All}
+use Rattle.std.proofs.Common.{◌≡◌, ℕ, zero, suc, ◌+◌, ◌<◌, ◌≤◌, List, [], ◌∷◌, ◌++◌, length, get_or, slice_get, take, Some, refl, ap, sym, ◌∙◌, inl, inr, subst, Vec, Result, Ok, Err}
+use Rattle.std.specs.Prelude.{All, IfErr}
 use Rattle.std.proofs.lemmas.List.{take_more, take_all}
 use Rattle.std.proofs.lemmas.Option.{slice_get-map, slice_get_within, slice_get_read, get_or_from_slice_get}
 use Rattle.std.proofs.lemmas.List.Elements.{All-head, All-tail, All-push}
 use Rattle.afdx_pcap.specs.declared.fault.PcapFault.{PcapFault}
 use Rattle.afdx_pcap.specs.Fault.{IsFault}
+use Rattle.afdx_load.specs.Accepted.{IsAccepted}
 use Rattle.afdx_session.specs.Texts.{Text, texts_of}
 use Rattle.afdx_session.specs.Reading.{IsSound, IsFirstFault}
 use Rattle.afdx_wiring.specs.Net.{Network}
 use Rattle.afdx_network.specs.declared.fault.NetworkRunFault.{NetworkRunFault}
 use Rattle.afdx_network.specs.declared.fault.NetworkRunFault.TheVariants as fault
 use Rattle.afdx_network.specs.Runs.{Given}
-use Rattle.afdx_network.specs.Given.{given_of, AreGiven, AreSound, HasOrder, NoneIsLateAnywhere, IsFirstUngiven, IsFirstUnsound, IsRefusal, IsTextFault, IsGivenFault, IsWireFault}
+use Rattle.afdx_network.specs.Given.{given_of, AreGiven, AreSound, NoneShareAPort, IsFirstUngiven, IsFirstUnsound, IsRefusalUnless, IsRefusal, IsUncheckedRefusal, IsTextFault, IsGivenFault, IsWireFault}
 
 -- ---- the first given text that is no capture
 
@@ -47,28 +48,41 @@ given_fault given switch texts (fault.Capture n port why) at before broken =
 given_fault given switch texts fault.Unsettled at before broken = absurd broken
 
 -- what stops a round refuses the run
-pub refused_wire : (net : Network) (given : Given) (why : NetworkRunFault) → AreGiven net given → AreSound given → IsWireFault net why → (NoneIsLateAnywhere net given → why ≡ fault.Memory)
-    → IsRefusal net given why
-refused_wire net given fault.Memory are sound broken soon = are
-refused_wire net given (fault.WrongPorts switch) are sound broken soon = absurd broken
-refused_wire net given (fault.Capture switch port why) are sound broken soon = (are, inr (sound, broken, λ none. absurd (no_memory (soon none)))) where
+pub refused_wire : (none_late : Type 0) (net : Network) (given : Given) (why : NetworkRunFault) → AreGiven net given → AreSound given → IsWireFault net why → (none_late → why ≡ fault.Memory)
+    → IsRefusalUnless none_late net given why
+refused_wire none_late net given fault.Memory are sound broken soon = are
+refused_wire none_late net given (fault.WrongPorts switch) are sound broken soon = absurd broken
+refused_wire none_late net given (fault.Capture switch port why) are sound broken soon = (are, inr (sound, broken, λ none. absurd (no_memory (soon none)))) where
   no_memory : fault.Capture switch port why ≡ fault.Memory → ⊥
   no_memory is = cc
-refused_wire net given fault.Unsettled are sound broken soon = absurd broken
+refused_wire none_late net given fault.Unsettled are sound broken soon = absurd broken
 
 -- what stops it before the switches run
 
-pub refused_ports : (net : Network) (given : Given) (why : NetworkRunFault) → (switch : ℕ) × (why ≡ fault.WrongPorts switch) × IsFirstUngiven net given switch → IsRefusal net given why
-refused_ports net given why is = subst (IsRefusal net given) (sym is.1) is.2
+module _ (none_late : Type 0) (net : Network) (given : Given) where
+  pub refused_ports : (why : NetworkRunFault) → (switch : ℕ) × (why ≡ fault.WrongPorts switch) × IsFirstUngiven net given switch → IsRefusalUnless none_late net given why
+  refused_ports why is = subst (IsRefusalUnless none_late net given) (sym is.1) is.2
 
-pub refused_texts : (net : Network) (given : Given) (why : NetworkRunFault) → AreGiven net given → IsGivenFault given why → IsRefusal net given why
-refused_texts net given fault.Memory are broken = are
-refused_texts net given (fault.WrongPorts switch) are broken = absurd broken
-refused_texts net given (fault.Capture switch port why) are broken = (are, inl broken)
-refused_texts net given fault.Unsettled are broken = absurd broken
+  pub refused_texts : (why : NetworkRunFault) → AreGiven net given → IsGivenFault given why → IsRefusalUnless none_late net given why
+  refused_texts fault.Memory are broken = are
+  refused_texts (fault.WrongPorts switch) are broken = absurd broken
+  refused_texts (fault.Capture switch port why) are broken = (are, inl broken)
+  refused_texts fault.Unsettled are broken = absurd broken
 
-pub refused_wires : (net : Network) (given : Given) (why : NetworkRunFault) → AreGiven net given → AreSound given → (why ≡ fault.Unsettled) × (HasOrder net → ⊥) → IsRefusal net given why
-refused_wires net given why are sound is = subst (IsRefusal net given) (sym is.0) (are, sound, is.1)
+  pub refused_wires : (why : NetworkRunFault) → AreGiven net given → AreSound given → (why ≡ fault.Unsettled) × (NoneShareAPort net → ⊥) → IsRefusalUnless none_late net given why
+  refused_wires why are sound is = subst (IsRefusalUnless none_late net given) (sym is.0) (are, sound, is.1)
 
-pub refused_memory : (net : Network) (given : Given) (why : NetworkRunFault) → AreGiven net given → why ≡ fault.Memory → IsRefusal net given why
-refused_memory net given why are is = subst (IsRefusal net given) (sym is) are
+  pub refused_memory : (why : NetworkRunFault) → AreGiven net given → why ≡ fault.Memory → IsRefusalUnless none_late net given why
+  refused_memory why are is = subst (IsRefusalUnless none_late net given) (sym is) are
+
+-- where the loads are accepted
+accepted_refusal : (net : Network) (given : Given) (why : NetworkRunFault) → All IsAccepted net.tables → IsUncheckedRefusal net given why → IsRefusal net given why
+accepted_refusal net given fault.Memory accepted is = is
+accepted_refusal net given (fault.WrongPorts switch) accepted is = is
+accepted_refusal net given (fault.Capture switch port why) accepted (are, inl broken) = (are, inl broken)
+accepted_refusal net given (fault.Capture switch port why) accepted (are, inr late) = (are, inr (late.0, late.1, λ none. late.2 (none, accepted)))
+accepted_refusal net given fault.Unsettled accepted is = is
+
+pub accepted_refuses : {V : Type 0} (r : Result V NetworkRunFault) (net : Network) (given : Given) → All IsAccepted net.tables → IfErr r (IsUncheckedRefusal net given) → IfErr r (IsRefusal net given)
+accepted_refuses (Ok v) net given accepted is = tt
+accepted_refuses (Err why) net given accepted is = accepted_refusal net given why accepted is

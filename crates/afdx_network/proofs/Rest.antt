@@ -1,10 +1,15 @@
--- Runs of switches, one for each table, as one list.
-use Rattle.std.proofs.Common.{◌≡◌, List, [], ◌∷◌, map, refl, ap, sym, ◌∙◌, subst}
+-- Runs of switches, one for each table: as one list, and with the headline where their loads are accepted.
+use Rattle.std.proofs.Common.{◌≡◌, List, [], ◌∷◌, map, Result, Ok, Err, refl, ap, sym, subst}
+use Rattle.std.specs.Prelude.{All, IfOk, OnOk}
+use Rattle.std.proofs.lemmas.List.Elements.{All-head, All-tail}
 use Rattle.afdx_table.specs.Content.{Content}
+use Rattle.afdx_table.specs.WellFormed.{IsWellFormed}
+use Rattle.afdx_load.specs.Accepted.{IsAccepted}
 use Rattle.afdx_session.specs.Texts.{Text}
 use Rattle.afdx_session.specs.Outcome.{Results}
+use Rattle.afdx_session.specs.Lined.{PlainHeadlines}
 use Rattle.afdx_wiring.specs.Net.{Network}
-use Rattle.afdx_network.specs.Runs.{SwitchRun, Given, IsFedBy, AreRuns, IsRunOf}
+use Rattle.afdx_network.specs.Runs.{SwitchRun, Given, IsFedBy, AreRuns, AreOutcomes, IsRunOf, IsUncheckedRunOf}
 
 record IsList (tables : List Content) (came : List (List Text)) (left : List Results) : Type 0 where
   pub runs : List SwitchRun
@@ -27,11 +32,10 @@ one_list (t ∷ tables) (texts ∷ came) (r ∷ left) are =
       left_is = ap (λ (others : List Results). r ∷ others) rest.left_is;
     }
 
-pub rest_is_agreement : (net : Network) (given : Given) (came next : List (List Text)) (left : List Results) → AreRuns net.tables came left
-    → IsFedBy net given left next → next ≡ came → IsRunOf net given came left
-rest_is_agreement net given came next left are fed same =
+one_run : (net : Network) (given : Given) (came : List (List Text)) (left : List Results) → AreRuns net.tables came left → IsFedBy net given left came → IsRunOf net given came left
+one_run net given came left are fed =
     let all = one_list net.tables came left are in
-    let fed_so : IsFedBy net given left (map (λ (run : SwitchRun). run.texts) all.runs) = subst (IsFedBy net given left) (same ∙ sym all.came_is) fed in
+    let fed_so : IsFedBy net given left (map (λ (run : SwitchRun). run.texts) all.runs) = subst (IsFedBy net given left) (sym all.came_is) fed in
     record {
       runs = all.runs;
       came_is = all.came_is;
@@ -41,3 +45,39 @@ rest_is_agreement net given came next left are fed same =
         fed = subst (λ (results : List Results). IsFedBy net given results (map (λ (run : SwitchRun). run.texts) all.runs)) (sym all.left_is) fed_so;
       };
     }
+
+-- each outcome of an accepted table has the headline
+isolated_runs : PlainHeadlines → (tables : List Content) (came : List (List Text)) (left : List Results) → All IsWellFormed tables → All IsAccepted tables → AreOutcomes tables came left
+    → AreRuns tables came left
+isolated_runs plain [] [] [] formed accepted are = tt
+isolated_runs plain [] [] (r ∷ left) formed accepted are = absurd are
+isolated_runs plain [] (texts ∷ came) left formed accepted are = absurd are
+isolated_runs plain (t ∷ tables) [] left formed accepted are = absurd are
+isolated_runs plain (t ∷ tables) (texts ∷ came) [] formed accepted are = absurd are
+isolated_runs plain (t ∷ tables) (texts ∷ came) (r ∷ left) formed accepted are =
+    let headline = plain t texts r (All-head IsWellFormed t tables formed) (All-head IsAccepted t tables accepted) are.0 in
+    (are.0, headline.0, (headline.1, headline.2), isolated_runs plain tables came left (All-tail IsWellFormed t tables formed) (All-tail IsAccepted t tables accepted) are.1)
+
+accepted_run : PlainHeadlines → (net : Network) (given : Given) (came : List (List Text)) (left : List Results) → All IsWellFormed net.tables → All IsAccepted net.tables
+    → IsUncheckedRunOf net given came left → IsRunOf net given came left
+accepted_run plain net given came left formed accepted is =
+    one_run net given came left (isolated_runs plain net.tables came left formed accepted is.outcomes) is.fed
+
+-- and so has what is answered
+pub isolates : {V F : Type 0} (r : Result V F) (left : V → List Results) → PlainHeadlines → (net : Network) (given : Given) → All IsAccepted net.tables
+    → IfOk r (λ v. (came : List (List Text)) × IsUncheckedRunOf net given came (left v)) → OnOk r (All IsWellFormed net.tables) → IfOk r (λ v. (came : List (List Text)) × IsRunOf net given came (left v))
+isolates (Ok v) left plain net given accepted is formed = (is.0, accepted_run plain net given is.0 (left v) formed accepted is.1)
+isolates (Err e) left plain net given accepted is formed = tt
+
+-- ---- whatever the loads
+
+outcomes_of : (runs : List SwitchRun)
+    → AreOutcomes (map (λ (run : SwitchRun). run.table) runs) (map (λ (run : SwitchRun). run.texts) runs) (map (λ (run : SwitchRun). run.results) runs)
+outcomes_of [] = tt
+outcomes_of (run ∷ runs) = (run.outcome, outcomes_of runs)
+
+pub runs_are_unchecked : (net : Network) (given : Given) (came : List (List Text)) (left : List Results) → IsRunOf net given came left → IsUncheckedRunOf net given came left
+runs_are_unchecked net given came left is = record {
+  outcomes = rw (is.run.tables, is.came_is, is.left_is) at (outcomes_of is.runs);
+  fed = rw (is.came_is, is.left_is) at is.run.fed;
+}

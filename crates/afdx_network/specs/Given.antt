@@ -5,6 +5,7 @@ use Rattle.afdx_pcap.specs.declared.fault.PcapFault.{PcapFault}
 use Rattle.afdx_pcap.specs.Record.{Record}
 use Rattle.afdx_pcap.specs.Capture.{IsCapture}
 use Rattle.afdx_table.specs.Content.{Content}
+use Rattle.afdx_load.specs.Accepted.{IsAccepted}
 use Rattle.afdx_session.specs.Texts.{Text, texts_of}
 use Rattle.afdx_session.specs.Reading.{IsSound, IsFirstFault}
 use Rattle.afdx_wiring.specs.declared.layout.Wire.{Wire}
@@ -45,13 +46,17 @@ AreSound given = All (All IsSound) given
 
 -- ---- orders
 
+-- no two wires go to one port
+abbrev pub NoneShareAPort : Network → Type 0
+NoneShareAPort net = All (λ w. wire_to net w.to ≡ Some w) net.layout.wires
+
 -- the wires have an order: each switch has one of 64 places in it, and each wire goes to a later place than it comes from; and no two go
 -- to one port
 pub record HasOrder (net : Network) : Type 0 where
   pub place : ℕ → ℕ
   pub few : (switch : ℕ) → place switch < 64
   pub rises : All (λ w. place w.from.switch < place w.to.switch) net.layout.wires
-  pub one_each : All (λ w. wire_to net w.to ≡ Some w) net.layout.wires
+  pub one_each : NoneShareAPort net
 
 -- no frame that was given came in the last 64 seconds that pcap can hold
 abbrev pub NoneComesLate : Given → Type 0
@@ -85,14 +90,21 @@ pub record IsWired (net : Network) (switch port : ℕ) : Type 0 where
   pub wire_is : wire_to net (record { switch = switch; port = port }) ≡ Some wire
 
 -- why there is no run: what is given is not for the ports without a wire; a given text is no capture, or all are and what comes over
--- a wire is none, which cannot be where no frame can be late; the wires have no order, and do not agree. Memory may run out at any time
--- after the first
+-- a wire is none, which cannot be where this holds; two wires go to one port. Memory may run out at any time after the first
+abbrev pub IsRefusalUnless : Type 0 → Network → Given → NetworkRunFault → Type 0
+IsRefusalUnless none_late net given fault.Memory = AreGiven net given
+IsRefusalUnless none_late net given (fault.WrongPorts switch) = IsFirstUngiven net given switch
+IsRefusalUnless none_late net given (fault.Capture switch port why) =
+    AreGiven net given × (IsFirstUnsound given switch port why ⊎ (AreSound given × IsWired net switch port × (none_late → ⊥)))
+IsRefusalUnless none_late net given fault.Unsettled = AreGiven net given × AreSound given × (NoneShareAPort net → ⊥)
+
+-- of a network whose loads are accepted: no frame is late where none can be
 abbrev pub IsRefusal : Network → Given → NetworkRunFault → Type 0
-IsRefusal net given fault.Memory = AreGiven net given
-IsRefusal net given (fault.WrongPorts switch) = IsFirstUngiven net given switch
-IsRefusal net given (fault.Capture switch port why) =
-    AreGiven net given × (IsFirstUnsound given switch port why ⊎ (AreSound given × IsWired net switch port × (NoneIsLateAnywhere net given → ⊥)))
-IsRefusal net given fault.Unsettled = AreGiven net given × AreSound given × (HasOrder net → ⊥)
+IsRefusal net given why = IsRefusalUnless (NoneIsLateAnywhere net given) net given why
+
+-- of any network
+abbrev pub IsUncheckedRefusal : Network → Given → NetworkRunFault → Type 0
+IsUncheckedRefusal net given why = IsRefusalUnless (NoneIsLateAnywhere net given × All IsAccepted net.tables) net given why
 
 -- ---- refusals on the way
 

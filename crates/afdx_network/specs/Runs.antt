@@ -67,6 +67,17 @@ AreRuns (t ∷ tables) (texts ∷ came) (results ∷ left) =
     (outcome : IsOutcome t texts results) × (isolated : IsIsolated t texts results) × IsPlain t texts results outcome isolated × AreRuns tables came left
 AreRuns _ _ _ = ⊥
 
+-- whether the loads are accepted or not: each table was run over what came in at its switch, and led to this
+abbrev pub AreOutcomes : List Content → List (List Text) → List Results → Type 0
+AreOutcomes [] [] [] = Unit {0}
+AreOutcomes (t ∷ tables) (texts ∷ came) (results ∷ left) = IsOutcome t texts results × AreOutcomes tables came left
+AreOutcomes _ _ _ = ⊥
+
+-- what came in at the switches and what left them agrees with the wires
+pub record IsUncheckedRunOf (net : Network) (given : Given) (came : List (List Text)) (left : List Results) : Type 0 where
+  pub outcomes : AreOutcomes net.tables came left
+  pub fed : IsFedBy net given left came
+
 -- what came in at the switches and what left them is a run of the network
 pub record IsRunOf (net : Network) (given : Given) (came : List (List Text)) (left : List Results) : Type 0 where
   pub runs : List SwitchRun

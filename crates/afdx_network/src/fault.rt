@@ -14,7 +14,7 @@ pub enum NetworkRunFault {
     WrongPorts(usize),
     /// What comes in at this port of a switch is no capture, and this is its first fault.
     Capture(usize, u8, PcapFault),
-    /// Two wires go to one port, or one to a port that its table lacks.
+    /// Two wires go to one port, as no two of a file do.
     Unsettled,
 }
 

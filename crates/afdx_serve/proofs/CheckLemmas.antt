@@ -3,14 +3,14 @@ use Rattle.std.proofs.Common.{◌≡◌, ℕ, zero, suc, ◌+◌, ◌<◌, List,
 use Rattle.afdx_table.specs.declared.rows.PortRow.{PortRow}
 use Rattle.afdx_serve.specs.Checks.{AreTextsOf}
 
-from_place : (ports : List PortRow) (i : ℕ) (d : PortRow) → i < length ports → drop i ports ≡ get_or ports i d ∷ drop (i + 1) ports
+pub from_place : {A : Type 0} (ports : List A) (i : ℕ) (d : A) → i < length ports → drop i ports ≡ get_or ports i d ∷ drop (i + 1) ports
 from_place [] i d lt = absurd (omega (arith, lt))
 from_place (p ∷ ps) zero d lt = refl
 from_place (p ∷ ps) (suc i) d lt =
     let further : suc (i + 1) ≡ suc i + 1 = omega arith in
     from_place ps i d (omega (arith, lt)) ∙ ap (λ (k : ℕ). get_or ps i d ∷ drop k (p ∷ ps)) further
 
-none_left : (ports : List PortRow) (i : ℕ) → length ports ≤ i → drop i ports ≡ []
+pub none_left : {A : Type 0} (ports : List A) (i : ℕ) → length ports ≤ i → drop i ports ≡ []
 none_left [] zero le = refl
 none_left [] (suc i) le = refl
 none_left (p ∷ ps) zero le = absurd (omega (arith, le))

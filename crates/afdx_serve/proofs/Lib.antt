@@ -11,6 +11,7 @@ pub mod GivenLemmas
 pub mod NetworkLemmas
 pub mod VerdictLemmas
 pub mod ServingLemmas
+pub mod SizeLemmas
 pub mod CheckLemmas
 mod PutLemmas
 mod NetworkRunLemmas

@@ -99,6 +99,7 @@ never_usage (ask.Check path) old new h = elim h.0 [
   | inl fails ↦ got old.files path.now old.failed new.failed fails
   | inr fails ↦ judged_usage (names_of fails.0.layout.switches) (verdict_of fails.0) fails.2
 ]
+never_usage (ask.Size path) old new h = got old.files path.now old.failed new.failed h.0
 never_usage (ask.Jitter path) old new h = elim h.0 [
   | inl fails ↦ got old.files path.now old.failed new.failed fails
   | inr fails ↦ fails.2.2
@@ -106,7 +107,7 @@ never_usage (ask.Jitter path) old new h = elim h.0 [
 never_usage (ask.Run paths) old new h = elim h.0.0 [
   | inl fails ↦ got old.files paths.network.now old.failed new.failed fails
   | inr fails ↦ elim fails.2 [
-    | inl refused ↦ judged_usage (names_of fails.0.layout.switches) (verdict_of fails.0) refused.0
+    | inl refused ↦ judged_usage (names_of fails.0.layout.switches) (verdict_of fails.0) refused.0.1
     | inr given ↦ given.1
   ]
 ]
@@ -134,6 +135,13 @@ spares (failure.PortCapture p e) (ask.Check path) old new made h = inl (h.2, h.1
 spares (failure.Network e) (ask.Check path) old new made h = inl (h.2, h.1)
 spares (failure.Get name) (ask.Check path) old new made h = inl (h.2, h.1)
 spares (failure.Put name) (ask.Check path) old new made h = inl (h.2, h.1)
+spares (failure.Table e) (ask.Size path) old new made h = inl (h.2, h.1)
+spares (failure.Load e) (ask.Size path) old new made h = inl (h.2, h.1)
+spares (failure.Capture e) (ask.Size path) old new made h = inl (h.2, h.1)
+spares (failure.PortCapture p e) (ask.Size path) old new made h = inl (h.2, h.1)
+spares (failure.Network e) (ask.Size path) old new made h = inl (h.2, h.1)
+spares (failure.Get name) (ask.Size path) old new made h = inl (h.2, h.1)
+spares (failure.Put name) (ask.Size path) old new made h = inl (h.2, h.1)
 spares (failure.Table e) (ask.Jitter path) old new made h = inl (h.2, h.1)
 spares (failure.Load e) (ask.Jitter path) old new made h = inl (h.2, h.1)
 spares (failure.Capture e) (ask.Jitter path) old new made h = inl (h.2, h.1)

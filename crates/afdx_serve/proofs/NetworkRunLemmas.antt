@@ -1,5 +1,5 @@
 -- What a run of a network leads to: names and reports by switch, captures that are put in order, and why nothing is.
-use Rattle.std.proofs.Common.{◌≡◌, ℕ, ◌+◌, ◌<◌, List, [], ◌∷◌, ◌++◌, length, take, get_or, Option, Result, Ok, String, Global, string_bytes, inl, inr}
+use Rattle.std.proofs.Common.{◌≡◌, ℕ, suc, ◌+◌, ◌<◌, false, not, List, [], ◌∷◌, ◌++◌, length, take, get_or, Option, Result, Ok, String, Global, string_bytes, inl, inr}
 use Rattle.std.proofs.Common.{refl, sym, ap, subst, ◌∙◌, arith}
 use Rattle.std.specs.Io.KnownBytes.{Keeps}
 use Rattle.std.proofs.lemmas.List.{append_assoc, append-nil, map-append, length-append, length-map, length-take, take_more, get_or-map}
@@ -11,10 +11,10 @@ use Rattle.afdx_session.specs.Texts.{Text}
 use Rattle.afdx_session.specs.Outcome.{Results}
 use Rattle.afdx_wiring.specs.File.{Switch}
 use Rattle.afdx_wiring.specs.Net.{Network}
-use Rattle.afdx_wiring.specs.Inner.Limits.{LayoutsAreWithinLimits}
+use Rattle.afdx_wiring.specs.Inner.Limits.{LayoutsAreWithinLimits, NoPortHasTwoWires}
 use Rattle.afdx_wiring.specs.Rules.{IsAcceptedNetwork}
-use Rattle.afdx_network.specs.Runs.{SwitchRun, Given, IsRunOf}
-use Rattle.afdx_network.specs.Given.{AreGiven}
+use Rattle.afdx_network.specs.Runs.{Given, AreOutcomes, IsRunOf, IsUncheckedRunOf}
+use Rattle.afdx_network.specs.Given.{AreGiven, NoneShareAPort}
 use Rattle.afdx_network.specs.Laws.{IsOfFile, NetworkRunsDeliver}
 use Rattle.afdx_network_report.specs.Lines.{Names, name_of, report_of}
 use Rattle.afdx_arguments.specs.declared.request.NetworkPaths.{NetworkPaths}
@@ -27,7 +27,8 @@ use Rattle.afdx_serve.specs.Networks.{names_of, verdict_of, HasNetwork}
 use Rattle.afdx_serve.proofs.NetworkLemmas.{judged_write, judged_put}
 use Rattle.afdx_serve.specs.NetworkRuns.{switch_folder, names_at, bytes_at, captures_of, reports_of, HasGiven, LeadsToNetwork, GetsGiven, FailsToGetGiven, FailsToLeadNetwork, StopsNetwork, EndsNetwork}
 use Rattle.afdx_serve.specs.Serving.{world, PutsNetwork, FailsToRunNetwork}
-use Rattle.afdx_serve.specs.Inner.NetworkRunning.{FailsToLeadGiven}
+use Rattle.afdx_serve.specs.declared.network_plan.NetworkPlan.{NetworkPlan}
+use Rattle.afdx_serve.specs.Inner.NetworkRunning.{network_in, is_accepted, HasRun, FailsToLeadGiven}
 use Rattle.afdx_serve.proofs.CaptureLemmas.{StopsAt-before, EndsAt-before}
 use Rattle.afdx_serve.proofs.FileLemmas.{KeepsFiles-trans, ShowsAll-before, PutsFiles-before}
 
@@ -117,28 +118,41 @@ of_file formed limits files path net has = record {
       sym (get_or-map table_of has.texts k [] (Ok d) (omega (arith, many, lt))) ∙ ap (λ (l : List (Result Content TableFault)). get_or l k (Ok d)) has.are_tables
       ∙ get_or-map (λ (t : Content). Ok t) net.tables k d (Ok d) lt
 
+pub none_share_a_port : NoPortHasTwoWires → (files : Option Files) (path : List ℕ) (net : Network) → HasNetwork files path net → NoneShareAPort net
+none_share_a_port law files path net has = law has.has_layout.0 net.layout has.has_layout.2
+
+outcome_count : (tables : List Content) (came : List (List Text)) (left : List Results) → AreOutcomes tables came left → length tables ≡ length left
+outcome_count [] [] [] are = refl
+outcome_count [] [] (r ∷ left) are = absurd are
+outcome_count [] (texts ∷ came) left are = absurd are
+outcome_count (t ∷ tables) [] left are = absurd are
+outcome_count (t ∷ tables) (texts ∷ came) [] are = absurd are
+outcome_count (t ∷ tables) (texts ∷ came) (r ∷ left) are = ap suc (outcome_count tables came left are.1)
+
 -- as many switches have run as there are names
-run_count : (net : Network) (given : Given) (came : List (List Text)) (left : List Results) → IsOfFile net → IsRunOf net given came left → length (names_of net.layout.switches) ≡ length left
-run_count net given came left of is =
-    length-map net.layout.switches (λ (s : Switch). s.name) ∙ sym of.tables ∙ ap (λ (l : List Content). length l) (sym is.run.tables)
-    ∙ length-map is.runs (λ (r : SwitchRun). r.table) ∙ sym (length-map is.runs (λ (r : SwitchRun). r.results)) ∙ ap (λ (l : List Results). length l) is.left_is
+run_count : (net : Network) (given : Given) (came : List (List Text)) (left : List Results) → IsOfFile net → IsUncheckedRunOf net given came left
+    → length (names_of net.layout.switches) ≡ length left
+run_count net given came left of is = length-map net.layout.switches (λ (s : Switch). s.name) ∙ sym of.tables ∙ outcome_count net.tables came left is.outcomes
 
 has_given_before : (a b : Option Files) (path : List ℕ) (names : Names) (given : Given) → KeepsFiles a b → HasGiven b path names given → HasGiven a path names given
 has_given_before a b path names given keeps = ShowsAll-before a b (names_at path names given) (bytes_at given) keeps
 
 -- the files lead to it
 leads_network : NetworkRunsDeliver → (paths : NetworkPaths) (files : Option Files) (net : Network) (given : Given) (came : List (List Text)) (left : List Results) → IsOfFile net
-    → HasNetwork files paths.network.now net → IsAcceptedNetwork net → HasGiven files paths.input.now (names_of net.layout.switches) given → AreGiven net given → IsRunOf net given came left
-    → LeadsToNetwork paths files net left
-leads_network deliver paths files net given came left of has accepted has_given are is = record {
+    → HasNetwork files paths.network.now net → (paths.unchecked ≡ false → IsAcceptedNetwork net) → HasGiven files paths.input.now (names_of net.layout.switches) given → AreGiven net given
+    → IsUncheckedRunOf net given came left → (paths.unchecked ≡ false → IsRunOf net given came left) → LeadsToNetwork paths files net left
+leads_network deliver paths files net given came left of has accepted has_given are is run = record {
   given = given;
   came = came;
   has_network = has;
-  accepted = accepted;
   has_given = has_given;
   are_given = are;
-  is_run = is;
-  delivered = deliver net given is.runs (record { of_file = of; accepted = accepted; run = is.run });
+  led = is;
+  promised = λ checked. record {
+    accepted = accepted checked;
+    is_run = run checked;
+    delivered = deliver net given (run checked).runs (record { of_file = of; accepted = accepted checked; run = (run checked).run });
+  };
 }
 
 -- a run of the network of a file, and the names of its switches
@@ -147,21 +161,24 @@ pub record IsLed (paths : NetworkPaths) (files : Option Files) (net : Network) (
   pub named : names ≡ names_of net.layout.switches
   pub count : length names ≡ length left
 
-pub is_led : TablesAreWellFormed → LayoutsAreWithinLimits → NetworkRunsDeliver → (paths : NetworkPaths) (a b : Option Files) (net cleared seen : Network) (given : Given) (left : List Results)
-    (names : Names)
-    → HasNetwork a paths.network.now net → cleared ≡ net → seen ≡ cleared → IsAcceptedNetwork net → KeepsFiles a b
-    → HasGiven b paths.input.now (names_of seen.layout.switches) given → AreGiven seen given → (came : List (List Text)) × IsRunOf cleared given came left → names ≡ names_of net.layout.switches
+pub is_led : TablesAreWellFormed → LayoutsAreWithinLimits → NetworkRunsDeliver → (paths : NetworkPaths) (a b : Option Files) (net : Network) (plan : NetworkPlan) (seen : Network) (given : Given)
+    (left : List Results) (names : Names)
+    → HasNetwork a paths.network.now net → network_in plan ≡ net → is_accepted plan ≡ not paths.unchecked → seen ≡ network_in plan → (paths.unchecked ≡ false → IsAcceptedNetwork net)
+    → KeepsFiles a b → HasGiven b paths.input.now (names_of seen.layout.switches) given → AreGiven seen given → HasRun plan given left → names ≡ names_of net.layout.switches
     → IsLed paths a net names left
-is_led formed limits deliver paths a b net cleared seen given left names has same met accepted keeps got are ran named = record {
-  leads = leads_network deliver paths a net given ran.0 left of has accepted (has_given_before a b paths.input.now (names_of net.layout.switches) given keeps here) there is;
+is_led formed limits deliver paths a b net plan seen given left names has same checked met accepted keeps got are ran named = record {
+  leads = leads_network deliver paths a net given ran.0 left of has accepted (has_given_before a b paths.input.now (names_of net.layout.switches) given keeps here) there is run;
   named = named;
   count = ap (λ (l : Names). length l) named ∙ run_count net given ran.0 left of is;
 } where
   of : IsOfFile net
   of = of_file formed limits a paths.network.now net has
 
-  is : IsRunOf net given ran.0 left
-  is = subst (λ (n : Network). IsRunOf n given ran.0 left) same ran.1
+  is : IsUncheckedRunOf net given ran.0 left
+  is = subst (λ (n : Network). IsUncheckedRunOf n given ran.0 left) same ran.1
+
+  run : paths.unchecked ≡ false → IsRunOf net given ran.0 left
+  run is_checked = subst (λ (n : Network). IsRunOf n given ran.0 left) same (ran.2 (checked ∙ ap not is_checked))
 
   here : HasGiven b paths.input.now (names_of net.layout.switches) given
   here = subst (λ (n : Network). HasGiven b paths.input.now (names_of n.layout.switches) given) (met ∙ same) got
@@ -189,8 +206,6 @@ not_given_before failure.Memory a b path net before after keeps h = tt
 not_given_before (failure.Network (network.Capture port why name)) a b path net before after keeps h =
     ((h.0.0, h.0.1, has_given_before a b path (names_of net.layout.switches) h.0.0 keeps h.0.2, h.0.3, h.0.4), h.1)
 not_given_before (failure.Network (network.Rows rule shorts names)) a b path net before after keeps h = absurd h
-not_given_before (failure.Network network.Unsettled) a b path net before after keeps h =
-    ((h.0.0, has_given_before a b path (names_of net.layout.switches) h.0.0 keeps h.0.1, h.0.2), h.1)
 not_given_before (failure.Network (network.Refused r name)) a b path net before after keeps h = absurd h
 not_given_before (failure.Network (network.Table r name)) a b path net before after keeps h = absurd h
 not_given_before failure.Found a b path net before after keeps h = absurd h
@@ -209,7 +224,6 @@ led_to_none : (f : Failure) (files : Option Files) (path : List ℕ) (net : Netw
     → FailsToLeadGiven f net given → FailsToGetGiven f files path net before after
 led_to_none (failure.Network (network.Capture port why name)) files path net given before after has same h = ((given, h.0, has, h.1, h.2), same)
 led_to_none (failure.Network (network.Rows rule shorts names)) files path net given before after has same h = absurd h
-led_to_none (failure.Network network.Unsettled) files path net given before after has same h = ((given, has, h), same)
 led_to_none (failure.Network (network.Refused r name)) files path net given before after has same h = absurd h
 led_to_none (failure.Network (network.Table r name)) files path net given before after has same h = absurd h
 led_to_none failure.Memory files path net given before after has same h = tt
@@ -231,7 +245,7 @@ never_write paths files before after (inl h) = elim h [
   | inr join ↦ join.2
 ]
 never_write paths files before after (inr h) = elim h.2 [
-  | inl refused ↦ judged_write (names_of h.0.layout.switches) (verdict_of h.0) refused.0
+  | inl refused ↦ judged_write (names_of h.0.layout.switches) (verdict_of h.0) refused.0.1
   | inr given ↦ given.1
 ]
 
@@ -241,7 +255,7 @@ never_put s paths files before after (inl h) = elim h [
   | inr join ↦ join.2
 ]
 never_put s paths files before after (inr h) = elim h.2 [
-  | inl refused ↦ judged_put s (names_of h.0.layout.switches) (verdict_of h.0) refused.0
+  | inl refused ↦ judged_put s (names_of h.0.layout.switches) (verdict_of h.0) refused.0.1
   | inr given ↦ given.1
 ]
 
@@ -264,7 +278,7 @@ no_run failure.Read paths a b first after keeps w v none h = ((h, keeps), none)
 -- not all was got
 pub not_given : (f : Failure) (paths : NetworkPaths) (a b c : Option Files) (net cleared seen : Network) (first before after : DeviceLog) → HasNetwork a paths.network.now net → cleared ≡ net → seen
     ≡ cleared
-    → IsAcceptedNetwork net → KeepsFiles a b → KeepsFiles b c → before ≡ first → (w v : Option (List ℕ)) → Keeps w v → FailsToGetGiven f b paths.input.now seen before after
+    → (paths.unchecked ≡ false → IsAcceptedNetwork net) → KeepsFiles a b → KeepsFiles b c → before ≡ first → (w v : Option (List ℕ)) → Keeps w v → FailsToGetGiven f b paths.input.now seen before after
     → FailsToRunNetwork f paths (world w a first) (world v c after)
 not_given f paths a b c net cleared seen first before after has same met accepted keeps further log w v none h =
     let here = subst (λ (n : Network). FailsToGetGiven f b paths.input.now n before after) (met ∙ same) h in
@@ -274,7 +288,7 @@ not_given f paths a b c net cleared seen first before after has same met accepte
 -- it leads to no run
 pub not_led : (f : Failure) (paths : NetworkPaths) (a b c : Option Files) (net cleared seen : Network) (given : Given) (first before after : DeviceLog) → HasNetwork a paths.network.now net → cleared
     ≡ net
-    → seen ≡ cleared → IsAcceptedNetwork net → KeepsFiles a b → KeepsFiles b c → before ≡ first → after ≡ before → (w v : Option (List ℕ)) → Keeps w v
+    → seen ≡ cleared → (paths.unchecked ≡ false → IsAcceptedNetwork net) → KeepsFiles a b → KeepsFiles b c → before ≡ first → after ≡ before → (w v : Option (List ℕ)) → Keeps w v
     → HasGiven b paths.input.now (names_of seen.layout.switches) given → FailsToLeadGiven f cleared given → FailsToRunNetwork f paths (world w a first) (world v c after)
 not_led f paths a b c net cleared seen given first before after has same met accepted keeps further log last w v none got h =
     let here = subst (λ (n : Network). HasGiven b paths.input.now (names_of n.layout.switches) given) (met ∙ same) got in

@@ -18,7 +18,9 @@ use Rattle.afdx_session.specs.Outcome.{Results, table_in, is_cleared, IsOutcome,
 use Rattle.afdx_session.specs.Headline.{AcceptedRunsIsolate}
 use Rattle.afdx_arguments.specs.declared.request.Paths.{Paths}
 use Rattle.afdx_arguments.specs.declared.request.RunOptions.{RunOptions}
+use Rattle.afdx_arguments.specs.declared.request.TraceOptions.{TraceOptions}
 use Rattle.afdx_arguments.specs.declared.request.Inputs.{Inputs}
+use Rattle.afdx_trace.specs.declared.shown.Selection.{Selection}
 use Rattle.afdx_messages.specs.declared.failure.Failure.{Failure}
 use Rattle.afdx_messages.specs.declared.failure.Failure.TheVariants as failure
 use Rattle.afdx_folder.specs.Files.{Files, DeviceLog, KeepsFiles, PutsFiles, one_more, settled_after}
@@ -89,8 +91,9 @@ run_ended name paths a c before after h = elim h.2 [
   | inr stops ↦ inr (name, (h.0, h.1, stops.0))
 ]
 
-pub trace_ended : (name : List ℕ) (paths : Paths) (a c : Option Files) (before after : DeviceLog) → EndsTrace name paths a c before after → KeepsFiles a c ⊎ ((n : List ℕ) × StopsTrace n paths a c)
-trace_ended name paths a c before after h = elim h.2 [
+pub trace_ended : (name : List ℕ) (paths : Paths) (options : TraceOptions) (a c : Option Files) (before after : DeviceLog) → EndsTrace name paths options a c before after
+    → KeepsFiles a c ⊎ ((n : List ℕ) × StopsTrace n paths options a c)
+trace_ended name paths options a c before after h = elim h.2 [
   | inl kept ↦ inl kept.1
   | inr stops ↦ inr (name, (h.0, h.1, stops.0))
 ]
@@ -136,14 +139,15 @@ module _ (inputs : Inputs) (a : Option Files) (plan : Plan) (captures : List Tex
   leads_as P Q turn (Ok x) h = (turn x h, count)
   leads_as P Q turn (Err f) h = not_led f h
 
-module _ (paths : Paths) (a : Option Files) (plan : Plan) (captures : List Text) (before after : DeviceLog) (of : IsRunOf (inputs_of paths) a plan captures) (count : after ≡ before) where
+module _ (paths : Paths) (options : TraceOptions) (selection : Selection) (links : selection.links.now ≡ options.links.items) (relative : selection.relative ≡ options.relative)
+    (a : Option Files) (plan : Plan) (captures : List Text) (before after : DeviceLog) (of : IsRunOf (inputs_of paths) a plan captures) (count : after ≡ before) where
   -- a finished switch of the captures, and what is reported of it
   abbrev pub IsReported : List (List ℕ) → Type 0
-  IsReported texts = (s : State) × IsDoneOf (is_cleared plan) (table_in plan) captures s × (is_cleared plan ≡ true → IsIsolatedRun s.run) × (texts ≡ trace_texts s.run)
+  IsReported texts = (s : State) × IsDoneOf (is_cleared plan) (table_in plan) captures s × (is_cleared plan ≡ true → IsIsolatedRun s.run) × (texts ≡ trace_texts selection s.run)
 
   pub traced : {X : Type 0} (seen : X → List (List ℕ)) (r : Result X Failure) → MatchResult r (λ texts. IsReported (seen texts)) (λ f. FailsToLead f (table_in plan) captures)
-      → MatchResult r (λ texts. IsTraceIn paths a (seen texts) × (after ≡ before)) (λ f. FailsToGather f (inputs_of paths) a before after)
-  traced seen = leads_as (inputs_of paths) a plan captures before after of count (λ texts. IsReported (seen texts)) (λ texts. IsTraceIn paths a (seen texts))
+      → MatchResult r (λ texts. IsTraceIn paths options a (seen texts) × (after ≡ before)) (λ f. FailsToGather f (inputs_of paths) a before after)
+  traced seen = leads_as (inputs_of paths) a plan captures before after of count (λ texts. IsReported (seen texts)) (λ texts. IsTraceIn paths options a (seen texts))
       (λ texts h. (
         h.0,
         record {
@@ -154,26 +158,27 @@ module _ (paths : Paths) (a : Option Files) (plan : Plan) (captures : List Text)
           is_done = subst (λ (cleared : Bool). IsDoneOf cleared (table_in plan) captures h.0) of.cleared h.1;
           isolated = λ (checked : paths.unchecked ≡ false). h.2 (of.cleared ∙ ap not checked);
         },
-        h.3,
+        (selection, links, relative, h.3),
       ))
 
 -- what was reported was not all put, or was
-module _ (paths : Paths) (texts : List (List ℕ)) (a b c : Option Files) (first before after : DeviceLog) (is : IsTraceIn paths a texts) (keeps : KeepsFiles a b) (same : before ≡ first) where
+module _ (paths : Paths) (options : TraceOptions) (texts : List (List ℕ)) (a b c : Option Files) (first before after : DeviceLog) (is : IsTraceIn paths options a texts)
+    (keeps : KeepsFiles a b) (same : before ≡ first) where
   abbrev names : List (List ℕ)
   names = trace_names paths.output.now
 
-  pub not_traced : (f : Failure) → FailsToPut f names texts b c before after → FailsToTrace f paths a c first after
+  pub not_traced : (f : Failure) → FailsToPut f names texts b c before after → FailsToTrace f paths options a c first after
   not_traced = not_all_put paths names texts a b c first before after keeps same
-      (λ name. EndsTrace name paths a c first after)
-      (λ name ends. (is.0, is.1, subst (λ (all : List (List ℕ)). EndsAt name names all a c first after) is.2 ends))
-      (λ name. StopsTrace name paths a c)
-      (λ name stops. (is.0, is.1, subst (λ (all : List (List ℕ)). StopsAt name names all a c) is.2 stops))
+      (λ name. EndsTrace name paths options a c first after)
+      (λ name ends. (texts, is, ends))
+      (λ name. StopsTrace name paths options a c)
+      (λ name stops. (texts, is, stops))
 
-  pub all_traced : PutsFiles b c names texts → PutsTrace paths a c
-  all_traced put = (is.0, is.1, subst (λ (all : List (List ℕ)). PutsFiles a c names all) is.2 (PutsFiles-before a b c _ _ keeps put))
+  pub all_traced : PutsFiles b c names texts → PutsTrace paths options a c
+  all_traced put = (texts, is, PutsFiles-before a b c _ _ keeps put)
 
   pub traced_all : {T : Type 0} (r : Result T Failure) → MatchResult r (λ _. PutsFiles b c names texts × (after ≡ settled_after (length names) before)) (λ f. FailsToPut f names texts b c before after)
-      → MatchResult r (λ _. PutsTrace paths a c × (after ≡ settled_after 2 first)) (λ f. FailsToTrace f paths a c first after)
+      → MatchResult r (λ _. PutsTrace paths options a c × (after ≡ settled_after 2 first)) (λ f. FailsToTrace f paths options a c first after)
   traced_all (Ok x) h = (all_traced h.0, h.1 ∙ ap (settled_after 2) same)
   traced_all (Err f) h = not_traced f h
 

@@ -19,7 +19,8 @@ module _ (arguments : List (List ℕ)) (input : Option (List ℕ)) (old new : Wo
   fails (request.Run paths options) asks failure.Usage h = absurd h.0.0
   fails (request.Measure inputs) asks failure.Usage h = absurd h.0
   fails (request.Survey inputs) asks failure.Usage h = absurd h.0
-  fails (request.Trace paths) asks failure.Usage h = absurd h.0.0
+  fails (request.Trace paths options) asks failure.Usage h = absurd h.0.0
+  fails (request.Explain entry) asks failure.Usage h = absurd h.0
   fails (request.Network r) asks failure.Usage h = absurd (never_usage r old new h)
   fails r asks failure.Found h = (r, asks, h)
   fails r asks (failure.Load e) h = (r, asks, h)
@@ -52,7 +53,8 @@ module _ (arguments : List (List ℕ)) (input : Option (List ℕ)) (old new : Wo
   runs_out (failure.Table e) (request.Run paths options) made asks h = inl (h.1, h.0.1)
   runs_out (failure.Table e) (request.Measure inputs) made asks h = inl (h.2, h.1)
   runs_out (failure.Table e) (request.Survey inputs) made asks h = inl (h.2, h.1)
-  runs_out (failure.Table e) (request.Trace paths) made asks h = inl (h.1, h.0.1)
+  runs_out (failure.Table e) (request.Trace paths options) made asks h = inl (h.1, h.0.1)
+  runs_out (failure.Table e) (request.Explain entry) made asks h = absurd h.0
   runs_out (failure.Table e) (request.Network r) made asks h = network_runs_out (failure.Table e) r made asks h
   runs_out (failure.Load e) (request.Alone link) made asks h = absurd h.0
   runs_out (failure.Load e) (request.Check path) made asks h = inl (h.4, h.3.0)
@@ -60,7 +62,8 @@ module _ (arguments : List (List ℕ)) (input : Option (List ℕ)) (old new : Wo
   runs_out (failure.Load e) (request.Run paths options) made asks h = inl (h.1, h.0.1)
   runs_out (failure.Load e) (request.Measure inputs) made asks h = inl (h.2, h.1)
   runs_out (failure.Load e) (request.Survey inputs) made asks h = inl (h.2, h.1)
-  runs_out (failure.Load e) (request.Trace paths) made asks h = inl (h.1, h.0.1)
+  runs_out (failure.Load e) (request.Trace paths options) made asks h = inl (h.1, h.0.1)
+  runs_out (failure.Load e) (request.Explain entry) made asks h = absurd h.0
   runs_out (failure.Load e) (request.Network r) made asks h = network_runs_out (failure.Load e) r made asks h
   runs_out (failure.Capture e) (request.Alone link) made asks h = inl (h.0.1, h.1.0)
   runs_out (failure.Capture e) (request.Check path) made asks h = absurd h
@@ -68,7 +71,8 @@ module _ (arguments : List (List ℕ)) (input : Option (List ℕ)) (old new : Wo
   runs_out (failure.Capture e) (request.Run paths options) made asks h = absurd h.0.0
   runs_out (failure.Capture e) (request.Measure inputs) made asks h = absurd h.0
   runs_out (failure.Capture e) (request.Survey inputs) made asks h = absurd h.0
-  runs_out (failure.Capture e) (request.Trace paths) made asks h = absurd h.0.0
+  runs_out (failure.Capture e) (request.Trace paths options) made asks h = absurd h.0.0
+  runs_out (failure.Capture e) (request.Explain entry) made asks h = absurd h.0
   runs_out (failure.Capture e) (request.Network r) made asks h = network_runs_out (failure.Capture e) r made asks h
   runs_out (failure.PortCapture p e) (request.Alone link) made asks h = absurd h.0
   runs_out (failure.PortCapture p e) (request.Check path) made asks h = absurd h
@@ -76,7 +80,8 @@ module _ (arguments : List (List ℕ)) (input : Option (List ℕ)) (old new : Wo
   runs_out (failure.PortCapture p e) (request.Run paths options) made asks h = inl (h.1, h.0.1)
   runs_out (failure.PortCapture p e) (request.Measure inputs) made asks h = inl (h.2, h.1)
   runs_out (failure.PortCapture p e) (request.Survey inputs) made asks h = inl (h.2, h.1)
-  runs_out (failure.PortCapture p e) (request.Trace paths) made asks h = inl (h.1, h.0.1)
+  runs_out (failure.PortCapture p e) (request.Trace paths options) made asks h = inl (h.1, h.0.1)
+  runs_out (failure.PortCapture p e) (request.Explain entry) made asks h = absurd h.0
   runs_out (failure.PortCapture p e) (request.Network r) made asks h = network_runs_out (failure.PortCapture p e) r made asks h
   runs_out (failure.Get name) (request.Alone link) made asks h = absurd h.0
   runs_out (failure.Get name) (request.Check path) made asks h = inl (h.3, h.2)
@@ -84,7 +89,8 @@ module _ (arguments : List (List ℕ)) (input : Option (List ℕ)) (old new : Wo
   runs_out (failure.Get name) (request.Run paths options) made asks h = inl (h.1, h.0.1)
   runs_out (failure.Get name) (request.Measure inputs) made asks h = inl (h.2, h.1)
   runs_out (failure.Get name) (request.Survey inputs) made asks h = inl (h.2, h.1)
-  runs_out (failure.Get name) (request.Trace paths) made asks h = inl (h.1, h.0.1)
+  runs_out (failure.Get name) (request.Trace paths options) made asks h = inl (h.1, h.0.1)
+  runs_out (failure.Get name) (request.Explain entry) made asks h = absurd h.0
   runs_out (failure.Get name) (request.Network r) made asks h = network_runs_out (failure.Get name) r made asks h
   runs_out (failure.Put name) (request.Alone link) made asks h = absurd h.0
   runs_out (failure.Put name) (request.Check path) made asks h = absurd h
@@ -92,7 +98,8 @@ module _ (arguments : List (List ℕ)) (input : Option (List ℕ)) (old new : Wo
   runs_out (failure.Put name) (request.Measure inputs) made asks h = absurd h.0
   runs_out (failure.Put name) (request.Survey inputs) made asks h = absurd h.0
   runs_out (failure.Put name) (request.Run paths options) made asks h = inr (request.Run paths options, asks, (run_ended _ paths _ _ _ _ h.0, h.1))
-  runs_out (failure.Put name) (request.Trace paths) made asks h = inr (request.Trace paths, asks, (trace_ended _ paths _ _ _ _ h.0, h.1))
+  runs_out (failure.Put name) (request.Trace paths options) made asks h = inr (request.Trace paths options, asks, (trace_ended _ paths options _ _ _ _ h.0, h.1))
+  runs_out (failure.Put name) (request.Explain entry) made asks h = absurd h.0
   runs_out (failure.Put name) (request.Network r) made asks h = network_runs_out (failure.Put name) r made asks h
   runs_out (failure.Network e) (request.Alone link) made asks h = absurd h.0
   runs_out (failure.Network e) (request.Check path) made asks h = absurd h
@@ -100,7 +107,8 @@ module _ (arguments : List (List ℕ)) (input : Option (List ℕ)) (old new : Wo
   runs_out (failure.Network e) (request.Run paths options) made asks h = absurd h.0.0
   runs_out (failure.Network e) (request.Measure inputs) made asks h = absurd h.0
   runs_out (failure.Network e) (request.Survey inputs) made asks h = absurd h.0
-  runs_out (failure.Network e) (request.Trace paths) made asks h = absurd h.0.0
+  runs_out (failure.Network e) (request.Trace paths options) made asks h = absurd h.0.0
+  runs_out (failure.Network e) (request.Explain entry) made asks h = absurd h.0
   runs_out (failure.Network e) (request.Network r) made asks h = network_runs_out (failure.Network e) r made asks h
 
   -- where memory ran out for its line, memory is the failure

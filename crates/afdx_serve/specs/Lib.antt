@@ -8,6 +8,5 @@ pub mod Networks
 pub mod Runs
 pub mod Serving
 pub mod Sizes
-pub mod Surveys
 pub mod Traces
 pub mod Verdicts

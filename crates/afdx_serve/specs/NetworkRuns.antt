@@ -1,12 +1,12 @@
 -- What a run of a network does to a folder.
-use Rattle.std.specs.Prelude.{◌≡◌, ◌⊎◌, ℕ, ◌+◌, codes, List, [], ◌∷◌, ◌++◌, map, filter, flat_map, take, slice_get, Option, Some, string_bytes}
+use Rattle.std.specs.Prelude.{Bool, false, ◌≡◌, ◌⊎◌, ℕ, ◌+◌, codes, List, [], ◌∷◌, ◌++◌, map, filter, flat_map, take, slice_get, Option, Some, string_bytes}
 use Rattle.afdx_table.specs.Content.{Content}
 use Rattle.afdx_session.specs.Texts.{Text}
 use Rattle.afdx_session.specs.Outcome.{Results}
 use Rattle.afdx_wiring.specs.Net.{Network}
 use Rattle.afdx_wiring.specs.Rules.{IsAcceptedNetwork}
-use Rattle.afdx_network.specs.Runs.{Given, IsRunOf}
-use Rattle.afdx_network.specs.Given.{is_open, AreGiven, IsRefusal}
+use Rattle.afdx_network.specs.Runs.{Given, IsRunOf, IsUncheckedRunOf}
+use Rattle.afdx_network.specs.Given.{is_open, AreGiven, IsUncheckedRefusal}
 use Rattle.afdx_network.specs.Way.{Stage, Leg, IsDelivered}
 use Rattle.afdx_network.specs.Ways.{IsWayIn}
 use Rattle.afdx_network.specs.declared.fault.NetworkRunFault.TheVariants as run
@@ -47,16 +47,21 @@ reports_of _ _ = []
 abbrev pub HasGiven : Option Files → List ℕ → Names → Given → Type 0
 HasGiven files path names given = ShowsAll files (names_at path names given) (bytes_at given)
 
--- the files hold an accepted network and captures, which lead to this; each way delivers
+-- what is promised of a run of an accepted network: the headline of each switch, and that each way delivers
+pub record IsPromised (net : Network) (given : Given) (came : List (List Text)) (left : List Results) : Type 0 where
+  pub accepted : IsAcceptedNetwork net
+  pub is_run : IsRunOf net given came left
+  pub delivered : (x : Stage) (legs : List Leg) → IsWayIn net is_run.runs x legs → IsDelivered x legs
+
+-- the files hold a network, accepted unless the run is unchecked, and captures, which lead to this
 pub record LeadsToNetwork (paths : NetworkPaths) (files : Option Files) (net : Network) (left : List Results) : Type 0 where
   pub given : Given
   pub came : List (List Text)
   pub has_network : HasNetwork files paths.network.now net
-  pub accepted : IsAcceptedNetwork net
   pub has_given : HasGiven files paths.input.now (names_of net.layout.switches) given
   pub are_given : AreGiven net given
-  pub is_run : IsRunOf net given came left
-  pub delivered : (x : Stage) (legs : List Leg) → IsWayIn net is_run.runs x legs → IsDelivered x legs
+  pub led : IsUncheckedRunOf net given came left
+  pub promised : paths.unchecked ≡ false → IsPromised net given came left
 
 -- ---- why they lead to nothing, and the failures before and after
 
@@ -78,18 +83,21 @@ abbrev pub FailsToGetGiven : Failure → Option Files → List ℕ → Network �
 FailsToGetGiven (failure.Get name) files path net before after = GetsGiven (string_bytes name) files path net × (after ≡ one_more (string_bytes name) before)
 FailsToGetGiven failure.Memory files path net before after = Unit {0}
 FailsToGetGiven (failure.Network (network.Capture port why name)) files path net before after =
-    ((given : Given) × (switch : ℕ) × HasGiven files path (names_of net.layout.switches) given × IsRefusal net given (run.Capture switch port why)
+    ((given : Given) × (switch : ℕ) × HasGiven files path (names_of net.layout.switches) given × IsUncheckedRefusal net given (run.Capture switch port why)
     × (string_bytes name ≡ name_of (names_of net.layout.switches) switch)) × (after ≡ before)
-FailsToGetGiven (failure.Network network.Unsettled) files path net before after =
-    ((given : Given) × HasGiven files path (names_of net.layout.switches) given × IsRefusal net given run.Unsettled) × (after ≡ before)
 FailsToGetGiven _ files path net before after = ⊥
+
+-- a network was not accepted for a run, unless that is unchecked
+abbrev pub FailsToPlanNetwork : Failure → Bool → Network → Type 0
+FailsToPlanNetwork f unchecked net = (unchecked ≡ false) × FailsToAcceptNetwork f net
 
 -- the files lead to no run
 abbrev pub FailsToLeadNetwork : Failure → NetworkPaths → Option Files → DeviceLog → DeviceLog → Type 0
 FailsToLeadNetwork f paths files before after =
     FailsToGetNetwork f files paths.network.now before after
     ⊎ ((net : Network) × HasNetwork files paths.network.now net
-    × ((FailsToAcceptNetwork f net × (after ≡ before)) ⊎ (IsAcceptedNetwork net × FailsToGetGiven f files paths.input.now net before after)))
+    × ((FailsToPlanNetwork f paths.unchecked net × (after ≡ before))
+    ⊎ ((paths.unchecked ≡ false → IsAcceptedNetwork net) × FailsToGetGiven f files paths.input.now net before after)))
 
 -- those before this name were put
 abbrev pub StopsNetwork : List ℕ → NetworkPaths → Option Files → Option Files → Type 0

@@ -5,6 +5,7 @@ use Rattle.afdx_pcap.specs.Fault.{IsFault}
 use Rattle.afdx_alone.specs.declared.link.Alone.{Alone}
 use Rattle.afdx_arguments.specs.declared.request.Paths.{Paths}
 use Rattle.afdx_arguments.specs.declared.request.RunOptions.{RunOptions}
+use Rattle.afdx_arguments.specs.declared.request.TraceOptions.{TraceOptions}
 use Rattle.afdx_arguments.specs.declared.request.Inputs.{Inputs}
 use Rattle.afdx_arguments.specs.declared.request.Request.{Request}
 use Rattle.afdx_arguments.specs.declared.request.Request.TheVariants as request
@@ -15,7 +16,7 @@ use Rattle.afdx_alone.specs.Answer.{IsAnswer}
 use Rattle.afdx_table.specs.Content.{Content}
 use Rattle.afdx_load.specs.Accepted.{IsAccepted, first_fault}
 use Rattle.afdx_serve.specs.Checks.{IsCheckOf}
-use Rattle.afdx_serve.specs.Sizes.{AreSizesIn}
+use Rattle.afdx_serve.specs.Sizes.{AreSizesIn, AreSizesFrom}
 use Rattle.afdx_wiring.specs.Net.{Network}
 use Rattle.afdx_wiring.specs.Rules.{IsAcceptedNetwork}
 use Rattle.afdx_wiring.specs.declared.fault.Short.{Short}
@@ -34,8 +35,7 @@ use Rattle.afdx_session.specs.Outcome.{Results}
 use Rattle.afdx_folder.specs.Input.{AreGiven}
 use Rattle.afdx_folder.specs.Output.{AppendsPrefix}
 use Rattle.afdx_verdict.specs.Verdict.{verdict_of}
-use Rattle.afdx_serve.specs.Measures.{MeasuresTo}
-use Rattle.afdx_serve.specs.Surveys.{SurveysTo}
+use Rattle.afdx_serve.specs.Measures.{MeasuresTo, SurveysTo}
 use Rattle.afdx_serve.specs.Verdicts.{text_of, is_found}
 use Rattle.afdx_serve.specs.Traces.{PutsTrace, FailsToTrace}
 use Rattle.afdx_serve.specs.Runs.{HasTable, HasNoTable, LeadsTo, FailsToGather, FailsToRun, names_in, bytes_of_captures}
@@ -137,6 +137,20 @@ FailsToCheckNetwork f path old new =
     ⊎ ((net : Network) × HasNetwork old.files path net × FailsToAcceptNetwork f net × (new.failed ≡ old.failed)))
     × KeepsFiles old.files new.files × WritesNothing old new
 
+-- the lines of the tables of the file's network were written, each with the name of its switch, whether they fit or not
+abbrev pub SizesNetwork : List ℕ → World → World → Type 0
+SizesNetwork path old new =
+    (net : Network) × (text : List ℕ) × HasNetwork old.files path net × AreSizesFrom 0 (names_of net.layout.switches) net.tables text
+    × Appends old.written new.written text × KeepsFolder old new
+
+-- why they were not, and what was written
+abbrev pub FailsToSizeNetwork : Failure → List ℕ → World → World → Type 0
+FailsToSizeNetwork failure.Write path old new =
+    (net : Network) × (text : List ℕ) × HasNetwork old.files path net × AreSizesFrom 0 (names_of net.layout.switches) net.tables text
+    × AppendsPrefix old.written new.written text × KeepsFolder old new
+FailsToSizeNetwork failure.Memory path old new = KeepsFiles old.files new.files × WritesNothing old new
+FailsToSizeNetwork f path old new = FailsToGetNetwork f old.files path old.failed new.failed × KeepsFiles old.files new.files × WritesNothing old new
+
 -- the jitters that the rows of the file's network need were written; this is the first past what a table can have
 abbrev pub SaysJitters : List ℕ → Network → List RowNeed → Option Short → World → World → Type 0
 SaysJitters path net rows past old new = (text : List ℕ) × JittersAre old.files path net rows past text × Appends old.written new.written text × KeepsFolder old new
@@ -187,12 +201,14 @@ FailsToRunNetwork f paths old new = FailsToPutNetwork f paths old.files new.file
 -- what a request of networks asks for was done
 abbrev pub PerformsNetwork : NetworkRequest → World → World → Type 0
 PerformsNetwork (ask.Check path) old new = ChecksNetwork path.now old new
+PerformsNetwork (ask.Size path) old new = SizesNetwork path.now old new
 PerformsNetwork (ask.Jitter path) old new = GivesJitters path.now old new
 PerformsNetwork (ask.Run paths) old new = RunsNetwork paths old new
 
 -- why it was not, and what was done
 abbrev pub FailsToPerformNetwork : Failure → NetworkRequest → World → World → Type 0
 FailsToPerformNetwork f (ask.Check path) old new = FailsToCheckNetwork f path.now old new
+FailsToPerformNetwork f (ask.Size path) old new = FailsToSizeNetwork f path.now old new
 FailsToPerformNetwork f (ask.Jitter path) old new = FailsToGiveJitters f path.now old new
 FailsToPerformNetwork f (ask.Run paths) old new = FailsToRunNetwork f paths old new
 
@@ -241,12 +257,23 @@ FailsToSurvey failure.Write inputs old new = (text : List ℕ) × SurveysTo inpu
 FailsToSurvey f inputs old new = FailsToGather f inputs old.files old.failed new.failed × KeepsFiles old.files new.files × WritesNothing old new
 
 -- what is reported of each frame and copy was put; nothing was written
-abbrev pub Traces : Paths → World → World → Type 0
-Traces paths old new = PutsTrace paths old.files new.files × (new.failed ≡ settled_after 2 old.failed) × WritesNothing old new
+abbrev pub Traces : Paths → TraceOptions → World → World → Type 0
+Traces paths options old new = PutsTrace paths options old.files new.files × (new.failed ≡ settled_after 2 old.failed) × WritesNothing old new
 
 -- why it was not, and what was done
-abbrev pub FailsToTraceAll : Failure → Paths → World → World → Type 0
-FailsToTraceAll f paths old new = FailsToTrace f paths old.files new.files old.failed new.failed × WritesNothing old new
+abbrev pub FailsToTraceAll : Failure → Paths → TraceOptions → World → World → Type 0
+FailsToTraceAll f paths options old new = FailsToTrace f paths options old.files new.files old.failed new.failed × WritesNothing old new
+
+-- ---- what MESSAGES says of a code
+
+-- this entry was written
+abbrev pub WritesEntry : List ℕ → Option (List ℕ) → Option (List ℕ) → Type 0
+WritesEntry entry old new = Appends old new entry
+
+-- why it was not, and what was written
+abbrev pub FailsToWriteEntry : Failure → List ℕ → Option (List ℕ) → Option (List ℕ) → Type 0
+FailsToWriteEntry failure.Write entry old new = AppendsPrefix old new entry
+FailsToWriteEntry _ entry old new = ⊥
 
 -- ---- any request
 
@@ -258,7 +285,8 @@ Performs (request.Size path) input old new = Sizes path.now old new
 Performs (request.Run paths options) input old new = Runs paths options old new
 Performs (request.Measure inputs) input old new = Measures inputs old new
 Performs (request.Survey inputs) input old new = Surveys inputs old new
-Performs (request.Trace paths) input old new = Traces paths old new
+Performs (request.Trace paths options) input old new = Traces paths options old new
+Performs (request.Explain entry) input old new = WritesEntry entry.now old.written new.written × KeepsFolder old new
 Performs (request.Network r) input old new = PerformsNetwork r old new
 
 -- why it was not done, and what was done
@@ -269,7 +297,8 @@ FailsToPerform f (request.Size path) input old new = FailsToSize f path.now old 
 FailsToPerform f (request.Run paths options) input old new = FailsToRunAll f paths options old new
 FailsToPerform f (request.Measure inputs) input old new = FailsToMeasure f inputs old new
 FailsToPerform f (request.Survey inputs) input old new = FailsToSurvey f inputs old new
-FailsToPerform f (request.Trace paths) input old new = FailsToTraceAll f paths old new
+FailsToPerform f (request.Trace paths options) input old new = FailsToTraceAll f paths options old new
+FailsToPerform f (request.Explain entry) input old new = FailsToWriteEntry f entry.now old.written new.written × KeepsFolder old new
 FailsToPerform f (request.Network r) input old new = FailsToPerformNetwork f r old new
 
 -- help was asked for and some text was written, or a request, which was done

@@ -11,6 +11,7 @@ use Rattle.afdx_load.specs.Fits.{broken_rules}
 use Rattle.afdx_load.specs.declared.fault.Rule.{Rule}
 use Rattle.afdx_load.specs.declared.fault.Rule.TheVariants.{Rate, Buffer, HighDelay, LowDelay}
 use Rattle.afdx_wiring.specs.Lines.{as_line}
+use Rattle.afdx_network_report.specs.Lines.{Names, name_of}
 use Rattle.afdx_serve.specs.Checks.{IsLeastBuffer, AreTextsOf}
 
 -- a need beside its limit, in one unit
@@ -55,16 +56,32 @@ delays_text row load = codes " high " ++ delay_text load.highs (high_bound load)
 abbrev pub size_text : PortRow → Load → ℕ → List ℕ
 size_text row load least = amounts_text row load least ++ delays_text row load ++ verdict_text (broken_rules row load)
 
--- the line of a port; a port without links has none
-abbrev pub IsSizeOf : PortRow → Load → List ℕ → Type 0
-IsSizeOf row load line =
-    (0 < load.highs + load.lows → (least : ℕ) × IsLeastBuffer row load least × (line ≡ as_line (size_text row load least)))
+-- the line of a port, with this at its end; a port without links has none
+abbrev pub IsSizeOf : List ℕ → PortRow → Load → List ℕ → Type 0
+IsSizeOf more row load line =
+    (0 < load.highs + load.lows → (least : ℕ) × IsLeastBuffer row load least × (line ≡ as_line (size_text row load least ++ more)))
     × ((0 < load.highs + load.lows → ⊥) → line ≡ [])
 
 -- the lines of these ports, in their order
-abbrev pub AreSizesOf : ℕ → List Link → List PortRow → List ℕ → Type 0
-AreSizesOf latency links = AreTextsOf (λ row line. IsSizeOf row (load_of latency row.speed row.id links) line)
+abbrev pub AreSizesOf : List ℕ → ℕ → List Link → List PortRow → List ℕ → Type 0
+AreSizesOf more latency links = AreTextsOf (λ row line. IsSizeOf more row (load_of latency row.speed row.id links) line)
 
--- the lines of a table's ports by rising number
+-- the lines of a table's ports by rising number, each with this at its end
+abbrev pub AreSizesWith : List ℕ → Content → List ℕ → Type 0
+AreSizesWith more t text = AreSizesOf more t.latency t.links t.ports text
+
+-- those of a table alone
 abbrev pub AreSizesIn : Content → List ℕ → Type 0
-AreSizesIn t text = AreSizesOf t.latency t.links t.ports text
+AreSizesIn t text = AreSizesWith [] t text
+
+-- ---- of a network
+
+-- as a fault names a switch
+abbrev pub of_switch : List ℕ → List ℕ
+of_switch name = codes ", switch " ++ name
+
+-- the lines of these tables, the first of which is that of the switch of this number
+abbrev pub AreSizesFrom : ℕ → Names → List Content → List ℕ → Type 0
+AreSizesFrom n names [] text = text ≡ []
+AreSizesFrom n names (t ∷ tables) text =
+    (lines : List ℕ) × (rest : List ℕ) × AreSizesWith (of_switch (name_of names n)) t lines × AreSizesFrom (n + 1) names tables rest × (text ≡ lines ++ rest)

@@ -4,16 +4,20 @@
 #![tactic(auto)]
 
 mod check;
+mod explain;
 mod gathering;
 mod get;
 mod leading;
 mod measure;
+mod measured;
 mod names;
 mod network_check;
 mod network_get;
 mod network_jitter;
+mod network_plan;
 mod network_run;
 mod network_serving;
+mod network_size;
 mod outputs;
 mod put;
 mod reports;

@@ -1,33 +1,32 @@
 //! The command `network run`.
 
-ghost use Rattle.std.specs.Prelude.{◌≡◌, ◌++◌, List, length, map, filter, string_bytes, IfOk, OnOk, MatchResult};
+ghost use Rattle.std.specs.Prelude.{◌≡◌, ◌≢◌, ◌++◌, List, length, map, filter, string_bytes, IfOk, IfErr, OnOk, MatchResult};
 ghost use Rattle.afdx_session.specs.Texts.{Text, texts_of};
-ghost use Rattle.afdx_network.specs.Given.{given_of, is_open, AreGiven};
-ghost use Rattle.afdx_network.specs.Runs.{IsRunOf};
+ghost use Rattle.afdx_network.specs.Given.{given_of, is_open, AreGiven, IsUncheckedRefusal, NoneShareAPort};
 ghost use Rattle.afdx_folder.specs.Files.{KeepsFiles};
 ghost use Rattle.afdx_serve.specs.Runs.{capture_name, bytes_of_captures};
 ghost use Rattle.afdx_serve.specs.Networks.{names_of};
 ghost use Rattle.afdx_serve.specs.NetworkRuns.{switch_folder, names_at, bytes_at, captures_of, reports_of, HasGiven, FailsToGetGiven};
 ghost use Rattle.afdx_serve.specs.Inner.OpenPorts.{HasOpen, FailsToGetNamed};
-ghost use Rattle.afdx_serve.specs.Inner.NetworkRunning.{IsRunFailure, FailsToLeadGiven};
+ghost use Rattle.afdx_serve.specs.Inner.NetworkRunning.{network_in, IsRunFailure, HasRun, FailsToLeadGiven};
 ghost use Rattle.afdx_serve.specs.Serving.{world, RunsNetwork, FailsToRunNetwork};
 
 use crate::get::get;
 use crate::names::{capture_name, names_in};
-use crate::network_check::accept;
 use crate::network_get::{get_network, names_of};
+use crate::network_plan::{NetworkPlan, plan};
 use crate::outputs::put_texts;
 use afdx_arguments::NetworkPaths;
 use afdx_folder::{Folder, write_bytes};
 use afdx_messages::{Failure, NetworkFailure};
-use afdx_network::laws::network_runs_deliver;
+use afdx_network::laws::{network_runs_deliver, runs_are_unchecked};
 use afdx_network::{NetworkRunFault, Texts, is_open};
 use afdx_network_report::{name_of, push_report};
 use afdx_session::Outcome;
 use afdx_table::Table;
 use afdx_table::laws::tables_are_well_formed;
-use afdx_wiring::laws::layouts_are_within_limits;
-use afdx_wiring::{ClearedNetwork, Network};
+use afdx_wiring::Network;
+use afdx_wiring::laws::{layouts_are_within_limits, no_port_has_two_wires};
 use std::alloc::{AllocError, Global};
 use std::io::Write;
 
@@ -93,11 +92,13 @@ fn get_given<F: Folder>(
 
 /// The failure of a run, with the name of its switch among these.
 fn run_failure(alloc: Global, names: &[String], fault: NetworkRunFault) -> Failure
+    requires { fault ≢ NetworkRunFault.Unsettled }
     ensures { IsRunFailure (map string_bytes names.now) fault result }
 {
     match fault {
         NetworkRunFault::Memory => Failure::Memory,
-        NetworkRunFault::Unsettled => Failure::Network(NetworkFailure::Unsettled),
+        // No two wires of a file go to one port.
+        NetworkRunFault::Unsettled => unreachable!(),
         // Exactly the captures of the ports without a wire are got, so that this is not met.
         NetworkRunFault::WrongPorts(_) => Failure::Usage,
         NetworkRunFault::Capture(switch, port, fault) => {
@@ -109,20 +110,37 @@ fn run_failure(alloc: Global, names: &[String], fault: NetworkRunFault) -> Failu
     }
 }
 
+/// What the switches of a plan lead to, over these captures.
+fn outcomes_of(
+    alloc: Global,
+    plan: &NetworkPlan,
+    given: Vec<Texts>,
+) -> Result<Vec<Outcome<Global>>, NetworkRunFault>
+    ensures ok { IfOk result (λ outcomes. HasRun plan.now (given_of given.items) outcomes.items) }
+    ensures err { IfErr result (IsUncheckedRefusal (network_in plan.now) (given_of given.items)) }
+{
+    runs_are_unchecked();
+    match plan {
+        NetworkPlan::Unchecked(network) => afdx_network::run_unchecked(alloc, network, given),
+        NetworkPlan::Accepted(cleared) => afdx_network::run(alloc, cleared, given),
+    }
+}
+
 /// What the captures lead to at each switch.
 fn lead(
     alloc: Global,
     names: &[String],
-    cleared: &ClearedNetwork,
+    plan: &NetworkPlan,
     given: Vec<Texts>,
 ) -> Result<Vec<Outcome<Global>>, Failure>
-    requires names { map string_bytes names.now ≡ names_of cleared.now.layout.switches }
-    requires given { AreGiven cleared.now (given_of given.items) }
+    requires names { map string_bytes names.now ≡ names_of (network_in plan.now).layout.switches }
+    requires given { AreGiven (network_in plan.now) (given_of given.items) }
+    requires one_each { NoneShareAPort (network_in plan.now) }
     ensures { MatchResult result
-        (λ outcomes. (came : List (List Text)) × IsRunOf cleared.now (given_of given.items) came outcomes.items)
-        (λ f. FailsToLeadGiven f cleared.now (given_of given.items)) }
+        (λ outcomes. HasRun plan.now (given_of given.items) outcomes.items)
+        (λ f. FailsToLeadGiven f (network_in plan.now) (given_of given.items)) }
 {
-    match afdx_network::run(alloc, cleared, given) {
+    match outcomes_of(alloc, plan, given) {
         Ok(outcomes) => Ok(outcomes),
         Err(fault) => Err(run_failure(alloc, names, fault)),
     }
@@ -190,14 +208,15 @@ fn output_texts(alloc: Global, outcomes: Vec<Outcome<Global>>) -> Result<Vec<Vec
 /// report of each switch, with its name before each line.
 ///
 /// IN/A has the captures of the ports of switch A to which no wire goes; those of all its ports are put into OUT/A, which has
-/// to be there. The network is accepted before a capture is got, and all captures are got before the first switch runs. All
+/// to be there. The network is accepted before a capture is got, unless the run is unchecked, and all captures are got before the first
+/// switch runs. All
 /// names and reports are made before the first put, and the device has all files by then: where it fails to take one, none is put.
 /// After a put that failed the files before it are there, and no later one is put.
 ///
 /// # Errors
 ///
-/// What is met first: as `network check`; `Get` of a capture, by switch and then by port; `Network` with the fault of a
-/// capture, or `Unsettled`; `Put`; `Write`; `Memory` where memory ran out.
+/// What is met first: as `network check`, without what it checks of loads, tables and jitters if the run is unchecked; `Get` of a capture, by switch and then by port; `Network` with the fault of a
+/// capture; `Put`; `Write`; `Memory` where memory ran out.
 ///
 /// O(files), beside the runs of the switches.
 pub(crate) fn network_run<O: Write, F: Folder>(
@@ -214,12 +233,13 @@ pub(crate) fn network_run<O: Write, F: Folder>(
 {
     network_runs_deliver();
     layouts_are_within_limits();
+    no_port_has_two_wires();
     tables_are_well_formed();
     let network = get_network(alloc, folder, paths.network)?;
     let names = names_of(alloc, &network.layout().switches)?;
-    let cleared = accept(alloc, &names, network)?;
-    let given = get_given(alloc, folder, paths.input, &names, cleared.network())?;
-    let outcomes = lead(alloc, &names, &cleared, given)?;
+    let plan = plan(alloc, &names, network, paths.unchecked)?;
+    let given = get_given(alloc, folder, paths.input, &names, plan.network())?;
+    let outcomes = lead(alloc, &names, &plan, given)?;
     let files = output_names(alloc, paths.output, &names, &outcomes)?;
     let text = reports(alloc, &names, &outcomes)?;
     let texts = output_texts(alloc, outcomes)?;

@@ -6,6 +6,7 @@ ghost use Rattle.afdx_serve.specs.Serving.{world, PerformsNetwork, FailsToPerfor
 use crate::network_check::network_check;
 use crate::network_jitter::network_jitter;
 use crate::network_run::network_run;
+use crate::network_size::network_size;
 use afdx_arguments::NetworkRequest;
 use afdx_folder::Folder;
 use afdx_messages::Failure;
@@ -27,6 +28,7 @@ pub(crate) fn perform_network<O: Write, F: Folder>(
 {
     match request {
         NetworkRequest::Check(path) => network_check(alloc, path, out, folder),
+        NetworkRequest::Size(path) => network_size(alloc, path, out, folder),
         NetworkRequest::Jitter(path) => network_jitter(alloc, path, out, folder),
         NetworkRequest::Run(paths) => network_run(alloc, paths, out, folder),
     }

@@ -1,12 +1,15 @@
 //! The whole program, over any reader, writers and folder.
 
-ghost use Rattle.std.specs.Prelude.{◌≡◌, ◌≢◌, map, string_bytes, MatchResult};
+ghost use Rattle.std.specs.Prelude.{◌≡◌, ◌≢◌, ◌++◌, map, string_bytes, MatchResult};
 ghost use Rattle.std.specs.Io.KnownBytes.{Keeps};
+ghost use Rattle.afdx_arguments.specs.Explaining.{is_explained, plain_of};
+ghost use Rattle.afdx_messages.specs.Codes.{more_of};
 ghost use Rattle.afdx_messages.specs.declared.failure.Failure.{Failure as Failing};
 ghost use Rattle.afdx_messages.specs.Reporting.{line_of, status_of, IsTold};
 ghost use Rattle.afdx_serve.specs.Serving.{world, Answers, FailsToAnswer, Performs, FailsToPerform, Serves, Fails};
 
 use crate::check::check;
+use crate::explain::explain;
 use crate::measure::measure;
 use crate::network_serving::perform_network;
 use crate::run::run;
@@ -14,7 +17,7 @@ use crate::size::size;
 use crate::survey::survey;
 use crate::trace::trace;
 use afdx_alone::{Alone, read_alone};
-use afdx_arguments::{NoRequest, Request, parse};
+use afdx_arguments::{NoRequest, Request, is_explained, parse, plain_of};
 use afdx_folder::{Folder, write_bytes};
 use afdx_messages::{Ending, Failure, report};
 use std::alloc::Global;
@@ -59,7 +62,8 @@ fn perform<R: Read, O: Write, F: Folder>(
         Request::Run(paths, options) => run(alloc, paths, options, out, folder),
         Request::Measure(inputs) => measure(alloc, inputs, out, folder),
         Request::Survey(inputs) => survey(alloc, inputs, out, folder),
-        Request::Trace(paths) => trace(alloc, paths, folder),
+        Request::Trace(paths, options) => trace(alloc, paths, options, folder),
+        Request::Explain(entry) => explain(entry, out),
         Request::Network(request) => perform_network(alloc, request, out, folder),
     }
 }
@@ -96,15 +100,18 @@ fn serve_arguments<R: Read, O: Write, F: Folder>(
 ///
 /// `afdx alone` reads `input` to its end and writes its answer on `out`; `afdx check TABLE` and `afdx size TABLE` get TABLE
 /// from `folder` and write their lines on `out`; `afdx run TABLE IN OUT` gets TABLE, checks its load unless there is
-/// `--unchecked`, gets IN/port-1.pcap and so on, puts OUT/port-1.pcap and so on and writes the report on `out`, with its verdict
-/// as the last line if there is `--verdict`; `afdx measure TABLE IN` does so too, but puts nothing and writes what delays and
-/// buffers were; `afdx survey TABLE IN` writes the report and these, and when links were policed; `afdx trace TABLE IN OUT` puts OUT/arrivals.csv and OUT/departures.csv in place of the captures, and writes
-/// nothing; `afdx network check NET` and `afdx network jitter NET` get NET and the tables that it names and write their lines;
-/// `afdx network run NET IN OUT` gets IN/A/port-1.pcap and so on for each switch A, puts OUT/A/port-1.pcap and so on and writes
-/// the reports; `--help` and `--version` write the text of `clap` on `out`, the second that of `version` after the program's
-/// name. On a status above 1 one line goes to `err`: whole, or it is said that it was not taken, and a prefix of it is there; a
-/// fault in writing it changes nothing else. What is met before the answer is written leaves `out` as it was; where writing
-/// fails, a prefix of the answer was written.
+/// `--unchecked`, gets IN/port-1.pcap and so on, puts OUT/port-1.pcap and so on and writes the report on `out`, with its
+/// verdict as the last line if there is `--verdict`; `afdx measure TABLE IN` does so too, but puts nothing and writes what
+/// delays and buffers were; `afdx survey TABLE IN` writes the report and these, and when links were policed; `afdx trace TABLE
+/// IN OUT` puts OUT/arrivals.csv and OUT/departures.csv in place of the captures, with the lines of the links of `--link` alone
+/// if there is one, and writes nothing; `afdx network check NET`, `afdx network size NET` and `afdx network jitter NET` get NET
+/// and the tables that it names and write their lines; `afdx network run NET IN OUT` gets IN/A/port-1.pcap and so on for each
+/// switch A, puts OUT/A/port-1.pcap and so on and writes the reports; `afdx explain CODE` writes on `out` what MESSAGES says of
+/// CODE; `--help` and `--version` write the text of `clap` on `out`, the second that of `version` after the program's name. On
+/// a status above 1 one line goes to `err`, and after it what MESSAGES says of its code if `--explain` is the first argument
+/// after the program's name: whole, or it is said that it was not taken, and a prefix of it is there; a fault in writing it
+/// changes nothing else. All other arguments mean what they mean without `--explain`. What is met before the answer is written
+/// leaves `out` as it was; where writing fails, a prefix of the answer was written.
 ///
 /// No contract knows why a reader, a writer or a folder fails, or whether memory is left: that 5 comes only then, and
 /// that it is said only of an `err` that fails that it has not taken its line, is shown by tests.
@@ -120,19 +127,19 @@ pub fn serve<R: Read, O: Write, E: Write, F: Folder>(
     folder: &mut F,
 ) -> Ending
     ensures served { result.status ≡ 0
-        → Serves (map string_bytes arguments.now) (R.remaining input.old)
+        → Serves (plain_of (map string_bytes arguments.now)) (R.remaining input.old)
         (world (O.contents out.old) (F.files folder.old) (F.failed folder.old)) (world (O.contents out.new) (F.files folder.new) (F.failed folder.new))
         × Keeps (E.contents err.old) (E.contents err.new) }
     ensures failed { result.status ≢ 0 → (f : Failing) × (result.status ≡ status_of f)
-        × Fails f (map string_bytes arguments.now) (R.remaining input.old)
+        × Fails f (plain_of (map string_bytes arguments.now)) (R.remaining input.old)
         (world (O.contents out.old) (F.files folder.old) (F.failed folder.old)) (world (O.contents out.new) (F.files folder.new) (F.failed folder.new))
-        × IsTold result.is_told (E.contents err.old) (E.contents err.new) (line_of f) }
+        × IsTold result.is_told (E.contents err.old) (E.contents err.new) (line_of f ++ more_of f (is_explained (map string_bytes arguments.now))) }
 {
-    match serve_arguments(alloc, version, arguments, input, out, folder) {
+    match serve_arguments(alloc, version, plain_of(arguments), input, out, folder) {
         Ok(()) => Ending {
             status: 0,
             is_told: true,
         },
-        Err(failure) => report(alloc, &failure, err),
+        Err(failure) => report(alloc, &failure, is_explained(arguments), err),
     }
 }

@@ -6,7 +6,7 @@ ghost use Rattle.afdx_load.specs.Load.{load_of};
 ghost use Rattle.afdx_load.specs.Fits.{is_broken, broken_rules};
 ghost use Rattle.afdx_wiring.specs.Lines.{as_line};
 ghost use Rattle.afdx_serve.specs.Checks.{IsLeastBuffer};
-ghost use Rattle.afdx_serve.specs.Sizes.{delay_text, letter_of, letters_of, verdict_text, amounts_text, delays_text, size_text, IsSizeOf, AreSizesOf};
+ghost use Rattle.afdx_serve.specs.Sizes.{delay_text, letter_of, letters_of, verdict_text, amounts_text, delays_text, size_text, IsSizeOf, AreSizesWith};
 ghost use Rattle.afdx_serve.specs.Serving.{world, Sizes, FailsToSize};
 
 use crate::get::get_table;
@@ -120,42 +120,48 @@ fn push_delays(line: &mut String, row: &PortRow, load: &Load) -> Result<(), Allo
     push_delay(line, load.lows(), bounds.low, row.max_delay)
 }
 
-/// The line of a port with links.
-fn size_line(alloc: Global, row: &PortRow, load: &Load) -> Result<String, AllocError>
-    ensures { IfOk result (λ line. (least : ℕ) × IsLeastBuffer row.now load.now least × (string_bytes line ≡ as_line (size_text row.now load.now least))) }
+/// The line of a port with links, with this at its end.
+fn size_line(alloc: Global, row: &PortRow, load: &Load, more: &str) -> Result<String, AllocError>
+    ensures { IfOk result (λ line. (least : ℕ) × IsLeastBuffer row.now load.now least × (string_bytes line ≡ as_line (size_text row.now load.now least ++ more.now))) }
 {
     let least = least_buffer(load, row.speed);
     let mut line = amounts(alloc, row, load, least)?;
     push_delays(&mut line, row, load)?;
     push_verdict(alloc, &mut line, row, load)?;
+    line.push_str(more)?;
     line.push_str("\n")?;
     Ok(line)
 }
 
-/// The line of a port of the loads' table; where no link leads to it, no text.
-fn port_size(alloc: Global, loads: &Loads<'_>, row: &PortRow) -> Result<String, AllocError>
+/// The line of a port of the loads' table, with this at its end; where no link leads to it, no text.
+fn port_size(
+    alloc: Global,
+    loads: &Loads<'_>,
+    row: &PortRow,
+    more: &str,
+) -> Result<String, AllocError>
     requires { port_row loads.now row.now.id ≡ Some row.now }
-    ensures { IfOk result (λ line. IsSizeOf row.now (load_of loads.now.latency row.now.speed row.now.id loads.now.links) (string_bytes line)) }
+    ensures { IfOk result (λ line. IsSizeOf more.now row.now (load_of loads.now.latency row.now.speed row.now.id loads.now.links) (string_bytes line)) }
 {
     longest_shows_links();
     match loads.at(row.id) {
-        Some(load) if load.largest() > 0 => size_line(alloc, row, &load),
+        Some(load) if load.largest() > 0 => size_line(alloc, row, &load, more),
         _ => Ok(String::new(alloc)),
     }
 }
 
-/// The lines of the table's ports with links.
+/// The lines of the table's ports with links, each with this at its end.
 ///
 /// One pass over the links serves all ports: O(p + m) for p ports, of which there are at most 24, and links that
 /// together name m output ports.
-fn sizes_text(alloc: Global, table: &Table) -> Result<String, AllocError>
-    ensures { IfOk result (λ text. AreSizesOf table.now.latency table.now.links table.now.ports (string_bytes text)) }
+pub(crate) fn sizes_text(alloc: Global, table: &Table, more: &str) -> Result<String, AllocError>
+    ensures { IfOk result (λ text. AreSizesWith more.now table.now (string_bytes text)) }
 {
     ports_are_found();
     let loads = loads(table);
     let mut text = String::new(alloc);
     for row in table.ports() {
-        text.push_str(&port_size(alloc, &loads, row)?)?;
+        text.push_str(&port_size(alloc, &loads, row, more)?)?;
     }
     Ok(text)
 }
@@ -178,7 +184,7 @@ pub(crate) fn size<O: Write, F: Folder>(
         (world (O.contents out.old) (F.files folder.old) (F.failed folder.old)) (world (O.contents out.new) (F.files folder.new) (F.failed folder.new))) }
 {
     let table = get_table(alloc, folder, path)?;
-    let text = sizes_text(alloc, &table)?;
+    let text = sizes_text(alloc, &table, "")?;
     write_bytes(out, text.as_bytes())?;
     Ok(())
 }

@@ -7,20 +7,21 @@ use Rattle.afdx_port.specs.declared.Settings.{Settings}
 use Rattle.afdx_port.specs.declared.Sent.{Sent}
 use Rattle.afdx_port.specs.declared.Aged.{Aged}
 use Rattle.afdx_port.specs.Service.{Event, sending, aging, instant, sent_of, aged_of}
-use Rattle.afdx_trace.specs.Departures.{sent_line, aged_line, event_lines, ages_next, AreInOrder}
+use Rattle.afdx_trace.specs.declared.shown.Shown.{Shown}
+use Rattle.afdx_trace.specs.Departures.{if_shown, sent_line, aged_line, event_lines, ages_next, AreInOrder}
 
 -- the events that are left, where these lists have what is left of them
-pub record Left (port : ℕ) (s : Settings) (all : List Event) (sent : List Sent) (aged : List Aged) (number : ℕ) (start text : List ℕ) : Type 0 where
+pub record Left (shown : Shown) (port : ℕ) (s : Settings) (all : List Event) (sent : List Sent) (aged : List Aged) (number : ℕ) (start text : List ℕ) : Type 0 where
   pub events : List Event
   pub order : AreInOrder events
   pub sent_is : sent_of events ≡ sent
   pub aged_is : aged_of events ≡ aged
-  pub text_is : start ++ event_lines port s 0 all ≡ text ++ event_lines port s number events
+  pub text_is : start ++ event_lines shown port s 0 all ≡ text ++ event_lines shown port s number events
 
 -- the loop's invariant: so for all events that the lists may be of
-abbrev pub LeftOf : ℕ → Settings → List Sent → List Aged → List Sent → List Aged → ℕ → List ℕ → List ℕ → Type 0
-LeftOf port s sent₀ aged₀ sent aged number start text = (all : List Event) → AreInOrder all → sent_of all ≡ sent₀ → aged_of all ≡ aged₀
-    → Left port s all sent aged number start text
+abbrev pub LeftOf : Shown → ℕ → Settings → List Sent → List Aged → List Sent → List Aged → ℕ → List ℕ → List ℕ → Type 0
+LeftOf shown port s sent₀ aged₀ sent aged number start text = (all : List Event) → AreInOrder all → sent_of all ≡ sent₀ → aged_of all ≡ aged₀
+    → Left shown port s all sent aged number start text
 
 aged_late : (t : ℕ) (events : List Event) (a : Aged) (aged : List Aged) → AllByRecursion (λ event. t < instant event) events → aged_of events ≡ a ∷ aged → t < a.at
 aged_late t [] a aged late is = absurd (let e : [] ≡ a ∷ aged = is in cc)
@@ -65,54 +66,54 @@ ages_next-starts (aging a ∷ events) order = after_aged a events (sent_of event
 grown : (start all text line more longer : List ℕ) → start ++ all ≡ text ++ (line ++ more) → longer ≡ text ++ line → start ++ all ≡ longer ++ more
 grown start all text line more longer before is = before ∙ sym (append_assoc text line more) ∙ sym (ap (λ (t : List ℕ). t ++ more) is)
 
-one_aged : (port : ℕ) (s : Settings) (all events : List Event) (sent : List Sent) (a : Aged) (aged : List Aged) (number : ℕ) (start text longer : List ℕ) → starts_aged events ≡ true
+one_aged : (shown : Shown) (port : ℕ) (s : Settings) (all events : List Event) (sent : List Sent) (a : Aged) (aged : List Aged) (number : ℕ) (start text longer : List ℕ) → starts_aged events ≡ true
     → AreInOrder events
-    → sent_of events ≡ sent → aged_of events ≡ a ∷ aged → start ++ event_lines port s 0 all ≡ text ++ event_lines port s number events → longer ≡ text ++ aged_line port s a
-    → Left port s all sent aged number start longer
-one_aged port s all [] sent a aged number start text longer next order sent_is aged_is before is = not_both next
-one_aged port s all (sending x ∷ events) sent a aged number start text longer next order sent_is aged_is before is = not_both next
-one_aged port s all (aging b ∷ events) sent a aged number start text longer next order sent_is aged_is before is = record {
+    → sent_of events ≡ sent → aged_of events ≡ a ∷ aged → start ++ event_lines shown port s 0 all ≡ text ++ event_lines shown port s number events → longer ≡ text ++ if_shown shown a.item (aged_line shown port s a)
+    → Left shown port s all sent aged number start longer
+one_aged shown port s all [] sent a aged number start text longer next order sent_is aged_is before is = not_both next
+one_aged shown port s all (sending x ∷ events) sent a aged number start text longer next order sent_is aged_is before is = not_both next
+one_aged shown port s all (aging b ∷ events) sent a aged number start text longer next order sent_is aged_is before is = record {
   events = events;
   order = order.1;
   sent_is = sent_is;
   aged_is = ap (drop 1) aged_is;
-  text_is = grown start (event_lines port s 0 all) text (aged_line port s b) (event_lines port s number events) longer before
-      (is ∙ ap (λ (xs : List Aged). text ++ aged_line port s (get_or xs 0 a)) (sym aged_is));
+  text_is = grown start (event_lines shown port s 0 all) text (if_shown shown b.item (aged_line shown port s b)) (event_lines shown port s number events) longer before
+      (is ∙ ap (λ (xs : List Aged). text ++ if_shown shown (get_or xs 0 a).item (aged_line shown port s (get_or xs 0 a))) (sym aged_is));
 }
 
-one_sent : (port : ℕ) (s : Settings) (all events : List Event) (x : Sent) (sent : List Sent) (aged : List Aged) (number : ℕ) (start text longer : List ℕ) → starts_aged events ≡ false
+one_sent : (shown : Shown) (port : ℕ) (s : Settings) (all events : List Event) (x : Sent) (sent : List Sent) (aged : List Aged) (number : ℕ) (start text longer : List ℕ) → starts_aged events ≡ false
     → AreInOrder events
-    → sent_of events ≡ x ∷ sent → aged_of events ≡ aged → start ++ event_lines port s 0 all ≡ text ++ event_lines port s number events → longer ≡ text ++ sent_line port s (number + 1) x
-    → Left port s all sent aged (number + 1) start longer
-one_sent port s all [] x sent aged number start text longer next order sent_is aged_is before is = absurd (let none : 0 ≡ length (x ∷ sent) = ap length sent_is in omega (arith, none))
-one_sent port s all (aging a ∷ events) x sent aged number start text longer next order sent_is aged_is before is = not_both (sym next)
-one_sent port s all (sending y ∷ events) x sent aged number start text longer next order sent_is aged_is before is = record {
+    → sent_of events ≡ x ∷ sent → aged_of events ≡ aged → start ++ event_lines shown port s 0 all ≡ text ++ event_lines shown port s number events → longer ≡ text ++ if_shown shown x.item (sent_line shown port s (number + 1) x)
+    → Left shown port s all sent aged (number + 1) start longer
+one_sent shown port s all [] x sent aged number start text longer next order sent_is aged_is before is = absurd (let none : 0 ≡ length (x ∷ sent) = ap length sent_is in omega (arith, none))
+one_sent shown port s all (aging a ∷ events) x sent aged number start text longer next order sent_is aged_is before is = not_both (sym next)
+one_sent shown port s all (sending y ∷ events) x sent aged number start text longer next order sent_is aged_is before is = record {
   events = events;
   order = order.1;
   sent_is = ap (drop 1) sent_is;
   aged_is = aged_is;
-  text_is = grown start (event_lines port s 0 all) text (sent_line port s (number + 1) y) (event_lines port s (number + 1) events) longer before
-      (is ∙ ap (λ (xs : List Sent). text ++ sent_line port s (number + 1) (get_or xs 0 x)) (sym sent_is));
+  text_is = grown start (event_lines shown port s 0 all) text (if_shown shown y.item (sent_line shown port s (number + 1) y)) (event_lines shown port s (number + 1) events) longer before
+      (is ∙ ap (λ (xs : List Sent). text ++ if_shown shown (get_or xs 0 x).item (sent_line shown port s (number + 1) (get_or xs 0 x))) (sym sent_is));
 }
 
 -- what the lists say of the events
-reported : (port : ℕ) (s : Settings) (all : List Event) (sent : List Sent) (aged : List Aged) (number : ℕ) (start text : List ℕ) (l : Left port s all sent aged number start text)
+reported : (shown : Shown) (port : ℕ) (s : Settings) (all : List Event) (sent : List Sent) (aged : List Aged) (number : ℕ) (start text : List ℕ) (l : Left shown port s all sent aged number start text)
     → ages_next sent aged ≡ starts_aged l.events
-reported port s all sent aged number start text l = sym (ap (λ (xs : List Sent). ages_next xs aged) l.sent_is) ∙ sym (ap (ages_next (sent_of l.events)) l.aged_is) ∙ ages_next-starts l.events l.order
+reported shown port s all sent aged number start text l = sym (ap (λ (xs : List Sent). ages_next xs aged) l.sent_is) ∙ sym (ap (ages_next (sent_of l.events)) l.aged_is) ∙ ages_next-starts l.events l.order
 
-pub left_aged : (port : ℕ) (s : Settings) (sent₀ sent : List Sent) (aged₀ before_aged : List Aged) (a : Aged) (aged : List Aged) (number : ℕ) (start text longer : List ℕ)
+pub left_aged : (shown : Shown) (port : ℕ) (s : Settings) (sent₀ sent : List Sent) (aged₀ before_aged : List Aged) (a : Aged) (aged : List Aged) (number : ℕ) (start text longer : List ℕ)
     → ages_next sent before_aged ≡ true → before_aged ≡ a ∷ aged
-    → longer ≡ text ++ aged_line port s a → LeftOf port s sent₀ aged₀ sent before_aged number start text → LeftOf port s sent₀ aged₀ sent aged number start longer
-left_aged port s sent₀ sent aged₀ before_aged a aged number start text longer next parts is before all order sent_is aged_is =
+    → longer ≡ text ++ if_shown shown a.item (aged_line shown port s a) → LeftOf shown port s sent₀ aged₀ sent before_aged number start text → LeftOf shown port s sent₀ aged₀ sent aged number start longer
+left_aged shown port s sent₀ sent aged₀ before_aged a aged number start text longer next parts is before all order sent_is aged_is =
     let l = before all order sent_is aged_is in
-    one_aged port s all l.events sent a aged number start text longer (sym (reported port s all sent before_aged number start text l) ∙ next) l.order l.sent_is (l.aged_is ∙ parts) l.text_is is
+    one_aged shown port s all l.events sent a aged number start text longer (sym (reported shown port s all sent before_aged number start text l) ∙ next) l.order l.sent_is (l.aged_is ∙ parts) l.text_is is
 
-pub left_sent : (port : ℕ) (s : Settings) (sent₀ before_sent : List Sent) (x : Sent) (sent : List Sent) (aged₀ aged : List Aged) (number : ℕ) (start text longer : List ℕ)
+pub left_sent : (shown : Shown) (port : ℕ) (s : Settings) (sent₀ before_sent : List Sent) (x : Sent) (sent : List Sent) (aged₀ aged : List Aged) (number : ℕ) (start text longer : List ℕ)
     → ages_next before_sent aged ≡ false → before_sent ≡ x ∷ sent
-    → longer ≡ text ++ sent_line port s (number + 1) x → LeftOf port s sent₀ aged₀ before_sent aged number start text → LeftOf port s sent₀ aged₀ sent aged (number + 1) start longer
-left_sent port s sent₀ before_sent x sent aged₀ aged number start text longer next parts is before all order sent_is aged_is =
+    → longer ≡ text ++ if_shown shown x.item (sent_line shown port s (number + 1) x) → LeftOf shown port s sent₀ aged₀ before_sent aged number start text → LeftOf shown port s sent₀ aged₀ sent aged (number + 1) start longer
+left_sent shown port s sent₀ before_sent x sent aged₀ aged number start text longer next parts is before all order sent_is aged_is =
     let l = before all order sent_is aged_is in
-    one_sent port s all l.events x sent aged number start text longer (sym (reported port s all before_sent aged number start text l) ∙ next) l.order (l.sent_is ∙ parts) l.aged_is l.text_is is
+    one_sent shown port s all l.events x sent aged number start text longer (sym (reported shown port s all before_sent aged number start text l) ∙ next) l.order (l.sent_is ∙ parts) l.aged_is l.text_is is
 
 -- no event is left
 none_sent : (sent : List Sent) → length sent ≡ 0 → sent ≡ []
@@ -123,14 +124,14 @@ none_aged : (aged : List Aged) → length aged ≡ 0 → aged ≡ []
 none_aged [] none = refl
 none_aged (a ∷ aged) none = absurd (omega (arith, none))
 
-none_left : (port : ℕ) (s : Settings) (events : List Event) (number : ℕ) → sent_of events ≡ [] → aged_of events ≡ [] → event_lines port s number events ≡ []
-none_left port s [] number no_sent no_aged = refl
-none_left port s (sending x ∷ events) number no_sent no_aged = absurd (let none : length (x ∷ sent_of events) ≡ 0 = ap length no_sent in omega (arith, none))
-none_left port s (aging a ∷ events) number no_sent no_aged = absurd (let none : length (a ∷ aged_of events) ≡ 0 = ap length no_aged in omega (arith, none))
+none_left : (shown : Shown) (port : ℕ) (s : Settings) (events : List Event) (number : ℕ) → sent_of events ≡ [] → aged_of events ≡ [] → event_lines shown port s number events ≡ []
+none_left shown port s [] number no_sent no_aged = refl
+none_left shown port s (sending x ∷ events) number no_sent no_aged = absurd (let none : length (x ∷ sent_of events) ≡ 0 = ap length no_sent in omega (arith, none))
+none_left shown port s (aging a ∷ events) number no_sent no_aged = absurd (let none : length (a ∷ aged_of events) ≡ 0 = ap length no_aged in omega (arith, none))
 
-pub all_reported : (port : ℕ) (s : Settings) (sent₀ sent : List Sent) (aged₀ aged : List Aged) (number : ℕ) (start text : List ℕ) → length sent ≡ 0 → length aged ≡ 0
-    → LeftOf port s sent₀ aged₀ sent aged number start text
-    → (events : List Event) → AreInOrder events → sent_of events ≡ sent₀ → aged_of events ≡ aged₀ → text ≡ start ++ event_lines port s 0 events
-all_reported port s sent₀ sent aged₀ aged number start text no_sent no_aged before events order sent_is aged_is =
+pub all_reported : (shown : Shown) (port : ℕ) (s : Settings) (sent₀ sent : List Sent) (aged₀ aged : List Aged) (number : ℕ) (start text : List ℕ) → length sent ≡ 0 → length aged ≡ 0
+    → LeftOf shown port s sent₀ aged₀ sent aged number start text
+    → (events : List Event) → AreInOrder events → sent_of events ≡ sent₀ → aged_of events ≡ aged₀ → text ≡ start ++ event_lines shown port s 0 events
+all_reported shown port s sent₀ sent aged₀ aged number start text no_sent no_aged before events order sent_is aged_is =
     let l = before events order sent_is aged_is in
-    sym (l.text_is ∙ ap (λ (t : List ℕ). text ++ t) (none_left port s l.events number (l.sent_is ∙ none_sent sent no_sent) (l.aged_is ∙ none_aged aged no_aged)) ∙ append-nil text)
+    sym (l.text_is ∙ ap (λ (t : List ℕ). text ++ t) (none_left shown port s l.events number (l.sent_is ∙ none_sent sent no_sent) (l.aged_is ∙ none_aged aged no_aged)) ∙ append-nil text)

@@ -10,12 +10,12 @@ use Rattle.afdx_account.specs.Early.{early_by}
 use Rattle.afdx_load.specs.Load.{terms_of}
 use Rattle.afdx_core.specs.declared.step.Row.{Row}
 use Rattle.afdx_core.specs.declared.step.Fate.TheVariants.{Policed, Passed}
-use Rattle.afdx_core.specs.Rows.{named, fate_by, each_after, account_frames, frame_of_row}
+use Rattle.afdx_core.specs.Rows.{fate_by, each_after, account_frames, frame_of_row}
 use Rattle.afdx_core.specs.State.{Run}
 use Rattle.afdx_trace.specs.Csv.{joined_by, optional}
-use Rattle.afdx_trace.specs.Arrivals.{verdict_word, fate_word, early_in, full_in, fate_fields, refusing}
+use Rattle.afdx_trace.specs.Arrivals.{fate_word, early_in, full_in, fate_fields, refusing}
 use Rattle.afdx_trace.specs.declared.tracer.Tracer.{Tracer}
-use Rattle.afdx_trace.specs.Inner.Tracing.{IsPassed, IsPoliced, Traces}
+use Rattle.afdx_trace.specs.Inner.Tracing.{IsPassed, Traces}
 
 -- the fields of a fate, by the link
 abbrev fields_by : Run → List Row → Row → Option Link → List (List ℕ)

@@ -1,5 +1,5 @@
 -- What became of each arrival, as comma-separated values (profile).
-use Rattle.std.specs.Prelude.{ℕ, ◌+◌, ◌==◌, Bool, ◌||◌, not, if◌then◌else◌, codes, decimal, List, [], ◌∷◌, ◌++◌, length, map, flat_map, filter, count_by, Option, Some, None}
+use Rattle.std.specs.Prelude.{ℕ, ◌+◌, ◌-◌, ◌==◌, Bool, ◌||◌, not, if◌then◌else◌, codes, decimal, List, [], ◌∷◌, ◌++◌, length, map, flat_map, filter, count_by, Option, Some, None}
 use Rattle.std.specs.List.{list_any}
 use Rattle.afdx_table.specs.Link.{Link}
 use Rattle.afdx_table.specs.Content.{port_row}
@@ -13,7 +13,10 @@ use Rattle.afdx_core.specs.declared.step.Fate.{Fate}
 use Rattle.afdx_core.specs.declared.step.Fate.TheVariants.{Filtered, Policed, Passed}
 use Rattle.afdx_core.specs.Rows.{each_after, named, passes, fate_of, account_frames, frame_of_row}
 use Rattle.afdx_core.specs.State.{Run, sent_in, aged_in}
+use Rattle.afdx_trace.specs.declared.shown.Selection.{Selection}
+use Rattle.afdx_trace.specs.declared.shown.Shown.{Shown}
 use Rattle.afdx_trace.specs.Csv.{next_field, joined_by, optional}
+use Rattle.afdx_trace.specs.Shown.{is_shown, shown_of}
 
 abbrev pub arrivals_heading : List ℕ
 arrivals_heading = codes "frame,port,record,stamp,link,size,fate,early,full\n"
@@ -66,13 +69,17 @@ abbrev pub record_in : List Row → Row → ℕ
 record_in before row = count_by (λ other. other.in_port == row.in_port) before + 1
 
 -- the fields before these: first the number of arrivals before it
-abbrev pub frame_fields : List Row → Row → List ℕ
-frame_fields before row = decimal (length before)
-    ++ flat_map next_field (decimal row.in_port ∷ decimal (record_in before row) ∷ decimal row.stamp ∷ optional row.link ∷ decimal row.size ∷ [])
+abbrev pub frame_fields : Shown → List Row → Row → List ℕ
+frame_fields shown before row = decimal (length before)
+    ++ flat_map next_field (decimal row.in_port ∷ decimal (record_in before row) ∷ decimal (row.stamp - shown.origin) ∷ optional row.link ∷ decimal row.size ∷ [])
 
-abbrev pub arrival_line : Run → List Row → Row → List ℕ
-arrival_line r before row = frame_fields before row ++ flat_map next_field (fate_fields r before row) ++ codes "\n"
+abbrev pub arrival_line : Shown → Run → List Row → Row → List ℕ
+arrival_line shown r before row = frame_fields shown before row ++ flat_map next_field (fate_fields r before row) ++ codes "\n"
 
--- a heading, then each arrival in order
-abbrev pub arrivals_text : Run → List ℕ
-arrivals_text r = arrivals_heading ++ each_after (arrival_line r) [] r.rows
+-- that line, if it is shown
+abbrev pub shown_line : Shown → Run → List Row → Row → List ℕ
+shown_line shown r before row = if is_shown shown row.link then arrival_line shown r before row else []
+
+-- a heading, then each arrival that is shown, in order
+abbrev pub arrivals_text : Selection → Run → List ℕ
+arrivals_text selection r = arrivals_heading ++ each_after (shown_line (shown_of selection r.rows) r) [] r.rows

@@ -1,5 +1,5 @@
 -- What became of the copies at each port, as comma-separated values (profile).
-use Rattle.std.specs.Prelude.{ℕ, ◌≤◌, ◌+◌, ◌-◌, ◌<◌, codes, decimal, Bool, true, false, nat_le, List, [], ◌∷◌, ◌++◌, flat_map}
+use Rattle.std.specs.Prelude.{ℕ, ◌≤◌, ◌+◌, ◌-◌, ◌<◌, codes, decimal, Bool, true, false, nat_le, List, [], ◌∷◌, ◌++◌, flat_map, Some, if◌then◌else◌}
 use Rattle.std.specs.List.{AllByRecursion}
 use Rattle.afdx_table.specs.declared.rows.PortRow.{PortRow}
 use Rattle.afdx_table.specs.Names.{priority_text}
@@ -11,36 +11,43 @@ use Rattle.afdx_port.specs.Service.{Event, sending, aging, instant, came}
 use Rattle.afdx_port.specs.Content.{done}
 use Rattle.afdx_isolation.specs.Table.{settings_of}
 use Rattle.afdx_core.specs.State.{Run, port_in}
+use Rattle.afdx_trace.specs.declared.shown.Selection.{Selection}
+use Rattle.afdx_trace.specs.declared.shown.Shown.{Shown}
 use Rattle.afdx_trace.specs.Csv.{next_field}
+use Rattle.afdx_trace.specs.Shown.{is_shown, shown_of}
 
 abbrev pub departures_heading : List ℕ
 departures_heading = codes "port,record,frame,link,priority,size,came,start,left,delay,outcome\n"
 
 -- the fields of a copy, each after a comma: it came at the instant at which it was queued
-abbrev pub item_fields : Settings → Item → List ℕ
-item_fields s x = flat_map next_field (decimal x.number ∷ decimal x.link ∷ priority_text x.priority ∷ decimal x.size ∷ decimal (came s x) ∷ [])
+abbrev pub item_fields : Shown → Settings → Item → List ℕ
+item_fields shown s x = flat_map next_field (decimal x.number ∷ decimal x.link ∷ priority_text x.priority ∷ decimal x.size ∷ decimal (came s x - shown.origin) ∷ [])
 
 -- a copy that a port sent, as the record of this number of its output; its delay is reckoned from the stamp of its frame
-abbrev pub sent_line : ℕ → Settings → ℕ → Sent → List ℕ
-sent_line port s number x = decimal port ++ next_field (decimal number) ++ item_fields s x.item
-    ++ flat_map next_field (decimal x.begin ∷ decimal x.end ∷ decimal (x.end - x.item.stamp) ∷ codes "sent\n" ∷ [])
+abbrev pub sent_line : Shown → ℕ → Settings → ℕ → Sent → List ℕ
+sent_line shown port s number x = decimal port ++ next_field (decimal number) ++ item_fields shown s x.item
+    ++ flat_map next_field (decimal (x.begin - shown.origin) ∷ decimal (x.end - shown.origin) ∷ decimal (x.end - x.item.stamp) ∷ codes "sent\n" ∷ [])
 
 -- a copy that a port discarded for its age at an instant: it is no record, and leaves at none
-abbrev pub aged_line : ℕ → Settings → Aged → List ℕ
-aged_line port s x = decimal port ++ next_field [] ++ item_fields s x.item ++ flat_map next_field (decimal x.at ∷ [] ∷ [] ∷ codes "aged\n" ∷ [])
+abbrev pub aged_line : Shown → ℕ → Settings → Aged → List ℕ
+aged_line shown port s x = decimal port ++ next_field [] ++ item_fields shown s x.item ++ flat_map next_field (decimal (x.at - shown.origin) ∷ [] ∷ [] ∷ codes "aged\n" ∷ [])
+
+-- the line of a copy of a link that is shown
+abbrev pub if_shown : Shown → Item → List ℕ → List ℕ
+if_shown shown x line = if is_shown shown (Some x.link) then line else []
 
 -- a port's events in order, where so many copies were sent before them
-abbrev pub event_lines : ℕ → Settings → ℕ → List Event → List ℕ
-event_lines port s before [] = []
-event_lines port s before (sending x ∷ events) = sent_line port s (before + 1) x ++ event_lines port s (before + 1) events
-event_lines port s before (aging x ∷ events) = aged_line port s x ++ event_lines port s before events
+abbrev pub event_lines : Shown → ℕ → Settings → ℕ → List Event → List ℕ
+event_lines shown port s before [] = []
+event_lines shown port s before (sending x ∷ events) = if_shown shown x.item (sent_line shown port s (before + 1) x) ++ event_lines shown port s (before + 1) events
+event_lines shown port s before (aging x ∷ events) = if_shown shown x.item (aged_line shown port s x) ++ event_lines shown port s before events
 
-abbrev pub port_lines : Run → PortRow → List ℕ
-port_lines r p = event_lines p.id (settings_of r.table.latency p) 0 (done (port_in r p))
+abbrev pub port_lines : Shown → Run → PortRow → List ℕ
+port_lines shown r p = event_lines shown p.id (settings_of r.table.latency p) 0 (done (port_in r p))
 
--- a heading, then each port by rising number
-abbrev pub departures_text : Run → List ℕ
-departures_text r = departures_heading ++ flat_map (port_lines r) r.table.ports
+-- a heading, then what is shown of each port by rising number
+abbrev pub departures_text : Selection → Run → List ℕ
+departures_text selection r = departures_heading ++ flat_map (port_lines (shown_of selection r.rows) r) r.table.ports
 
 -- ---- the order of events
 

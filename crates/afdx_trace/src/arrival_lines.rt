@@ -3,6 +3,7 @@
 ghost use Rattle.std.specs.Prelude.{◌≡◌, string_bytes, IfOk};
 ghost use Rattle.afdx_trace.specs.Arrivals.{arrivals_text};
 
+use crate::shown::{Selection, Shown};
 use crate::tracer::Tracer;
 use afdx_core::Done;
 use std::alloc::{AllocError, Allocator};
@@ -10,22 +11,24 @@ use std::alloc::{AllocError, Allocator};
 /// The names of the fields.
 const HEADING: &str = "frame,port,record,stamp,link,size,fate,early,full\n";
 
-/// A line for each arrival in the order in which the switch took them, after a heading.
+/// A line for each arrival that is selected, in the order in which the switch took them, after a heading.
 ///
-/// An error says that memory ran out. O(arrivals), each port of the table that was offered copies with a byte for
+/// An error says that memory ran out. O(arrivals), for each one as many steps as links are selected, and each port of the table that was offered copies with a byte for
 /// each arrival.
 pub fn arrivals<A: Allocator + Copy, B: Allocator + Copy>(
     alloc: A,
     done: &Done<'_, B>,
+    selection: &Selection<'_>,
 ) -> Result<String<A>, AllocError>
-    ensures { IfOk result (λ text. string_bytes text ≡ arrivals_text done.now.run) }
+    ensures { IfOk result (λ text. string_bytes text ≡ arrivals_text selection.now done.now.run) }
 {
     let rows = done.rows();
+    let shown = Shown::of(selection, rows);
     let mut tracer = Tracer::new(alloc, done)?;
     let mut text = String::new(alloc);
     text.push_str(HEADING)?;
     for (number, row) in rows.iter().enumerate() {
-        tracer.trace(&mut text, done, &rows[..number], row)?;
+        tracer.trace(&mut text, done, &shown, &rows[..number], row)?;
     }
     Ok(text)
 }

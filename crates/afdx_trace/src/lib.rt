@@ -9,7 +9,9 @@ mod departure_lines;
 mod fields;
 mod flags;
 pub mod laws;
+mod shown;
 mod tracer;
 
 pub use arrival_lines::arrivals;
 pub use departure_lines::departures;
+pub use shown::Selection;

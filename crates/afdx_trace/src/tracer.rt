@@ -4,12 +4,13 @@ ghost use Rattle.std.specs.Prelude.{◌≡◌, ◌<◌, ◌∷◌, [], ◌++◌,
 ghost use Rattle.afdx_filter.specs.Place.{place_named};
 ghost use Rattle.afdx_core.specs.Kept.{AccountsAgree};
 ghost use Rattle.afdx_trace.specs.Csv.{next_field, joined_by, optional};
-ghost use Rattle.afdx_trace.specs.Arrivals.{verdict_word, record_in, frame_fields, fate_fields, arrival_line};
+ghost use Rattle.afdx_trace.specs.Arrivals.{verdict_word, record_in, frame_fields, fate_fields, shown_line};
 ghost use Rattle.afdx_trace.specs.Inner.Taken.{AreTaken};
 ghost use Rattle.afdx_trace.specs.Inner.Tracing.{AreCounted, IsPassed, IsPoliced, Traces};
 
 use crate::fields::{put_number, put_optional, put_ports, put_word};
 use crate::flags::{Flags, all_taken, refusing};
+use crate::shown::Shown;
 use afdx_account::{Account, early_by};
 use afdx_core::laws::filtered_touch_no_account;
 use afdx_core::{Done, Row, accounts_of, police};
@@ -93,17 +94,18 @@ fn put_link<A: Allocator + Copy>(text: &mut String<A>, link: Option<u16>) -> Res
 /// Appends the fields of an arrival, up to its size.
 fn put_frame<A: Allocator + Copy>(
     text: &mut String<A>,
+    shown: &Shown<'_>,
     before: &[Row],
     place: usize,
     row: &Row,
 ) -> Result<(), AllocError>
     requires { place ≡ record_in before.now row.now }
-    ensures { OnOk result (string_bytes text.new ≡ string_bytes text.old ++ frame_fields before.now row.now) }
+    ensures { OnOk result (string_bytes text.new ≡ string_bytes text.old ++ frame_fields shown.now before.now row.now) }
 {
     write!(text, "{}", before.len())?;
     put_number(text, u64::from(row.in_port))?;
     put_number(text, place as u64)?;
-    put_number(text, row.stamp.ns())?;
+    put_number(text, shown.since(row.stamp.ns()))?;
     put_link(text, row.link)?;
     put_number(text, u64::from(row.size))
 }
@@ -182,22 +184,26 @@ impl<A: Allocator + Copy> Tracer<A> {
         }
     }
 
-    /// Appends the line of an arrival that came after these.
+    /// Appends the line of an arrival that came after these, if it is shown.
     pub(crate) fn trace<B: Allocator + Copy>(
         &mut self,
         text: &mut String<A>,
         done: &Done<'_, B>,
+        shown: &Shown<'_>,
         before: &[Row],
         row: &Row,
     ) -> Result<(), AllocError>
         requires traces { Traces done.now.run before.now row.now.stamp self.old }
         requires within { length before.now < length done.now.run.rows }
-        ensures text { OnOk result (string_bytes text.new ≡ string_bytes text.old ++ arrival_line done.now.run before.now row.now) }
+        ensures text { OnOk result (string_bytes text.new ≡ string_bytes text.old ++ shown_line shown.now done.now.run before.now row.now) }
         ensures traces { OnOk result (Traces done.now.run (before.now ++ row.now ∷ []) row.now.stamp self.new) }
     {
         let place = count(&mut self.records, before, row);
         let (word, early, full) = self.fate(done, before, row)?;
-        put_frame(text, before, place, row)?;
+        if !shown.has(row.link) {
+            return Ok(());
+        }
+        put_frame(text, shown, before, place, row)?;
         put_fate(text, word, early, &full)
     }
 }

@@ -1,4 +1,5 @@
 pub mod Alike
+pub mod ApartLemmas
 pub mod ArrayLemmas
 pub mod Chains
 pub mod Enough

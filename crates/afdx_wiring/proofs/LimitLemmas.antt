@@ -20,23 +20,23 @@ use Rattle.afdx_wiring.specs.File.{Switch, Layout, Top, switch_at, switches_from
 
 -- ---- first refusals
 
-abbrev answered : {A : Type 0} → A → Result A NetworkFault
+abbrev pub answered : {A : Type 0} → A → Result A NetworkFault
 answered x = Ok x
 
-ok_same : {A : Type 0} {x y : A} → answered x ≡ answered y → x ≡ y
+pub ok_same : {A : Type 0} {x y : A} → answered x ≡ answered y → x ≡ y
 ok_same h = cc
 
 -- what is answered in two steps
-record Stepped {A B : Type 0} (r : Result A NetworkFault) (f : A → Result B NetworkFault) (y : B) : Type 0 where
+pub record Stepped {A B : Type 0} (r : Result A NetworkFault) (f : A → Result B NetworkFault) (y : B) : Type 0 where
   pub first : A
   pub first_is : r ≡ Ok first
   pub rest : f first ≡ Ok y
 
-stepped : {A B : Type 0} (r : Result A NetworkFault) (f : A → Result B NetworkFault) (y : B) → (r >>= f) ≡ Ok y → Stepped r f y
+pub stepped : {A B : Type 0} (r : Result A NetworkFault) (f : A → Result B NetworkFault) (y : B) → (r >>= f) ≡ Ok y → Stepped r f y
 stepped (Ok x) f y is = record { first = x; first_is = refl; rest = is }
 stepped (Err e) f y is = absurd cc
 
-passes : (bad : Bool) (e : NetworkFault) (x : Unit {0}) → unless bad e ≡ Ok x → bad ≡ false
+pub passes : (bad : Bool) (e : NetworkFault) (x : Unit {0}) → unless bad e ≡ Ok x → bad ≡ false
 passes true e x is = absurd cc
 passes false e x is = refl
 
@@ -62,7 +62,7 @@ optional_within at k greatest missing ms m small is = by (get_member (key_text k
 
 -- ---- wires
 
-same_wire : (at : At) (before : List Wire) (w v : Wire) → fitting at before w ≡ Ok v → w ≡ v
+pub same_wire : (at : At) (before : List Wire) (w v : Wire) → fitting at before w ≡ Ok v → w ≡ v
 unfolding fitting
 same_wire at before w v is =
     let one = stepped (unless (comes_from before w.from) (TwiceFrom at)) _ v is in
@@ -83,7 +83,7 @@ wire_short at switches before ms w is =
     (same_wire at before (record { from = from.first; to = to.first; delay = delay.first }) w to.rest)
     (optional_within at key.Delay 1000000 0 ms delay.first (omega arith) delay.first_is)
 
-all_push : (P : Wire → Type 0) (ws : List Wire) (w : Wire) → AllByRecursion P ws → P w → AllByRecursion P (ws ++ w ∷ [])
+pub all_push : (P : Wire → Type 0) (ws : List Wire) (w : Wire) → AllByRecursion P ws → P w → AllByRecursion P (ws ++ w ∷ [])
 all_push P [] w all last = (last, tt)
 all_push P (v ∷ ws) w all last = (all.0, all_push P ws w all.1 last)
 

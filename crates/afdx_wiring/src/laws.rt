@@ -1,6 +1,6 @@
 //! Laws over the definitions: functions that do nothing, whose contracts are the laws.
 
-ghost use Rattle.afdx_wiring.specs.Inner.Limits.{LayoutsAreWithinLimits};
+ghost use Rattle.afdx_wiring.specs.Inner.Limits.{LayoutsAreWithinLimits, NoPortHasTwoWires};
 ghost use Rattle.afdx_wiring.specs.Inner.Staying.{WholeJittersAreEnough};
 ghost use Rattle.afdx_wiring.specs.Inner.Tabled.{RowsAreOfTables};
 
@@ -9,6 +9,11 @@ use afdx_grouping::laws::bounds_are_no_more;
 /// A layout that is read has at most 64 switches, and no wire takes more than a millisecond.
 pub fn layouts_are_within_limits()
     ensures { LayoutsAreWithinLimits }
+{}
+
+/// No two wires of a layout that is read go to one port.
+pub fn no_port_has_two_wires()
+    ensures { NoPortHasTwoWires }
 {}
 
 /// Each row of a network is of the table at its switch's place.

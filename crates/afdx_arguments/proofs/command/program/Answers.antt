@@ -1,6 +1,6 @@
 use Rattle.std.proofs.Common.{codes, ap, ◌∙◌}
 use Rattle.clap.specs.Words.{App, with_subcommand}
-use Rattle.afdx_arguments.specs.Commands.{size_app, paths_app, run_app, inputs_app, network_app, program}
+use Rattle.afdx_arguments.specs.Commands.{size_app, run_app, inputs_app, trace_app, explain_app, network_app, program}
 use Rattle.afdx_arguments.proofs.CommandLemmas.{if_one_more}
 use Rattle.afdx_arguments.proofs.command.program.Goals as goal
 
@@ -9,5 +9,6 @@ unfolding program
 returns c =
     let runs = c.in_ok-runs.ensures ∙ ap (λ (a : App). with_subcommand (with_subcommand a size_app.top) run_app.top) c.in_ok-checks.ensures in
     let rows = c.in_ok-rows.ensures
-    ∙ ap (λ (a : App). with_subcommand (with_subcommand (with_subcommand a (inputs_app (codes "measure")).top) (inputs_app (codes "survey")).top) (paths_app (codes "trace")).top) runs in
-    if_one_more c.in_ok-rows.rows c.network.result c.subcommand.result _ network_app c.subcommand.ensures c.network.ensures.local rows c.network.ensures.app
+    ∙ ap (λ (a : App). with_subcommand (with_subcommand (with_subcommand a (inputs_app (codes "measure")).top) (inputs_app (codes "survey")).top) trace_app.top) runs in
+    let all = c.in_ok-all.ensures explain_app c.explain.ensures.app ∙ ap (λ (a : App). with_subcommand a explain_app.top) rows in
+    if_one_more c.in_ok-all.all c.network.result c.subcommand.result _ network_app c.subcommand.ensures c.network.ensures.local all c.network.ensures.app

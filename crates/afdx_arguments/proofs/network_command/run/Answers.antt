@@ -10,6 +10,9 @@ one_argument = with_rule (new_app (codes "run")) (path_rule (codes "NET"))
 abbrev two_arguments : App
 two_arguments = with_rule one_argument (path_rule (codes "IN"))
 
+abbrev three_arguments : App
+three_arguments = with_rule two_arguments (path_rule (codes "OUT"))
+
 pub returns : goal.returns
 unfolding network_run_app
 returns c =
@@ -17,4 +20,5 @@ returns c =
     c.path-network.ensures.rule c.path-network.ensures.local c.arg-command.ensures in
     let two = if_rule c.with_argument.result one_argument c.path-input.result _ c.path-input.ensures.rule (c.with_argument.ensures.app one_argument one.0) in
     let three = if_rule c.with_argument-2.result two_arguments c.path-output.result _ c.path-output.ensures.rule (c.with_argument-2.ensures.app two_arguments two) in
-    record { app = three; local = c.with_argument-2.ensures.local (c.with_argument.ensures.local one.1) }
+    let four = if_rule c.with_argument-3.result three_arguments c.flag-unchecked.result _ c.flag-unchecked.ensures.rule (c.with_argument-3.ensures.app three_arguments three) in
+    record { app = four; local = c.with_argument-3.ensures.local (c.with_argument-2.ensures.local (c.with_argument.ensures.local one.1)) }

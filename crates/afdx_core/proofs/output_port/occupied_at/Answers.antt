@@ -1,4 +1,4 @@
-use Rattle.std.proofs.Common.{◌≡◌, ◌≤◌, ap, ◌∙◌, sym, subst, get_or}
+use Rattle.std.proofs.Common.{◌≤◌, ap, ◌∙◌, sym, subst}
 use Rattle.std.proofs.lemmas.List.{get_or_default}
 use Rattle.afdx_port.specs.Service.{reach}
 use Rattle.afdx_port.specs.Admission.{occupied}

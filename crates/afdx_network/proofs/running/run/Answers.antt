@@ -1,119 +1,15 @@
-use Rattle.std.proofs.Common.{◌≡◌, ◌≤◌, List, length, sym, ◌∙◌, ap, arith, subst, false}
-use Rattle.std.specs.Prelude.{All}
-use Rattle.std.specs.List.{AllZip}
-use Rattle.afdx_session.specs.Texts.{Text}
-use Rattle.afdx_load.specs.Accepted.{IsAccepted}
-use Rattle.afdx_wiring.specs.Net.{Network}
-use Rattle.afdx_network.specs.declared.fault.NetworkRunFault.TheVariants as fault
-use Rattle.afdx_network.specs.Runs.{IsRunOf}
-use Rattle.afdx_network.specs.Given.{given_of, NoneIsLateAnywhere, IsRefusal}
-use Rattle.afdx_network.specs.Inner.Sites.{Site, AreStarted, AreEarly, HasLed}
-use Rattle.afdx_network.proofs.AllLeft.{is_run}
-use Rattle.afdx_network.proofs.Answering.{of_error, written_back}
-use Rattle.afdx_network.proofs.Refusing.{refused_ports, refused_texts, refused_wires, refused_memory, refused_wire}
-use Rattle.afdx_network.proofs.Rounds.{started_going}
+use Rattle.afdx_network.specs.Given.{given_of}
+use Rattle.afdx_network.proofs.Rest.{isolates}
+use Rattle.afdx_network.proofs.Refusing.{accepted_refuses}
 use Rattle.afdx_network.proofs.running.run.Goals as goal
-
-pub returns-in_err-check_ports-clause-err : goal.returns-in_err-check_ports-clause-err
-returns-in_err-check_ports-clause-err c =
-    let net = c.args.network.now in
-    let given = given_of c.args.given.items in
-    let why = c.in_err-check_ports.field-0.0 in
-    of_error (IsRefusal net given) c.from_residual.result why c.from_residual.ensures
-    (refused_ports net given why (rw c.network-wiring.ensures.network at (rw c.deref.ensures.value at c.in_err-check_ports.ensures.err)))
-
-pub returns-in_err-check_captures-clause-err : goal.returns-in_err-check_captures-clause-err
-returns-in_err-check_captures-clause-err c =
-    let net = c.args.network.now in
-    let given = given_of c.args.given.items in
-    let are = rw c.network-wiring.ensures.network at (rw c.deref.ensures.value at c.in_ok-check_ports.ensures.ok) in
-    let why = c.in_err-check_captures.field-0.0 in
-    of_error (IsRefusal net given) c.from_residual-in_err-check_captures.result why c.from_residual-in_err-check_captures.ensures
-    (refused_texts net given why are (rw c.deref-2.ensures.value at c.in_err-check_captures.ensures.err))
-
-pub returns-in_err-check_wires-clause-err : goal.returns-in_err-check_wires-clause-err
-returns-in_err-check_wires-clause-err c =
-    let net = c.args.network.now in
-    let given = given_of c.args.given.items in
-    let are = rw c.network-wiring.ensures.network at (rw c.deref.ensures.value at c.in_ok-check_ports.ensures.ok) in
-    let sound = rw c.deref-2.ensures.value at c.in_ok-check_captures.ensures.ok in
-    let why = c.in_err-check_wires.field-0.0 in
-    of_error (IsRefusal net given) c.from_residual-in_err-check_wires.result why c.from_residual-in_err-check_wires.ensures
-    (refused_wires net given why are sound (rw c.network-wiring.ensures.network at c.in_err-check_wires.ensures.err))
-
-pub sites_of-requires-clause-given : goal.sites_of-requires-clause-given
-sites_of-requires-clause-given c = rw c.deref-3.ensures.value (rw c.deref.ensures.value at c.in_ok-check_ports.ensures.ok)
-
-pub sites_of-requires-clause-sound : goal.sites_of-requires-clause-sound
-sites_of-requires-clause-sound c = rw c.deref-3.ensures.value (rw c.deref-2.ensures.value at c.in_ok-check_captures.ensures.ok)
-
-pub returns-in_err-sites-clause-err : goal.returns-in_err-sites-clause-err
-returns-in_err-sites-clause-err c =
-    let net = c.args.network.now in
-    let given = given_of c.args.given.items in
-    let are = rw c.network-wiring.ensures.network at (rw c.deref.ensures.value at c.in_ok-check_ports.ensures.ok) in
-    let why = c.in_err-sites.field-0.0 in
-    of_error (IsRefusal net given) c.from_residual-in_err-sites.result why c.from_residual-in_err-sites.ensures (refused_memory net given why are c.in_err-sites.ensures.err)
-
-pub go_through-requires-clause-going : goal.go_through-requires-clause-going
-go_through-requires-clause-going c =
-    let net = c.network-wiring.result.now in
-    let given = given_of c.args.given.items in
-    let started = rw c.deref-3.ensures.value at c.in_ok-sites.ensures.ok in
-    subst (All (λ (s : Site). (s.paced.failed ≡ false) × (s.paced.reached ≤ 0))) (sym c.deref_mut.ensures.value) (started_going net given c.in_ok-sites.sites.items started)
-
-pub go_through-requires-clause-all : goal.go_through-requires-clause-all
-go_through-requires-clause-all c = ap (λ (xs : List Site). length xs) c.deref_mut.ensures.value ∙ c.in_ok-sites.ensures.ok.carried.are.all
-
-pub returns-in_err-go_through-clause-err : goal.returns-in_err-go_through-clause-err
-returns-in_err-go_through-clause-err c =
-    let net = c.network-wiring.result.now in
-    let given = given_of c.args.given.items in
-    let same = c.network-wiring.ensures.network in
-    let are = rw c.deref.ensures.value at c.in_ok-check_ports.ensures.ok in
-    let sound = rw c.deref-2.ensures.value at c.in_ok-check_captures.ensures.ok in
-    let started : AreStarted net given c.in_ok-sites.sites.items = rw c.deref-3.ensures.value at c.in_ok-sites.ensures.ok in
-    let lent = subst (AreStarted net given) (sym c.deref_mut.ensures.value) started in
-    let accepted = subst (λ (n : Network). All IsAccepted n.tables) (sym same) c.network-wiring.ensures.accepted in
-    let early : (none : NoneIsLateAnywhere net given) → AreEarly none.order.place c.deref_mut.result.now
-    = λ none. subst (AreEarly none.order.place) (sym c.deref_mut.ensures.value) ((rw c.deref-3.ensures.value at c.in_ok-sites.ensures.early) none) in
-    let why = c.in_err-go_through.field-0.0 in
-    of_error (IsRefusal c.args.network.now given) c.from_residual-in_err-go_through.result why c.from_residual-in_err-go_through.ensures
-    (subst (λ (n : Network). IsRefusal n given why) same
-    (refused_wire net given why are sound (c.in_err-go_through.ensures.err given lent) (λ none. c.in_err-go_through.ensures.early given lent none accepted (early none))))
-
-pub outcomes_of-requires : goal.outcomes_of-requires
-outcomes_of-requires c =
-    let old = c.in_ok-sites.sites in
-    let new = c.go_through.new.sites in
-    let long = old.ok.0 in
-    let kept = c.go_through.auto.sites ∙ ap (λ (xs : List Site). length xs) c.deref_mut.ensures.value in
-    let back = written_back old.items new old.len kept (omega (arith, long)) in
-    subst (All (λ (s : Site). s.paced.failed ≡ false)) (sym back) c.in_ok-go_through.ensures.going
-
-pub returns-in_err-outcomes_of-clause-err : goal.returns-in_err-outcomes_of-clause-err
-returns-in_err-outcomes_of-clause-err c =
-    let net = c.args.network.now in
-    let given = given_of c.args.given.items in
-    let are = rw c.network-wiring.ensures.network at (rw c.deref.ensures.value at c.in_ok-check_ports.ensures.ok) in
-    of_error (IsRefusal net given) c.from_residual-in_err-outcomes_of.result fault.Memory c.from_residual-in_err-outcomes_of.ensures are
 
 pub returns-clause-ok : goal.returns-clause-ok
 returns-clause-ok c =
-    let net = c.network-wiring.result.now in
-    let given = given_of c.args.given.items in
-    let same = c.network-wiring.ensures.network in
-    let started : AreStarted net given c.in_ok-sites.sites.items = rw c.deref-3.ensures.value at c.in_ok-sites.ensures.ok in
-    let lent = subst (AreStarted net given) (sym c.deref_mut.ensures.value) started in
-    let accepted = subst (λ (n : Network). All IsAccepted n.tables) (sym same) c.network-wiring.ensures.accepted in
-    let ran = c.in_ok-go_through.ensures.ok given lent in
-    let old = c.in_ok-sites.sites in
-    let new = c.go_through.new.sites in
-    let long = old.ok.0 in
-    let kept = c.go_through.auto.sites ∙ ap (λ (xs : List Site). length xs) c.deref_mut.ensures.value in
-    let back = written_back old.items new old.len kept (omega (arith, long)) in
-    let left = c.in_ok-outcomes_of.field-0.items in
-    let led = subst (λ (xs : List Site). AllZip HasLed xs left) back c.in_ok-outcomes_of.ensures in
-    subst (λ (n : Network). (came : List (List Text)) × IsRunOf n given came left) same
-    (is_run c.out_goes_on.ensures c.out_is_in_order.ensures c.what_is_written_is_a_capture.ensures c.outcomes_isolate.ensures.plain net given new left ran.0 accepted
-    c.in_ok-check_wires.ensures.ok ran.1 led)
+    let led = rw c.network.ensures.network at c.run_unchecked.ensures.ok in
+    let formed = rw c.network.ensures.network at c.run_unchecked.ensures.formed in
+    isolates c.run_unchecked.result (λ outcomes. outcomes.items) c.outcomes_isolate.ensures.plain c.args.network.now (given_of c.args.given.items) c.network.ensures.accepted led formed
+
+pub returns-clause-err : goal.returns-clause-err
+returns-clause-err c =
+    let refused = rw c.network.ensures.network at c.run_unchecked.ensures.err in
+    accepted_refuses c.run_unchecked.result c.args.network.now (given_of c.args.given.items) c.network.ensures.accepted refused

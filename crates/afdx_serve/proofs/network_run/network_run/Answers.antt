@@ -1,8 +1,8 @@
-use Rattle.std.proofs.Common.{rules, ◌≡◌, ◌∙◌, ℕ, List, None, String, Vec, Global, length, map, string_bytes, inl, inr, sym, ap}
+use Rattle.std.proofs.Common.{rules, ◌≡◌, ◌∙◌, ℕ, List, None, String, Vec, Global, length, map, string_bytes, inl, inr, sym, ap, subst}
 use Rattle.std.proofs.KnownBytes.{Keeps-refl}
 use Rattle.std.proofs.lemmas.List.{length-map}
 use Rattle.afdx_session.specs.Outcome.{Results}
-use Rattle.afdx_network.specs.Given.{given_of}
+use Rattle.afdx_network.specs.Given.{given_of, NoneShareAPort}
 use Rattle.afdx_network_report.specs.Lines.{Names}
 use Rattle.afdx_serve.proofs.Errors.{of_error}
 use Rattle.afdx_serve.proofs.FileLemmas.{KeepsFiles-trans}
@@ -10,7 +10,7 @@ use Rattle.afdx_messages.specs.declared.failure.Failure.TheVariants.{Memory, Wri
 use Rattle.afdx_serve.specs.Networks.{names_of}
 use Rattle.afdx_serve.specs.NetworkRuns.{names_at, captures_of, reports_of}
 use Rattle.afdx_serve.specs.Serving.{world, PutsNetwork}
-use Rattle.afdx_serve.proofs.NetworkRunLemmas.{IsLed, is_led, files_named, no_run, not_given, not_led, not_put_network, puts_network}
+use Rattle.afdx_serve.proofs.NetworkRunLemmas.{IsLed, none_share_a_port, is_led, files_named, no_run, not_given, not_led, not_put_network, puts_network}
 use Rattle.afdx_serve.proofs.network_run.network_run.Given.{Over}
 use Rattle.afdx_serve.proofs.network_run.network_run.Goals.{After-deref-6, After-deref-8, After-deref-11}
 use Rattle.afdx_serve.proofs.network_run.network_run.Goals as goal
@@ -21,12 +21,12 @@ led : (g : Over) (c : After-deref-6 g)
 led g c =
     let net = c.in_ok-network.network in
     let got = c.in_ok-network.ensures in
-    let accepted = c.in_ok-cleared.ensures in
+    let planned = c.in_ok-plan.ensures in
     let given = c.in_ok-given.ensures in
     let named : map string_bytes c.in_ok-names.names.items ≡ names_of net.layout.switches = search rules in
-    is_led c.tables_are_well_formed.ensures c.layouts_are_within_limits.ensures c.network_runs_deliver.ensures c.args.paths.now _ _ net _ _ (given_of c.in_ok-given.given.items)
-    c.in_ok-outcomes.outcomes.items _
-    got.got.0 accepted.0 c.network-2.ensures.network accepted.1 got.same given.got.0.0 given.got.0.1 c.in_ok-outcomes.ensures named
+    is_led c.tables_are_well_formed.ensures c.layouts_are_within_limits.ensures c.network_runs_deliver.ensures c.args.paths.now _ _ net c.in_ok-plan.plan _
+    (given_of c.in_ok-given.given.items) c.in_ok-outcomes.outcomes.items _
+    got.got.0 planned.0 planned.1 c.network-2.ensures planned.2 got.same given.got.0.0 given.got.0.1 c.in_ok-outcomes.ensures named
 
 -- its captures have names
 files_are : (g : Over) (c : After-deref-8 g)
@@ -64,29 +64,34 @@ returns-in_err-network g c =
     of_error _ _ _ c.in_err-network.field-0.0 c.from_residual.ensures
     (no_run c.in_err-network.field-0.0 c.args.paths.now _ _ _ _ fails.same _ _ (Keeps-refl _) (inl fails.got))
 
-pub returns-in_err-cleared : goal.returns-in_err-cleared
-returns-in_err-cleared g c =
+pub returns-in_err-plan : goal.returns-in_err-plan
+returns-in_err-plan g c =
     let got = c.in_ok-network.ensures in
-    of_error _ _ _ c.in_err-cleared.field-0.0 c.from_residual-in_err-cleared.ensures
-    (no_run c.in_err-cleared.field-0.0 c.args.paths.now _ _ _ _ got.same _ _ (Keeps-refl _) (inr (c.in_ok-network.network, got.got.0, inl (c.in_err-cleared.ensures, got.got.1))))
+    of_error _ _ _ c.in_err-plan.field-0.0 c.from_residual-in_err-plan.ensures
+    (no_run c.in_err-plan.field-0.0 c.args.paths.now _ _ _ _ got.same _ _ (Keeps-refl _) (inr (c.in_ok-network.network, got.got.0, inl (c.in_err-plan.ensures, got.got.1))))
 
 pub returns-in_err-given : goal.returns-in_err-given
 returns-in_err-given g c =
     let got = c.in_ok-network.ensures in
-    let accepted = c.in_ok-cleared.ensures in
+    let planned = c.in_ok-plan.ensures in
     let fails = c.in_err-given.ensures in
     of_error _ _ _ c.in_err-given.field-0.0 c.from_residual-in_err-given.ensures
-    (not_given c.in_err-given.field-0.0 c.args.paths.now _ _ _ c.in_ok-network.network _ _ _ _ _ got.got.0 accepted.0 c.network-2.ensures.network accepted.1 got.same fails.same got.got.1 _ _
+    (not_given c.in_err-given.field-0.0 c.args.paths.now _ _ _ c.in_ok-network.network _ _ _ _ _ got.got.0 planned.0 c.network-2.ensures planned.2 got.same fails.same got.got.1 _ _
     (Keeps-refl _)
     fails.got)
+
+pub lead-requires-clause-one_each : goal.lead-requires-clause-one_each
+lead-requires-clause-one_each g c =
+    subst NoneShareAPort (sym c.in_ok-plan.ensures.0)
+    (none_share_a_port c.no_port_has_two_wires.ensures _ c.args.paths.now.network.now c.in_ok-network.network c.in_ok-network.ensures.got.0)
 
 pub returns-in_err-outcomes : goal.returns-in_err-outcomes
 returns-in_err-outcomes g c =
     let got = c.in_ok-network.ensures in
-    let accepted = c.in_ok-cleared.ensures in
+    let planned = c.in_ok-plan.ensures in
     let given = c.in_ok-given.ensures in
     of_error _ _ _ c.in_err-outcomes.field-0.0 c.from_residual-in_err-outcomes.ensures
-    (not_led c.in_err-outcomes.field-0.0 c.args.paths.now _ _ _ c.in_ok-network.network _ _ (given_of c.in_ok-given.given.items) _ _ _ got.got.0 accepted.0 c.network-2.ensures.network accepted.1
+    (not_led c.in_err-outcomes.field-0.0 c.args.paths.now _ _ _ c.in_ok-network.network _ _ (given_of c.in_ok-given.given.items) _ _ _ got.got.0 planned.0 c.network-2.ensures planned.2
     got.same
     given.same got.got.1 given.got.1 _ _ (Keeps-refl _) given.got.0.0 c.in_err-outcomes.ensures)
 

@@ -10,4 +10,5 @@ returns c =
     let load = c.args.load.now in
     let delays = c.in_ok-push_delays.ensures ∙ ap (λ (t : List ℕ). t ++ delays_text row load) c.in_ok-line.ensures in
     let verdict = c.in_ok-push_verdict.ensures ∙ ap (λ (t : List ℕ). t ++ verdict_text (broken_rules row load)) delays in
-    (c.least_buffer-least.result, c.least_buffer-least.ensures, c.in_ok-push_str.ensures.bytes ∙ ap as_line verdict)
+    let more = c.in_ok-push_str.ensures.bytes ∙ ap (λ (t : List ℕ). t ++ c.args.more.now) verdict in
+    (c.least_buffer-least.result, c.least_buffer-least.ensures, c.in_ok-push_str-2.ensures.bytes ∙ ap as_line more)

@@ -4,6 +4,6 @@ use Rattle.afdx_serve.proofs.size.sizes_text.Given as goal
 
 abbrev pub invariant-loop-row : goal.invariant-loop-row
 invariant-loop-row l = record {
-  lines : (rest : List ℕ) → AreSizesOf l.table.latency l.table.links (drop l.row-index l.row-items) rest → AreSizesOf l.table.latency l.table.links l.row-items (string_bytes l.text ++ rest);
+  lines : (rest : List ℕ) → AreSizesOf l.more l.table.latency l.table.links (drop l.row-index l.row-items) rest → AreSizesOf l.more l.table.latency l.table.links l.row-items (string_bytes l.text ++ rest);
   all : l.row-items ≡ l.table.ports;
 }

@@ -16,5 +16,6 @@ pub returns-clause-led : goal.returns-clause-led
 returns-clause-led g c =
     let of = rw c.inputs_of.ensures at c.in_ok-plan.ensures.got in
     let reported = rw c.deref.ensures.value at c.of_captures.ensures in
-    traced c.args.paths.now (g.F.Folder.files c.args.folder.now) c.in_ok-plan.plan (texts_of c.in_ok-plan.captures.items) _ _ of.0 of.1
+    traced c.args.paths.now c.args.options.now c.selection_of.result c.selection_of.ensures.links c.selection_of.ensures.relative
+    (g.F.Folder.files c.args.folder.now) c.in_ok-plan.plan (texts_of c.in_ok-plan.captures.items) _ _ of.0 of.1
     (λ (texts : Vec (Vec ℕ Global) Global). map (λ (text : Vec ℕ Global). text.items) texts.items) c.of_captures.result reported

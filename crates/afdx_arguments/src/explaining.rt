@@ -1,0 +1,63 @@
+//! The command `explain`, and what stands before a command whose refusal is to be explained.
+
+ghost use Rattle.std.specs.Prelude.{◌≡◌, ℕ, List, false, map, string_bytes, IfOk, MatchOption};
+ghost use Rattle.clap.specs.Words.{app_of, found_of, rows_of};
+ghost use Rattle.clap.specs.declared.builder.command.Command.TheViews.{out-Command};
+ghost use Rattle.afdx_arguments.specs.Commands.{explain_app};
+ghost use Rattle.afdx_arguments.specs.Explaining.{HasEntry, is_explained, plain_of};
+
+use crate::arguments::argument;
+use crate::command::{path, with_no_arguments};
+use afdx_remedies::entry_of;
+use clap::{ArgMatches, Command};
+use std::alloc::{AllocError, Global};
+
+/// What the help of `explain` says at its end.
+const EXPLAIN: &str =
+    "CODE is the word by which a line of a failure names its cause: C6 in \"afdx: table
+C6 Range, link 1, bag_ms\", likewise P3, L2, G4 or J1; or usage, get, put, read,
+write or memory. Prints what is wrong then, and what to do.
+
+Status: 0 done, 2 arguments or no such code, 5 memory or a device.
+
+Example: afdx explain C6";
+
+#[tactic(auto, unfolding(crate::specs::Commands::explain_app))]
+pub(crate) fn explain<'a>(alloc: Global) -> Result<Command<'a>, AllocError>
+    ensures app { IfOk result (λ c. app_of c ≡ explain_app) }
+    ensures local { IfOk result (λ c. (out-Command c).has_globals ≡ false) }
+{
+    let about = "Prints what is wrong and what to do, by the code of a line";
+    with_no_arguments(alloc, "explain", about, EXPLAIN).arg(path(alloc, "CODE", "The code"))
+}
+
+/// The entry of the code.
+pub(crate) fn entry_asked(matches: &ArgMatches<'_>) -> Option<&'static str>
+    ensures { MatchOption result ((entry : List ℕ) → HasEntry (rows_of (found_of matches.now)) entry → ⊥)
+        (λ entry. HasEntry (rows_of (found_of matches.now)) entry.now) }
+{
+    let code = argument(matches, "CODE")?;
+    entry_of(code)
+}
+
+/// Whether the first argument after the program's name is `--explain`: after the line of a failure its entry is wanted too. O(1).
+pub fn is_explained(arguments: &[String]) -> bool
+    ensures { result ≡ is_explained (map string_bytes arguments.now) }
+{
+    match arguments.get(1) {
+        Some(argument) => argument.as_str() == "--explain",
+        None => false,
+    }
+}
+
+/// The arguments without that one, where it is there; then the first that is left is not the program's name, which nothing reads.
+/// O(1).
+pub fn plain_of(arguments: &[String]) -> &[String]
+    ensures { map string_bytes result.now ≡ plain_of (map string_bytes arguments.now) }
+{
+    if is_explained(arguments) {
+        &arguments[1..]
+    } else {
+        arguments
+    }
+}

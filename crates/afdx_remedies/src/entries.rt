@@ -1,0 +1,327 @@
+//! What MESSAGES says of each code. `docs/develop/remedies.py` writes this file; change docs/use/MESSAGES.md instead.
+
+/// The codes in the order of the page, each with its entry.
+pub(crate) const ENTRIES: [(&str, &str); 44] = [
+    (
+        "usage",
+        "usage: no command, an argument or option that is missing, unknown or given twice
+(`--link` alone may be), an empty IN or OUT, an argument that is not UTF-8, a
+value out of range, a list of `--fail-on` with another word than `policed`,
+`filtered` and `lost` or with one twice, or a code that `explain` does not know
+Remedy: `afdx --help`, `afdx run --help`; `docs/use/FORMATS.md` has the ranges
+",
+    ),
+    (
+        "C2",
+        "C2 Toml: not TOML: a quote or bracket is missing, a key is given twice, bytes
+are not UTF-8, or it is the wrong file
+Remedy: Python finds the line:
+`python3 -c 'import tomllib; tomllib.load(open(\"table.toml\", \"rb\"))'`
+",
+    ),
+    (
+        "C3",
+        "C3 UnknownKey: a key that does not belong here; often a misspelling, `police` in
+a table without `version`, or `latency_us` (`top`) in one without `version = 3`
+Remedy: compare with `docs/use/FORMATS.md`
+",
+    ),
+    (
+        "C4",
+        "C4 MissingKey: a key is missing; all keys of ports and links except `police` are
+required
+Remedy: write it
+",
+    ),
+    (
+        "C5",
+        "C5 Kind: a text for a number, a number for a list, `[port]` for `[[port]]`
+Remedy: `to = [2]`; numbers without quotes
+",
+    ),
+    (
+        "C6",
+        "C6 Range: the value is not one of the allowed ones
+Remedy: 1, 2, 4, 8, 16, 32, 64 or 128 here; `docs/use/FORMATS.md` has the
+others; `mbit = 1000` needs `version = 3`
+",
+    ),
+    (
+        "C7",
+        "C7 Constant: not 8 hexadecimal digits, or the first byte's two lowest bits are
+not set
+Remedy: `constant = \"03000000\"`
+",
+    ),
+    (
+        "C8",
+        "C8 TwicePort: an earlier port has this `id`
+Remedy: give one of the two its own number
+",
+    ),
+    (
+        "C9",
+        "C9 TwiceLink: an earlier link has this `id`
+Remedy: one link with all its outputs in `to`
+",
+    ),
+    (
+        "C10",
+        "C10 NoSuchPort: `from` or `to` names a port that is not in the table
+Remedy: write the port, or mend the number
+",
+    ),
+    (
+        "C11",
+        "C11 ToEmpty: `to = []`
+Remedy: leave out a link that leads nowhere
+",
+    ),
+    (
+        "C12",
+        "C12 ToTwice: `to` names a port twice
+Remedy: once
+",
+    ),
+    (
+        "C13",
+        "C13 ToOwnPort: `to` names the link's own `from`
+Remedy: leave it out: a frame does not go back to its port
+",
+    ),
+    (
+        "C14",
+        "C14 TooMany: more than 24 ports, or 4096 links (`link`)
+Remedy: a switch has no more; check the file
+",
+    ),
+    (
+        "P2",
+        "P2 NoHeader: the file has fewer than 24 bytes; often it is empty
+Remedy: check that it was recorded; `afdx-import` makes a capture without frames
+for a port that only sends (`silent`)
+",
+    ),
+    (
+        "P3",
+        "P3 Magic: pcapng, a compressed file, or not a capture
+Remedy: `afdx-import`
+",
+    ),
+    (
+        "P4",
+        "P4 Version: another version of the format than 2.4
+Remedy: `editcap -F nsecpcap`, if Wireshark reads it
+",
+    ),
+    (
+        "P5",
+        "P5 LinkType: not Ethernet; 113 is what `tcpdump -i any` records
+Remedy: record at the interface itself
+",
+    ),
+    (
+        "P6",
+        "P6 CutHeader: the file ends within a record
+Remedy: the recording was cut off: `afdx-import` keeps the whole records
+",
+    ),
+    (
+        "P7",
+        "P7 Huge: a record of more than 262,144 bytes: the file is damaged
+Remedy: record again
+",
+    ),
+    (
+        "P8",
+        "P8 Fraction: a stamp whose fraction makes a second or more: the file is damaged,
+or its magic says microseconds and it has nanoseconds
+Remedy: record again
+",
+    ),
+    (
+        "P9",
+        "P9 Late: a stamp in the last second of 32 bits, in the year 2106: a clock that
+was not set, or a damaged file
+Remedy: record again
+",
+    ),
+    (
+        "P10",
+        "P10 Backwards: the stamp is below that of the record before
+Remedy: `afdx-import` sorts
+",
+    ),
+    (
+        "P11",
+        "P11 CutData: the file ends within a record's bytes
+Remedy: as `P6`
+",
+    ),
+    (
+        "L1",
+        "L1 Rate: the links ask for more than the line has
+Remedy: fewer links, smaller frames, longer gaps, a faster line
+",
+    ),
+    (
+        "L2",
+        "L2 Buffer: the buffer cannot hold what may wait
+Remedy: a larger buffer, less jitter; it needs `need` divided by
+`2,048,000,000 * 80` bytes at 100 Mbit/s, by `* 800` at 10 Mbit/s, by `* 8` at
+1000 Mbit/s
+",
+    ),
+    (
+        "L3",
+        "L3 HighDelay: a frame of high priority may leave later than `max_delay_us`; in
+ns
+Remedy: a larger max_delay_us, smaller low frames
+",
+    ),
+    (
+        "L4",
+        "L4 LowDelay: the same of low priority
+Remedy: a larger max_delay_us, fewer high links
+",
+    ),
+    (
+        "G1",
+        "G1 Toml: the network file is not TOML
+Remedy: as `C2`
+",
+    ),
+    (
+        "G2",
+        "G2 UnknownKey: a key that does not belong here
+Remedy: a wire has `from`, `to`, `delay_ns`; a switch has `name`, `table`,
+`least_latency_us`
+G2 MissingKey: a key of a switch or of a wire is missing; only `delay_ns` and
+`least_latency_us` may be left out
+Remedy: write it
+G2 Kind: a number for a text, or the other way round; `[wire]` for `[[wire]]`
+Remedy: `from = \"A.3\"`
+G2 Range: a name that is empty, of more than 16 letters, digits, `-` and `_`, or
+with other characters; an empty `table`; an end that is not NAME, a dot and a
+number from 1 to 24; a delay below 0 or above 1,000,000 ns; a least latency
+below 0 or above 100 µs; another `version` than 1; more than 64 switches
+Remedy: `docs/use/FORMATS.md` has the ranges
+",
+    ),
+    (
+        "G3",
+        "G3 TwiceSwitch: an earlier switch has this name
+Remedy: give one of the two its own name
+G3 NoSuchSwitch: an end names a switch that is not in the file
+Remedy: mend the name
+G3 TwiceFrom: an earlier wire comes from this output port
+Remedy: an output port has at most one wire
+G3 TwiceTo: an earlier wire goes to this ingress port
+Remedy: an ingress port has at most one wire
+G3 OwnPort: a wire goes to the port that it comes from
+Remedy: leave it out
+G3 NoSuchPort: an end is no port of its switch's table
+Remedy: write the port there, or mend the number
+G3 Latency: `least_latency_us` of this switch is above the `latency_us` of its
+table, which is the most that it takes
+Remedy: mend one of the two
+",
+    ),
+    (
+        "G4",
+        "G4 Constant: the tables at the two ends have different constant fields
+Remedy: the same `constant` in both
+G4 Speed: the ports at the two ends have different speeds
+Remedy: the same `mbit` in both
+",
+    ),
+    (
+        "G5",
+        "G5 NoRow: the first switch sends the link over the wire, but the second one's
+table has no such link
+Remedy: a `[[link]]` with this `id` there, or another `to` at the first
+",
+    ),
+    (
+        "G6",
+        "G6 From: in the second table the link comes in at another port
+Remedy: its `from` must be the wire's end
+",
+    ),
+    (
+        "G7",
+        "G7 Size: the two tables differ in `max_size`
+Remedy: the same
+G7 Bag: they differ in `bag_ms`
+Remedy: the same
+G7 Police: they differ in `police`
+Remedy: the same
+",
+    ),
+    (
+        "G8",
+        "G8 NoSource: the way back from this row ends at a wire over which no switch
+sends the link, or goes round in a ring
+Remedy: add the port to the link's `to` at the switch before, or remove the link
+here
+",
+    ),
+    (
+        "G9",
+        "G9 TwiceSource: the ports of two end systems feed the same number
+Remedy: another number for one of the two
+",
+    ),
+    (
+        "J1",
+        "J1 Jitter: delays on the link's way may differ by more than its jitter at this
+switch allows, so frames may be policed there; in µs
+Remedy: set `jitter_us` of the link in this switch's table to at least `need`;
+`afdx network jitter` prints the least of all rows
+",
+    ),
+    (
+        "J2",
+        "J2 NoJitter: (`network jitter`) a link needs more than the 10,000 µs that a
+table can have; each such row of the turn in which the first one came to need so
+much
+Remedy: smaller frames, longer gaps, fewer links on one cable, faster lines
+",
+    ),
+    (
+        "get",
+        "device get: the file does not exist or cannot be read; nothing was run
+Remedy: one capture for each port of the table, also for a port that only sends
+",
+    ),
+    (
+        "put",
+        "device put: the file cannot be written: the folder does not exist (none is
+made), no permission, no room (new files exist beside older ones until the run
+is over), a limit of a file's size, or another run is putting files there
+Remedy: `mkdir -p out`, or once more when the other run has ended; nothing has
+changed, unless it was the move onto the name that failed: then captures of
+lower ports are there, in a network also those of earlier switches. There is no
+report; `trace` puts `out/arrivals.csv` and then `out/departures.csv`
+",
+    ),
+    (
+        "read",
+        "device read: standard input cannot be read (`alone`)
+Remedy: a file, not a folder
+",
+    ),
+    (
+        "write",
+        "device write: standard output cannot be written
+Remedy: make room on the disk; after `run` all captures are there
+",
+    ),
+    (
+        "memory",
+        "memory: out of memory
+Remedy: `docs/develop/PERFORMANCE.md` has what runs took; shorter captures, or
+more memory
+",
+    ),
+];

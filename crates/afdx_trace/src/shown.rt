@@ -1,0 +1,56 @@
+//! Which lines of a trace are written, and from when its stamps count.
+
+ghost use Rattle.std.specs.Prelude.{◌≡◌, ◌-◌};
+ghost use Rattle.afdx_trace.specs.Shown.{is_shown, shown_of};
+
+use afdx_core::Row;
+
+/// Which lines of a run's trace are written, and from when its stamps count.
+#[derive(Clone, Copy, Debug)]
+pub struct Selection<'a> {
+    /// The links whose lines are written; if it is empty, those of all frames.
+    pub links: &'a [u16],
+    /// Whether stamps count from that of the first frame that came.
+    pub relative: bool,
+}
+
+/// A selection over the arrivals of a run.
+#[derive(Clone, Copy, Debug)]
+pub(crate) struct Shown<'a> {
+    links: &'a [u16],
+    /// The stamp that counts as 0, in nanoseconds.
+    origin: u64,
+}
+
+impl<'a> Shown<'a> {
+    /// What a selection shows of these arrivals. O(1).
+    pub(crate) fn of(selection: &Selection<'a>, rows: &[Row]) -> Shown<'a>
+        ensures { result ≡ shown_of selection.now rows.now }
+    {
+        let origin = match rows.first() {
+            Some(row) if selection.relative => row.stamp.ns(),
+            _ => 0,
+        };
+        Shown {
+            links: selection.links,
+            origin,
+        }
+    }
+
+    /// Whether the lines of a frame with this link are written. O(links that were selected).
+    pub(crate) fn has(&self, link: Option<u16>) -> bool
+        ensures { result ≡ is_shown self.now link }
+    {
+        match link {
+            Some(number) => self.links.is_empty() || self.links.contains(&number),
+            None => self.links.is_empty(),
+        }
+    }
+
+    /// An instant as it is written.
+    pub(crate) fn since(&self, nanos: u64) -> u64
+        ensures { result ≡ nanos - self.now.origin }
+    {
+        nanos.saturating_sub(self.origin)
+    }
+}
