@@ -1,0 +1,119 @@
+-- The first of the records that are at hand.
+use Rattle.std.proofs.Common.{◌≡◌, ℕ, zero, suc, ◌+◌, ◌<◌, ◌≤◌, nat_lt, Bool, true, false, cond, List, [], ◌∷◌, length, get_or, drop, slice_get, Option, Some, None}
+use Rattle.std.proofs.Common.{inl, inr, refl, ap, sym, ◌∙◌, arith, subst}
+use Rattle.std.proofs.Math.Numerals.{suc-eq-add-one}
+use Rattle.std.proofs.Math.Seq.{drop-cons}
+use Rattle.std.proofs.lemmas.Bool.{cases_lt, lt-ltb, ltb-true}
+use Rattle.std.proofs.lemmas.Option.{same_Some}
+use Rattle.afdx_earliest.specs.Instants.{instant_at, IsFirstIn}
+use Rattle.afdx_merging.specs.declared.lane.Lane.{Lane}
+use Rattle.afdx_merging.specs.Inner.Merging.{due_of, dues_of, sooner, lesser, least_of, stamp_of}
+
+-- the instant at the place of a lane
+pub instant_of : {Z : Type 0} (lanes : List (Lane Z)) (k : ℕ) (l : Lane Z) → slice_get lanes k ≡ Some l → instant_at (dues_of lanes) k ≡ due_of l
+instant_of [] k l at = absurd cc
+instant_of {Z} (x ∷ lanes) zero l at = ap (λ (y : Lane Z). due_of y) (same_Some x l at)
+instant_of (x ∷ lanes) (suc k) l at = instant_of lanes k l at
+
+no_instant : {t : ℕ} {o : Option ℕ} → o ≡ None → o ≡ Some t → ⊥
+no_instant none some = absurd (let never = sym none ∙ some in cc)
+
+-- with one more place
+pub first_more : (instants : List (Option ℕ)) (n : ℕ) (found : Option (ℕ × ℕ)) (due : Option ℕ) → IsFirstIn instants n found → instant_at instants n ≡ due
+    → IsFirstIn instants (n + 1) (sooner found n due)
+first_more instants n None None was here = λ j lt. elim (cases_lt j n) [
+  | inl before ↦ was j before
+  | inr ge ↦ let same : j ≡ n = omega (arith, lt, ge) in ap (instant_at instants) same ∙ here
+]
+first_more instants n None (Some due) was here = record {
+  within = omega arith;
+  here = here;
+  sooner = λ j u lt at. elim (cases_lt j n) [
+    | inl before ↦ absurd (no_instant (was j before) at)
+    | inr ge ↦
+        let same : n ≡ j = omega (arith, lt, ge) in
+        let equal : due ≡ u = same_Some due u (sym here ∙ ap (instant_at instants) same ∙ at) in
+        omega (arith, equal)
+  ];
+  former = λ j u lt at. absurd (no_instant (was j lt) at);
+}
+first_more instants n (Some found) None was here =
+    let within = was.within in
+    record {
+      within = omega (arith, within);
+      here = was.here;
+      sooner = λ j u lt at. elim (cases_lt j n) [
+        | inl before ↦ was.sooner j u before at
+        | inr ge ↦ let same : n ≡ j = omega (arith, lt, ge) in absurd (no_instant (sym (ap (instant_at instants) same) ∙ here) at)
+      ];
+      former = was.former;
+    }
+first_more instants n (Some found) (Some due) was here = elim (cases_lt due found.1) [
+  | inl lt ↦ subst (IsFirstIn instants (n + 1)) (sym (ap (λ (b : Bool). cond b (Some (n, due)) (Some found)) (lt-ltb due found.1 lt))) (new lt)
+  | inr ge ↦ subst (IsFirstIn instants (n + 1)) (sym (ap (λ (b : Bool). cond b (Some (n, due)) (Some found)) (is_not (nat_lt due found.1) (λ is. ltb-true due found.1 is) ge))) (old ge)
+] where
+  is_not : (b : Bool) → (b ≡ true → due < found.1) → found.1 ≤ due → b ≡ false
+  is_not true lt ge = let never = lt refl in absurd (omega (arith, never, ge))
+  is_not false lt ge = refl
+
+  new : due < found.1 → IsFirstIn instants (n + 1) (Some (n, due))
+  new less = record {
+    within = omega arith;
+    here = here;
+    sooner = λ j u lt at. elim (cases_lt j n) [
+      | inl before ↦ let le = was.sooner j u before at in omega (arith, less, le)
+      | inr ge ↦
+          let same : n ≡ j = omega (arith, lt, ge) in
+          let equal : due ≡ u = same_Some due u (sym here ∙ ap (instant_at instants) same ∙ at) in
+          omega (arith, equal)
+    ];
+    former = λ j u lt at. let le = was.sooner j u lt at in omega (arith, less, le);
+  }
+
+  old : found.1 ≤ due → IsFirstIn instants (n + 1) (Some found)
+  old le =
+      let within = was.within in
+      record {
+        within = omega (arith, within);
+        here = was.here;
+        sooner = λ j u lt at. elim (cases_lt j n) [
+          | inl before ↦ was.sooner j u before at
+          | inr ge ↦
+              let same : n ≡ j = omega (arith, lt, ge) in
+              let equal : due ≡ u = same_Some due u (sym here ∙ ap (instant_at instants) same ∙ at) in
+              omega (arith, le, equal)
+        ];
+        former = was.former;
+      }
+
+-- ---- the least
+
+pub lesser_joins : (a b c : Option ℕ) → lesser (lesser a b) c ≡ lesser a (lesser b c)
+lesser_joins None b c = refl
+lesser_joins (Some a) None c = refl
+lesser_joins (Some a) (Some b) None = refl
+lesser_joins (Some a) (Some b) (Some c) = ap Some (omega arith)
+
+pub lesser_none : (a : Option ℕ) → lesser a None ≡ a
+lesser_none None = refl
+lesser_none (Some a) = refl
+
+none_left : {Z : Type 0} (lanes : List (Lane Z)) (k : ℕ) → length lanes ≤ k → drop k lanes ≡ []
+none_left [] k le = none k where
+  none : {X : Type 0} (k : ℕ) → drop {A = X} k [] ≡ []
+  none zero = refl
+  none (suc k) = refl
+none_left (l ∷ lanes) zero le = absurd (omega (arith, le))
+none_left (l ∷ lanes) (suc k) le = none_left lanes k (omega (arith, le))
+
+next_lane : {Z : Type 0} (lanes : List (Lane Z)) (k : ℕ) (l : Lane Z) → k < length lanes → l ≡ get_or lanes k l → drop k lanes ≡ l ∷ drop (k + 1) lanes
+next_lane lanes k l lt is = drop-cons lanes k l lt ∙ ap (λ x. x ∷ drop (suc k) lanes) (sym is) ∙ ap (λ n. l ∷ drop n lanes) (suc-eq-add-one k)
+
+pub least_more : {Z : Type 0} (lanes : List (Lane Z)) (k : ℕ) (l : Lane Z) (old new : Option ℕ) → k < length lanes → l ≡ get_or lanes k l → new ≡ lesser old (stamp_of l)
+    → lesser old (least_of (drop k lanes)) ≡ least_of lanes → lesser new (least_of (drop (k + 1) lanes)) ≡ least_of lanes
+least_more {Z} lanes k l old new lt is same was =
+    ap (λ (m : Option ℕ). lesser m (least_of (drop (k + 1) lanes))) same ∙ lesser_joins old (stamp_of l) (least_of (drop (k + 1) lanes))
+    ∙ ap (λ (ls : List (Lane Z)). lesser old (least_of ls)) (sym (next_lane lanes k l lt is)) ∙ was
+
+pub least_all : {Z : Type 0} (lanes : List (Lane Z)) (k : ℕ) (least : Option ℕ) → length lanes ≤ k → lesser least (least_of (drop k lanes)) ≡ least_of lanes → least ≡ least_of lanes
+least_all {Z} lanes k least le was = sym (lesser_none least) ∙ ap (λ (ls : List (Lane Z)). lesser least (least_of ls)) (sym (none_left lanes k le)) ∙ was

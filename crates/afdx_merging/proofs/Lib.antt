@@ -1,0 +1,12 @@
+pub mod Advancing
+pub mod Drawing
+pub mod Ending
+pub mod Examples
+pub mod Failing
+pub mod Firsts
+pub mod Going
+pub mod Lists
+pub mod Opening
+pub mod Reading
+pub mod Rising
+pub mod Stopping

@@ -1,0 +1,6 @@
+use Rattle.std.proofs.Common.{◌≡◌, drop}
+use Rattle.afdx_merging.specs.Inner.Merging.{lesser, least_of}
+use Rattle.afdx_merging.proofs.merging.least_of.Given as goal
+
+abbrev pub invariant-loop-lane : goal.invariant-loop-lane
+invariant-loop-lane g l = lesser l.least (least_of (drop l.lane-index l.lanes)) ≡ least_of l.lanes

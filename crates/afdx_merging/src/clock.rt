@@ -1,0 +1,43 @@
+//! By which clock the records of a capture are compared with those of others.
+
+ghost use Rattle.std.specs.Prelude.{◌≡◌, ◌<◌, ◌^◌};
+ghost use Rattle.afdx_merging.specs.Merge.{moved, due_at};
+
+use afdx_units::Stamp;
+
+/// The last instant, in nanoseconds, that a stamp can be.
+const LAST: u64 = 4_294_967_295_999_999_999;
+
+/// What makes the stamps of a capture those of the clock that all records are compared by. All is in nanoseconds, and every call is O(1).
+#[derive(Clone, Copy, Debug, PartialEq, Eq)]
+pub struct Clock {
+    /// What is added to a stamp.
+    pub later: u64,
+    /// What is taken off then.
+    pub sooner: u64,
+    /// What is added besides to have records in order with those of other captures.
+    pub delay: u64,
+}
+
+impl Clock {
+    /// A stamp by the clock; the first or the last one that there is, where it would lie outside of these.
+    pub fn moved(&self, stamp: Stamp) -> Stamp
+        ensures { result ≡ moved self.now stamp }
+    {
+        let later = u128::from(stamp.ns()) + u128::from(self.later);
+        let ns = later
+            .saturating_sub(u128::from(self.sooner))
+            .min(u128::from(LAST));
+        match Stamp::from_ns(ns as u64) {
+            Some(moved) => moved,
+            None => unreachable!(),
+        }
+    }
+
+    /// The instant by which a record of this stamp by the clock is in order with those of other captures.
+    pub(crate) fn due_at(&self, stamp: Stamp) -> u128
+        ensures { result ≡ due_at self.now stamp }
+    {
+        u128::from(stamp.ns()) + u128::from(self.delay)
+    }
+}
