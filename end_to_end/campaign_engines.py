@@ -21,6 +21,7 @@ import psutil  # type: ignore[import]
 CAMPAIGN = Path(__file__).resolve().parents[1] / "python" / "bin" / "afdx-campaign"
 PATIENCE = 600  # seconds for what has to come, on a busy machine too
 PAUSE = 0.1  # seconds between looks
+UNLIMITED = 1_000_000  # answers; more than any campaign has here
 WORKERS = 4
 FAULTS, GONE = 1, 6  # statuses of afdx-campaign
 TEXT = """program = "{program}"
@@ -32,6 +33,16 @@ name = "before"
 file = "{recordings}/before.toml"
 [limits]
 patience_s = {patience}
+"""
+PROGRAM = """#!/bin/sh
+# Waits while the campaign that is named in the file has as many answers as it may have by now, and then a little, so that there is
+# something to kill and something to tell of on the way.
+here=$(dirname "$0")
+while read -r name limit <"$here/limit" && [ "$(find "$here/$name/answers" -name '*.json.gz' 2>/dev/null | wc -l)" -ge "$limit" ]; do
+    sleep 0.1
+done
+sleep 0.1
+exec "{afdx}" "$@"
 """
 
 
@@ -45,15 +56,22 @@ class Room:
         self.started: list[psutil.Process] = []
 
     def campaign(self, name: str, patience: int = PATIENCE) -> "Campaign":
-        """Writes a campaign over all recordings, by a program that waits a little, so that there is something to kill."""
+        """Writes a campaign over all recordings, by a program that waits where the campaign has as many answers as `limit` says."""
         program = self.folder / "afdx"
         if not program.exists():
-            program.write_text(f'#!/bin/sh\nsleep 0.1\nexec {os.environ["AFDX"]} "$@"\n')
+            program.write_text(PROGRAM.format(afdx=os.environ["AFDX"]))
             program.chmod(0o755)
+        self.limit(name, 0)
         file = self.folder / f"{name}.toml"
         file.write_text(TEXT.format(program=program, recordings=self.recordings, root=self.folder / name, room=self.folder,
                                     patience=patience))
         return Campaign(self, file, self.folder / name)
+
+    def limit(self, name: str, answers: int) -> None:
+        """Lets a campaign go on to so many answers; what runs at that time still ends."""
+        written = self.folder / "limit.new"
+        written.write_text(f"{name} {answers}\n")
+        written.replace(self.folder / "limit")
 
     def start(self, *command: object) -> subprocess.Popen[bytes]:
         """Starts a process; what it says goes to a log file."""
@@ -97,13 +115,16 @@ class Campaign:
         return self.room.start("/usr/bin/python3", CAMPAIGN, "run", self.file, *options)
 
     def await_answers(self, more: int, driver: subprocess.Popen[bytes]) -> None:
-        """Waits for some answers more, while the driver goes on."""
+        """Waits for some answers more, while the driver goes on; after these the programs wait."""
         wanted = len(self.answers()) + more
+        self.room.limit(self.root.name, wanted)
         await_that(lambda: len(self.answers()) >= wanted or driver.poll() is not None, f"{wanted} answers")
         expect(f"the driver goes on, with {len(self.answers())} answers", driver.poll() is None)
 
     def ends(self, driver: subprocess.Popen[bytes], status: int, what: str) -> None:
-        """Waits for the driver's end, which has this status."""
+        """Waits for the driver's end, which has this status; where it is to have all answers, no program waits any more."""
+        if status == FAULTS:
+            self.room.limit(self.root.name, UNLIMITED)
         await_that(lambda: driver.poll() is not None, f"the end of the driver, {what}")
         expect(f"{what}: status {driver.returncode}, {len(self.answers())} answers", driver.returncode == status)
 
