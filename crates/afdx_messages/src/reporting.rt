@@ -76,8 +76,8 @@ fn device_line(alloc: Global, call: &str, name: &str) -> Result<String, AllocErr
 
 /// Writes the line of a failure, or its lines, and where failures are explained what MESSAGES says of their code, as far as the writer
 /// takes them, and gives the failure's status: 1, without a line, where there was one of what a run is to fail on, 2 for refused
-/// arguments, 3 for a refused table, network or capture, 4 for a refused load, refused jitters or a network that does not come to rest,
-/// 5 for a device or memory. It also says whether the writer took all of it.
+/// arguments, 3 for a refused table, network or capture, 4 for a refused load or refused jitters, 5 for a device or memory. It also
+/// says whether the writer took all of it.
 ///
 /// Only a line with a number or a name takes memory. Where that is refused, memory is the failure. O(line).
 pub fn report<E: Write>(alloc: Global, failure: &Failure, is_explained: bool, err: &mut E) -> Ending

@@ -45,7 +45,7 @@ given_fault given switch texts fault.Memory at before broken = tt
 given_fault given switch texts (fault.WrongPorts n) at before broken = absurd broken
 given_fault given switch texts (fault.Capture n port why) at before broken =
     subst (λ m. IsFirstUnsound given m port why) (sym broken.0) (record { texts = texts; texts_is = at; before = before; first = broken.1 })
-given_fault given switch texts fault.Unsettled at before broken = absurd broken
+given_fault given switch texts fault.WrongWires at before broken = absurd broken
 
 -- what stops a round refuses the run
 pub refused_wire : (none_late : Type 0) (net : Network) (given : Given) (why : NetworkRunFault) → AreGiven net given → AreSound given → IsWireFault net why → (none_late → why ≡ fault.Memory)
@@ -55,7 +55,7 @@ refused_wire none_late net given (fault.WrongPorts switch) are sound broken soon
 refused_wire none_late net given (fault.Capture switch port why) are sound broken soon = (are, inr (sound, broken, λ none. absurd (no_memory (soon none)))) where
   no_memory : fault.Capture switch port why ≡ fault.Memory → ⊥
   no_memory is = cc
-refused_wire none_late net given fault.Unsettled are sound broken soon = absurd broken
+refused_wire none_late net given fault.WrongWires are sound broken soon = absurd broken
 
 -- what stops it before the switches run
 
@@ -67,9 +67,9 @@ module _ (none_late : Type 0) (net : Network) (given : Given) where
   refused_texts fault.Memory are broken = are
   refused_texts (fault.WrongPorts switch) are broken = absurd broken
   refused_texts (fault.Capture switch port why) are broken = (are, inl broken)
-  refused_texts fault.Unsettled are broken = absurd broken
+  refused_texts fault.WrongWires are broken = absurd broken
 
-  pub refused_wires : (why : NetworkRunFault) → AreGiven net given → AreSound given → (why ≡ fault.Unsettled) × (NoneShareAPort net → ⊥) → IsRefusalUnless none_late net given why
+  pub refused_wires : (why : NetworkRunFault) → AreGiven net given → AreSound given → (why ≡ fault.WrongWires) × (NoneShareAPort net → ⊥) → IsRefusalUnless none_late net given why
   refused_wires why are sound is = subst (IsRefusalUnless none_late net given) (sym is.0) (are, sound, is.1)
 
   pub refused_memory : (why : NetworkRunFault) → AreGiven net given → why ≡ fault.Memory → IsRefusalUnless none_late net given why
@@ -81,7 +81,7 @@ accepted_refusal net given fault.Memory accepted is = is
 accepted_refusal net given (fault.WrongPorts switch) accepted is = is
 accepted_refusal net given (fault.Capture switch port why) accepted (are, inl broken) = (are, inl broken)
 accepted_refusal net given (fault.Capture switch port why) accepted (are, inr late) = (are, inr (late.0, late.1, λ none. late.2 (none, accepted)))
-accepted_refusal net given fault.Unsettled accepted is = is
+accepted_refusal net given fault.WrongWires accepted is = is
 
 pub accepted_refuses : {V : Type 0} (r : Result V NetworkRunFault) (net : Network) (given : Given) → All IsAccepted net.tables → IfErr r (IsUncheckedRefusal net given) → IfErr r (IsRefusal net given)
 accepted_refuses (Ok v) net given accepted is = tt

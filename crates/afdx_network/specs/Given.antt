@@ -96,7 +96,7 @@ IsRefusalUnless none_late net given fault.Memory = AreGiven net given
 IsRefusalUnless none_late net given (fault.WrongPorts switch) = IsFirstUngiven net given switch
 IsRefusalUnless none_late net given (fault.Capture switch port why) =
     AreGiven net given × (IsFirstUnsound given switch port why ⊎ (AreSound given × IsWired net switch port × (none_late → ⊥)))
-IsRefusalUnless none_late net given fault.Unsettled = AreGiven net given × AreSound given × (NoneShareAPort net → ⊥)
+IsRefusalUnless none_late net given fault.WrongWires = AreGiven net given × AreSound given × (NoneShareAPort net → ⊥)
 
 -- of a network whose loads are accepted: no frame is late where none can be
 abbrev pub IsRefusal : Network → Given → NetworkRunFault → Type 0
@@ -113,18 +113,18 @@ abbrev pub IsTextFault : ℕ → List Text → NetworkRunFault → Type 0
 IsTextFault switch texts fault.Memory = Unit {0}
 IsTextFault switch texts (fault.WrongPorts at) = ⊥
 IsTextFault switch texts (fault.Capture at port why) = (at ≡ switch) × IsFirstFault texts port why
-IsTextFault switch texts fault.Unsettled = ⊥
+IsTextFault switch texts fault.WrongWires = ⊥
 
 -- and of what is given for all
 abbrev pub IsGivenFault : Given → NetworkRunFault → Type 0
 IsGivenFault given fault.Memory = Unit {0}
 IsGivenFault given (fault.WrongPorts at) = ⊥
 IsGivenFault given (fault.Capture switch port why) = IsFirstUnsound given switch port why
-IsGivenFault given fault.Unsettled = ⊥
+IsGivenFault given fault.WrongWires = ⊥
 
 -- what stops the run on its way
 abbrev pub IsWireFault : Network → NetworkRunFault → Type 0
 IsWireFault net fault.Memory = Unit {0}
 IsWireFault net (fault.WrongPorts switch) = ⊥
 IsWireFault net (fault.Capture switch port why) = IsWired net switch port
-IsWireFault net fault.Unsettled = ⊥
+IsWireFault net fault.WrongWires = ⊥

@@ -15,7 +15,7 @@ pub enum NetworkRunFault {
     /// What comes in at this port of a switch is no capture, and this is its first fault.
     Capture(usize, u8, PcapFault),
     /// Two wires go to one port, as no two of a file do.
-    Unsettled,
+    WrongWires,
 }
 
 impl From<AllocError> for NetworkRunFault {

@@ -5,7 +5,7 @@ ghost use Rattle.afdx_session.specs.Texts.{texts_of};
 ghost use Rattle.afdx_session.specs.Reading.{IsSound};
 ghost use Rattle.afdx_wiring.specs.Net.{wire_to};
 ghost use Rattle.afdx_wiring.specs.Order.{lost_port};
-ghost use Rattle.afdx_network.specs.declared.fault.NetworkRunFault.TheVariants.{WrongPorts, Unsettled};
+ghost use Rattle.afdx_network.specs.declared.fault.NetworkRunFault.TheVariants.{WrongPorts, WrongWires};
 ghost use Rattle.afdx_network.specs.Given.{given_of, is_open, AreOpen, IsGivenAt, AreGiven, AreSound, NoneShareAPort, IsFirstUngiven, IsGivenFault, IsTextFault};
 
 use crate::fault::NetworkRunFault;
@@ -102,15 +102,15 @@ fn is_first(network: &Network, wire: &Wire) -> bool
     }
 }
 
-/// `Unsettled` where a wire goes to a port to which another one goes that is before it. O(wires^2).
+/// `WrongWires` where a wire goes to a port to which another one goes that is before it. O(wires^2).
 pub(crate) fn check_wires(network: &Network) -> Result<(), NetworkRunFault>
     ensures ok { OnOk result (All (λ w. wire_to network.now w.to ≡ Some w) network.now.layout.wires) }
-    ensures err { IfErr result (λ fault. (fault ≡ Unsettled) × (NoneShareAPort network.now → ⊥)) }
+    ensures err { IfErr result (λ fault. (fault ≡ WrongWires) × (NoneShareAPort network.now → ⊥)) }
 {
     let wires = network.layout().wires.as_slice();
     for wire in wires {
         if !is_first(network, wire) {
-            return Err(NetworkRunFault::Unsettled);
+            return Err(NetworkRunFault::WrongWires);
         }
     }
     Ok(())

@@ -33,7 +33,7 @@ use std::alloc::Global;
 ///   record, in the order in which they are carried, that comes over a wire in the last second that pcap can hold. That cannot be
 ///   where the loads are accepted, the wires have an order, each takes at most a millisecond, and no given frame came in the last 64
 ///   seconds that a stamp can hold.
-/// - `Unsettled` where two wires go to one port; a file with such wires is not read.
+/// - `WrongWires` where two wires go to one port; a file with such wires is not read.
 ///
 /// `Memory` where memory ran out, before anything that comes after `WrongPorts`.
 ///

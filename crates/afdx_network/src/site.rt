@@ -65,7 +65,7 @@ fn of_put(why: PacedFault) -> NetworkRunFault
 {
     match why {
         PacedFault::Memory => NetworkRunFault::Memory,
-        PacedFault::NoSuchPort | PacedFault::Early => NetworkRunFault::Unsettled,
+        PacedFault::NoSuchPort | PacedFault::Early => NetworkRunFault::WrongWires,
     }
 }
 

@@ -92,13 +92,13 @@ fn get_given<F: Folder>(
 
 /// The failure of a run, with the name of its switch among these.
 fn run_failure(alloc: Global, names: &[String], fault: NetworkRunFault) -> Failure
-    requires { fault ≢ NetworkRunFault.Unsettled }
+    requires { fault ≢ NetworkRunFault.WrongWires }
     ensures { IsRunFailure (map string_bytes names.now) fault result }
 {
     match fault {
         NetworkRunFault::Memory => Failure::Memory,
         // No two wires of a file go to one port.
-        NetworkRunFault::Unsettled => unreachable!(),
+        NetworkRunFault::WrongWires => unreachable!(),
         // Exactly the captures of the ports without a wire are got, so that this is not met.
         NetworkRunFault::WrongPorts(_) => Failure::Usage,
         NetworkRunFault::Capture(switch, port, fault) => {
@@ -208,15 +208,14 @@ fn output_texts(alloc: Global, outcomes: Vec<Outcome<Global>>) -> Result<Vec<Vec
 /// report of each switch, with its name before each line.
 ///
 /// IN/A has the captures of the ports of switch A to which no wire goes; those of all its ports are put into OUT/A, which has
-/// to be there. The network is accepted before a capture is got, unless the run is unchecked, and all captures are got before the first
-/// switch runs. All
-/// names and reports are made before the first put, and the device has all files by then: where it fails to take one, none is put.
-/// After a put that failed the files before it are there, and no later one is put.
+/// to be there. The network is accepted before a capture is got, unless the run is unchecked, and all captures are got before the
+/// first switch runs. All names and reports are made before the first put, and the device has all files by then: where it fails to
+/// take one, none is put. After a put that failed the files before it are there, and no later one is put.
 ///
 /// # Errors
 ///
-/// What is met first: as `network check`, without what it checks of loads, tables and jitters if the run is unchecked; `Get` of a capture, by switch and then by port; `Network` with the fault of a
-/// capture; `Put`; `Write`; `Memory` where memory ran out.
+/// What is met first: as `network check`, without what it checks of loads, tables and jitters if the run is unchecked; `Get` of a
+/// capture, by switch and then by port; `Network` with the fault of a capture; `Put`; `Write`; `Memory` where memory ran out.
 ///
 /// O(files), beside the runs of the switches.
 pub(crate) fn network_run<O: Write, F: Folder>(

@@ -96,7 +96,7 @@ fn serve_arguments<R: Read, O: Write, F: Folder>(
 
 /// Serves what the arguments ask for, of which the first is the program's name, and gives how it ended. The status is 0 done,
 /// 1 done with one of what a run is to fail on, 2 refused arguments, 3 a refused table, network or capture, 4 a refused load or
-/// jitter or a network that does not come to rest, 5 memory or a device.
+/// jitter, 5 memory or a device.
 ///
 /// `afdx alone` reads `input` to its end and writes its answer on `out`; `afdx check TABLE` and `afdx size TABLE` get TABLE
 /// from `folder` and write their lines on `out`; `afdx run TABLE IN OUT` gets TABLE, checks its load unless there is
