@@ -8,18 +8,19 @@ import numpy.typing as npt
 from afdx.recordings.columns import Batch, Column, at_any
 
 Numbers = npt.NDArray[np.int32]
+Octets = npt.NDArray[np.uint8]
 
 CHECK_SEQUENCE = 4
 ADDRESSES = 12  # bytes of both addresses: the last three are the end system's number and the network
-NONE = -1  # what a frame too short for its addresses has in their place
+NONE = -1  # the end system of a frame too short for its addresses
 SHORTEST = 18  # bytes of a frame of which a check sequence is looked for
 
 
 @dataclass(frozen=True)
 class Senders:
-    """Says where each frame of a batch is from; NONE if it was captured without its addresses."""
-    end_system: Numbers
-    network: Numbers  # its byte
+    """Says where each frame of a batch is from."""
+    end_system: Numbers  # NONE if it was captured without its addresses
+    network: Octets  # 0 then
 
 
 def senders(batch: Batch) -> Senders:
@@ -27,10 +28,11 @@ def senders(batch: Batch) -> Senders:
     start = np.minimum(batch.start, len(batch.data) - ADDRESSES)
     last = at_any(batch.data, "<u4", ADDRESSES - 4)[start]
     end_system = (last >> 8).astype(np.uint16).byteswap().astype(np.int32)
-    network = (last >> 24).astype(np.int32)
+    network = (last >> 24).astype(np.uint8)
     short = batch.captured < ADDRESSES
     if short.any():
-        end_system[short] = network[short] = NONE
+        end_system[short] = NONE
+        network[short] = 0
     return Senders(end_system, network)
 
 

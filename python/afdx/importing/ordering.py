@@ -9,6 +9,7 @@ from afdx.recordings.faults import RecordingFault
 
 MOST_WAITING = 16 * 1024 * 1024  # bytes of a port's records that wait for earlier ones
 LEAST_WRITTEN = 2 * 1024 * 1024  # bytes of a port's records that are worth a write
+MOST_SHARED = 8  # steps in which records wait in memory that they share with those of other ports
 LONG_AGO = -(2**62)
 MILLISECOND = 1_000_000
 
@@ -28,24 +29,22 @@ class Ordering:
 
     def add(self, source: int, chunk: Chunk) -> None:
         """Takes records of a source, at least one. Raises RecordingFault for one that comes too late."""
-        is_sorted = chunk.is_sorted
-        self.refuse_late(source, chunk, is_sorted)
-        self.waiting.append(chunk if is_sorted else chunk.sorted())
+        self.refuse_late(source, chunk)
+        self.waiting.append(chunk if chunk.is_sorted else chunk.sorted())
         self.size += len(chunk.text)
         if self.size > MOST_WAITING:
             older = self.waiting[:-1]
             self.release(max((chunk.last for chunk in older), default=LONG_AGO), len(older))
 
-    def refuse_late(self, source: int, chunk: Chunk, is_sorted: bool) -> None:
-        stamp, newest = chunk.stamp, self.newest.get(source)
-        if not is_sorted or newest and chunk.first < newest.stamp:
+    def refuse_late(self, source: int, chunk: Chunk) -> None:
+        newest = self.newest.get(source)
+        if not chunk.is_sorted or newest and chunk.first < newest.stamp:
             self.refuse_fallen(chunk, newest)
-        if self.written and int(stamp.min()) < self.written.stamp:
-            first = int((stamp < self.written.stamp).argmax())
+        if self.written and chunk.least < self.written.stamp:
+            first = int((chunk.stamp < self.written.stamp).argmax())
             raise self.late(chunk.seen(first), self.written, "late, and later ones no longer wait")
-        last = int(stamp.argmax())
-        if newest is None or int(stamp[last]) > newest.stamp:
-            self.newest[source] = chunk.seen(last)
+        if newest is None or chunk.greatest > newest.stamp:
+            self.newest[source] = chunk.seen(int(chunk.stamp.argmax()))
 
     def refuse_fallen(self, chunk: Chunk, newest: Seen | None) -> None:
         """Counts the records whose stamps are before an earlier one's, and refuses those that are so by more than the
@@ -66,15 +65,23 @@ class Ordering:
         return RecordingFault(f"a frame of {self.port} is {how}: {stamps}", record.place)
 
     def settle(self, progress: dict[int, int]) -> None:
-        """Writes what no record of these sources may precede, each of which has come so far."""
+        """Writes what no record of these sources may precede, each of which has come so far; what waits for long gets
+        memory of its own, so that no others are kept with it."""
         if not progress:
             self.release(LONG_AGO, len(self.waiting))
         elif self.size < LEAST_WRITTEN:
-            return
+            pass
         elif len(progress) > 1:
             self.release(min(progress.values()) - self.window_ms * MILLISECOND)
         elif newest := self.newest.get(next(iter(progress))):
             self.release(newest.stamp - self.window_ms * MILLISECOND)
+        self.set_apart()
+
+    def set_apart(self) -> None:
+        for index, chunk in enumerate(self.waiting):
+            chunk.waited += 1
+            if chunk.is_shared and chunk.waited > MOST_SHARED:
+                self.waiting[index] = chunk.apart()
 
     def release(self, until: int, whole: int = 0) -> None:
         """Writes all records before this instant, and those of the first chunks whole."""
@@ -84,7 +91,7 @@ class Ordering:
             size = len(chunk.stamp)
             count = size if index < whole else chunk.before(until)
             ready += [chunk.part(0, count)] if count else []
-            waiting += [chunk.part(count, size).apart() if count else chunk] if count < size else []
+            waiting += [chunk.part(count, size)] if count < size else []
         self.waiting = waiting
         if ready:
             self.put(ready)

@@ -34,6 +34,11 @@ class Source:
         return 8000 // self.mbit if self.stamps == "start" and self.mbit else 0
 
     @property
+    def moves(self) -> bool:
+        """Answers whether stamps are changed."""
+        return self.tick != 0 or self.offset_ns != 0 or self.drift_ppb != 0
+
+    @property
     def ports(self) -> list[str]:
         return [self.to] if self.to else list(self.end_systems.values())
 

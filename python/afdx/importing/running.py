@@ -47,10 +47,12 @@ class Reading:
             self.newest = max(self.newest or 0, int(batch.stamp.max()))
             self.frames += len(batch.stamp)
             of = senders(batch)
-            is_left = np.full(len(batch.stamp), True)
-            for taker in self.takers:
-                is_left[taker.take(batch, of)] = False
-            self.left += np.bincount(of.end_system[is_left] - NONE, minlength=len(self.left))
+            taken = [taker.take(batch, of) for taker in self.takers]
+            if all(len(its) < len(batch.stamp) for its in taken):
+                is_left = np.full(len(batch.stamp), True)
+                for its in taken:
+                    is_left[its] = False
+                self.left += np.bincount(of.end_system[is_left] - NONE, minlength=len(self.left))
 
     def progress(self, taker: Taker) -> int:
         """Answers how far the recording has come, by the clock that the taker's stamps have."""

@@ -1,22 +1,38 @@
 """Takes the frames of one recording that one source asks for to their ports."""
-from collections.abc import Callable
 from dataclasses import dataclass, field
-from itertools import accumulate
+from typing import Any
 
 import numpy as np
 import numpy.typing as npt
 
-from afdx.importing.chunks import Chunk, joined, places_of
-from afdx.importing.frames import CHECK_SEQUENCE, CheckSequences, Numbers, Senders, without_check_sequence
+from afdx.importing.chunks import Chunk
+from afdx.importing.copying import copied, permuted, places_of
+from afdx.importing.frames import CHECK_SEQUENCE, CheckSequences, Octets, Senders, without_check_sequence
 from afdx.importing.ordering import Ordering
 from afdx.importing.rules import NETWORKS, Source
-from afdx.recordings.columns import END_OF_STAMPS, ROOM, SECOND, Batch, Column, Interface, at_any, picked
+from afdx.recordings.columns import END_OF_STAMPS, ROOM, SECOND, Batch, Column, Interface, are_stamps, at_any, picked
 from afdx.recordings.faults import Place, RecordingFault
 from afdx.recordings.pcap import headers
 from afdx.recordings.reading import Recording
 
 ETHERNET = 1
 END_SYSTEMS = 65_536
+
+Flags = npt.NDArray[np.bool_]
+Ports = npt.NDArray[np.integer[Any]]  # their numbers
+
+CUT, STRIPPED, KINDS = 4, 8, 16  # what a frame's kind is made of, beside its network's number
+NETWORK = np.zeros(256, np.int64)  # the number by its byte, from 1; 0 for any other
+NETWORK[list(NETWORKS.values())] = range(1, len(NETWORKS) + 1)
+
+
+@dataclass(frozen=True)
+class Counts:
+    """Says how many frames come to a port, and what of them."""
+    frames: int
+    cut: int
+    stripped: int  # of which a check sequence was taken off
+    networks: list[int]
 
 
 @dataclass
@@ -30,16 +46,16 @@ class Port:
     last: int = -1
     networks: dict[str, int] = field(default_factory=lambda: dict.fromkeys(NETWORKS, 0))
 
-    def add(self, source: int, chunk: Chunk, frames: "Frames") -> None:
+    def add(self, source: int, chunk: Chunk, counts: Counts) -> None:
         """Takes frames of a source, with their records."""
         self.ordering.add(source, chunk)
-        self.frames += len(frames.stamp)
-        self.cut += int(np.count_nonzero(frames.captured < frames.original))
-        self.stripped += int(np.count_nonzero(frames.stripped))
-        self.first = min(self.first, int(frames.stamp.min()))
-        self.last = max(self.last, int(frames.stamp.max()))
-        for name, byte in NETWORKS.items():
-            self.networks[name] += int(np.count_nonzero(frames.network == byte))
+        self.frames += counts.frames
+        self.cut += counts.cut
+        self.stripped += counts.stripped
+        self.first = min(self.first, chunk.least)
+        self.last = max(self.last, chunk.greatest)
+        for network, count in zip(self.networks, counts.networks):
+            self.networks[network] += count
 
 
 @dataclass(frozen=True)
@@ -49,8 +65,8 @@ class Frames:
     stamp: Column
     captured: Column
     original: Column
-    stripped: npt.NDArray[np.bool_]  # of which a check sequence was taken off
-    network: Numbers
+    stripped: Flags  # of which a check sequence was taken off
+    network: Octets
 
     def __len__(self) -> int:
         return len(self.record)
@@ -59,17 +75,35 @@ class Frames:
         return Frames(self.record.take(places), self.stamp.take(places), self.captured.take(places),
                       self.original.take(places), self.stripped.take(places), self.network.take(places))
 
-    def part(self, begin: int, end: int) -> "Frames":
-        return Frames(self.record[begin:end], self.stamp[begin:end], self.captured[begin:end],
-                      self.original[begin:end], self.stripped[begin:end], self.network[begin:end])
+    def counts(self, port_of: Ports) -> list[Counts]:
+        """Counts the frames of each port, and of port 0."""
+        kind = port_of.astype(np.int64)
+        kind *= KINDS
+        kind += NETWORK.take(self.network)
+        for flags, what in ((self.captured < self.original, CUT), (self.stripped, STRIPPED)):
+            if flags.any():
+                kind += flags * np.int64(what)
+        found = np.bincount(kind)
+        found = np.append(found, np.zeros(-len(found) % KINDS, np.int64)).reshape(-1, 2, 2, CUT)
+        columns = (found.sum(axis=(1, 2, 3)), found[:, :, 1].sum(axis=(1, 2)), found[:, 1].sum(axis=(1, 2)))
+        networks = found.sum(axis=(1, 2))[:, 1:1 + len(NETWORKS)]
+        return [Counts(*counts) for counts in zip(*(column.tolist() for column in (*columns, networks)))]
 
-    def chunk(self, batch: Batch, place: Callable[[int, int], Place]) -> Chunk:
-        """Copies their records out of the batch, with headers as afdx reads them."""
-        length = ROOM + self.captured
-        at = places_of(length)
-        text = joined(batch.data, batch.start.take(self.record) - ROOM, length)
-        at_any(text, f"V{ROOM}")[at[:-1]] = headers(self.stamp, self.captured, self.original)
-        return Chunk(text, at, self.stamp, batch.number.take(self.record), batch.offset.take(self.record), place)
+    def chunk(self, batch: Batch, place: Column | None, is_written: bool) -> Chunk:
+        """Copies their records out of the batch, each to its place among them, or as they lie; with headers as afdx
+        writes them, if these are not there."""
+        length, stamp, where = self.captured + ROOM, self.stamp, picked(batch.where, self.record)
+        begin = picked(batch.start, self.record) - ROOM
+        if place is None:
+            at = places_of(length)
+            to = at[:-1]
+        else:
+            at = places_of(permuted(length, place))
+            to, stamp, where = at.take(place), permuted(stamp, place), permuted(where, place)
+        text = copied(batch.data, begin, length, to)
+        if not is_written:
+            at_any(text, f"V{ROOM}")[to] = headers(self.stamp, self.captured, self.original)
+        return Chunk(text, at, stamp, where, batch.origin)
 
 
 def corrected(stamp: Column, source: Source, anchor: int) -> Column:
@@ -112,24 +146,27 @@ class Taker:
         if self.source.tick:
             stamp = stamp + (original + CHECK_SEQUENCE) * self.source.tick
         self.refuse_outside(batch, mine, stamp)
+        is_written = batch.is_written and not self.source.moves and not has.any()
         frames = Frames(mine, stamp, captured, original, has, picked(of.network, mine))
-        return self.bring(batch, frames, picked(of.end_system, mine))
+        if self.source.to:
+            [counts] = frames.counts(np.zeros(len(mine), np.int64))
+            self.ports[0].add(self.number, frames.chunk(batch, None, is_written), counts)
+            return mine
+        return self.share_out(batch, frames, self.port_of.take(picked(of.end_system, mine)), is_written)
 
-    def bring(self, batch: Batch, frames: Frames, end_system: Numbers) -> Column:
-        """Brings frames of these end systems to their ports; answers those that have one."""
-        bounds = [0, len(frames)]
-        if not self.source.to:
-            port_of = self.port_of.take(end_system)
-            nowhere, *counts = np.bincount(port_of, minlength=len(self.ports) + 1).tolist()
-            bounds = [0, *accumulate(counts)]
-            frames = frames.at(np.argsort(port_of, kind="stable")[nowhere:])
-        if not len(frames):
-            return frames.record
-        chunk = frames.chunk(batch, self.recording.place)
-        for port, begin, end in zip(self.ports, bounds, bounds[1:]):
-            if begin < end:
-                its = chunk.part(begin, end)
-                port.add(self.number, its if its is chunk else its.apart(), frames.part(begin, end))
+    def share_out(self, batch: Batch, frames: Frames, port_of: Ports, is_written: bool) -> Column:
+        """Brings frames to the ports of these numbers; answers those that have one."""
+        if not port_of.all():
+            some = np.flatnonzero(port_of)
+            frames, port_of = frames.at(some), port_of.take(some)
+        if len(frames):
+            place = permuted(np.arange(len(frames)), np.argsort(port_of, kind="stable"))
+            chunk = frames.chunk(batch, place, is_written)
+            end = 0
+            for port, counts in zip(self.ports, frames.counts(port_of)[1:]):
+                if counts.frames:
+                    begin, end = end, end + counts.frames
+                    port.add(self.number, chunk.part(begin, end), counts)
         return frames.record
 
     def chosen(self, batch: Batch) -> Column:
@@ -168,10 +205,10 @@ class Taker:
         return has
 
     def refuse_outside(self, batch: Batch, mine: Column, stamp: Column) -> None:
-        outside = (stamp < 0) | (stamp >= END_OF_STAMPS)
-        if outside.any():
-            place = self.place_of(batch, mine[outside.argmax()])
+        if not are_stamps(stamp):
+            outside = (stamp < 0) | (stamp >= END_OF_STAMPS)
+            place = self.place_of(batch, int(mine[outside.argmax()]))
             raise RecordingFault("a stamp that the rules move before 1970 or after 2106", place)
 
     def place_of(self, batch: Batch, record: int) -> Place:
-        return self.recording.place(int(batch.number[record]), int(batch.offset[record]))
+        return batch.origin.place_of(int(batch.where[record]))

@@ -1,9 +1,12 @@
 """Holds what a reader hands on: many records at once, each field of theirs a column."""
+from collections.abc import Callable
 from dataclasses import dataclass
 from typing import Any, TypeVar
 
 import numpy as np
 import numpy.typing as npt
+
+from afdx.recordings.faults import Place
 
 Column = npt.NDArray[np.int64]
 Number = TypeVar("Number", bound=np.generic)
@@ -11,6 +14,7 @@ Number = TypeVar("Number", bound=np.generic)
 SECOND = 1_000_000_000
 END_OF_STAMPS = 4_294_967_295 * SECOND  # afdx reads no stamp from here on
 ROOM = 16  # bytes before each frame's first one: enough for a record's header
+HALF = 32  # bits
 
 
 @dataclass(frozen=True)
@@ -22,16 +26,34 @@ class Interface:
 
 
 @dataclass(frozen=True)
+class Origin:
+    """Says where the records of a piece are in their recording."""
+    place: Callable[[int, int], Place]  # of a record, by its number and its offset
+    number: int  # of the first record, of the first block in pcapng
+    offset: int  # of the piece in the recording, as it is when unpacked
+
+    def place_of(self, where: int) -> Place:
+        return self.place(self.number + (where >> HALF), self.offset + (where & (1 << HALF) - 1))
+
+
+@dataclass(frozen=True)
 class Batch:
     """Records that lie whole in one piece of a recording."""
     data: bytes
-    number: Column  # of the record, of the block in pcapng; from 1
-    offset: Column  # of the record in the recording, as it is when unpacked
+    origin: Origin
+    where: Column  # of the record: how many were before it, and its place in data, in halves of one number
     start: Column  # of the frame's first byte in data
     captured: Column
     original: Column  # at least captured
     stamp: Column  # ns
     interface: Column  # its place among the reader's interfaces
+    is_written: bool = False  # whether the records, from ROOM before each frame on, are as afdx writes them
+
+
+def wheres(at: Column) -> Column:
+    """Answers where all records of a piece are, which begin at these places."""
+    found: Column = (np.arange(len(at)) << HALF) + at
+    return found
 
 
 def at_any(data: bytes | memoryview, kind: str, begin: int = 0) -> npt.NDArray[Any]:
@@ -50,3 +72,8 @@ def words(data: bytes, at: Column, count: int, order: str) -> npt.NDArray[np.uin
 def picked(column: npt.NDArray[Number], ascending: Column) -> npt.NDArray[Number]:
     """Answers what a column has at these places, which ascend: the column itself if they are all."""
     return column if len(ascending) == len(column) else column.take(ascending)
+
+
+def are_stamps(stamp: Column) -> bool:
+    """Answers whether a capture can have all of these stamps."""
+    return not len(stamp) or 0 <= int(stamp.min()) and int(stamp.max()) < END_OF_STAMPS

@@ -6,7 +6,7 @@ from typing import Any
 import numpy as np
 import numpy.typing as npt
 
-from afdx.recordings.columns import END_OF_STAMPS, Batch, Column, Interface
+from afdx.recordings.columns import END_OF_STAMPS, Batch, Column, Interface, Origin, are_stamps
 from afdx.recordings.faults import Place, RecordingFault
 
 MOST_CAPTURED = 262_144
@@ -39,14 +39,15 @@ class Form(ABC):
     def next_place(self) -> Place:
         return self.place(self.count + 1, self.offset)
 
-    def refuse(self, faulty: npt.NDArray[np.bool_], number: Column, offset: Column, what: str,
+    def refuse(self, faulty: npt.NDArray[np.bool_], where: Column, origin: Origin, what: str,
                of: npt.NDArray[np.integer[Any]]) -> None:
         """Raises the fault of the first record that has it; `{}` in its text is the record's number in `of`."""
         if faulty.any():
             first = int(faulty.argmax())
-            raise RecordingFault(what.format(int(of[first])), self.place(int(number[first]), int(offset[first])))
+            raise RecordingFault(what.format(int(of[first])), origin.place_of(int(where[first])))
 
-    def refuse_late(self, stamp: Column, number: Column, offset: Column) -> None:
+    def refuse_late(self, stamp: Column, where: Column, origin: Origin) -> None:
         """Refuses stamps that no capture can have."""
-        outside = (stamp < 0) | (stamp >= END_OF_STAMPS)
-        self.refuse(outside, number, offset, "a stamp before 1970 or after 2106", stamp)
+        if not are_stamps(stamp):
+            outside = (stamp < 0) | (stamp >= END_OF_STAMPS)
+            self.refuse(outside, where, origin, "a stamp before 1970 or after 2106", stamp)

@@ -6,7 +6,7 @@ from typing import Self
 import numpy as np
 import numpy.typing as npt
 
-from afdx.recordings.columns import SECOND, Batch, Column, Interface, words
+from afdx.recordings.columns import SECOND, Batch, Column, Interface, Origin, wheres, words
 from afdx.recordings.faults import Place, RecordingFault
 from afdx.recordings.form import MOST_CAPTURED, Form
 from afdx.recordings.walking import RECORD, records_of
@@ -44,21 +44,22 @@ class Pcap(Form):
 
     def batches(self, data: bytes) -> Iterator[Batch]:
         at, after = records_of(data, self.order)
-        number, offset = np.arange(self.count + 1, self.count + 1 + len(at)), self.offset + at
-        fields = words(data, at, 4, self.order)
-        self.refuse(fields[:, 2] > MOST_CAPTURED, number, offset, "{} bytes captured", fields[:, 2])
+        where, origin = wheres(at), Origin(self.place, self.count + 1, self.offset)
+        fields = np.ascontiguousarray(words(data, at, 4, self.order).T)
+        self.refuse(fields[2] > MOST_CAPTURED, where, origin, "{} bytes captured", fields[2])
         whole = len(at) - (after > len(data))
         self.used = after if whole == len(at) else int(at[-1])
-        number, offset = number[:whole], offset[:whole]
-        seconds, nanos, captured, original = (field.astype(np.int64) for field in fields[:whole].T)
-        nanos *= self.fraction
-        self.refuse(nanos >= SECOND, number, offset, "a fraction of {} ns", nanos)
-        stamp = seconds * SECOND + nanos
-        self.refuse_late(stamp, number, offset)
+        at, where, fields = at[:whole], where[:whole], fields[:, :whole]
+        nanos = fields[1].astype(np.int64) * self.fraction
+        self.refuse(nanos >= SECOND, where, origin, "a fraction of {} ns", nanos)
+        stamp = fields[0].astype(np.int64) * SECOND + nanos
+        self.refuse_late(stamp, where, origin)
         self.count += whole
         self.offset += self.used
-        yield Batch(data, number, offset, at[:whole] + RECORD, captured, np.maximum(original, captured), stamp,
-                    np.zeros(whole, np.int64))
+        original = np.maximum(fields[3], fields[2])
+        is_written = self.order == "<" and self.fraction == 1 and bool((original == fields[3]).all())
+        yield Batch(data, origin, where, at + RECORD, fields[2].astype(np.int64), original.astype(np.int64), stamp,
+                    np.broadcast_to(np.int64(0), (whole,)), is_written)
 
 
 def headers(stamp: Column, captured: Column, original: Column) -> npt.NDArray[np.void]:

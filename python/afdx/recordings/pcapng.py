@@ -6,7 +6,7 @@ from typing import Self
 import numpy as np
 import numpy.typing as npt
 
-from afdx.recordings.columns import SECOND, Batch, Column, Interface, words
+from afdx.recordings.columns import SECOND, Batch, Column, Interface, Origin, wheres, words
 from afdx.recordings.faults import RecordingFault
 from afdx.recordings.form import MOST_CAPTURED, Form
 
@@ -87,27 +87,27 @@ class Pcapng(Form):
 
     def packets(self, data: bytes, at: Column, base: int) -> Batch:
         """Answers the packets of these blocks."""
-        number, offset = self.count + 1 + np.arange(len(at)), base + at
+        where, origin = wheres(at), Origin(self.place, self.count + 1, base)
         head = words(data, at, 2, self.order).astype(np.int64)
         kind, size = head[:, 0], head[:, 1]
         again = words(data, at + size - 4, 1, self.order)[:, 0]
-        self.refuse(again != size, number, offset, "a block's length of {} bytes is not that at its end", size)
+        self.refuse(again != size, where, origin, "a block's length of {} bytes is not that at its end", size)
         self.count += len(at)
 
         mine = (kind == PACKET) | (kind == OLD_PACKET)
-        at, number, offset, kind, size = at[mine], number[mine], offset[mine], kind[mine], size[mine]
-        self.refuse((size < AROUND_FRAME) | (size > MOST), number, offset, "a packet's block of {} bytes", size)
+        at, where, kind, size = at[mine], where[mine], kind[mine], size[mine]
+        self.refuse((size < AROUND_FRAME) | (size > MOST), where, origin, "a packet's block of {} bytes", size)
         fields = words(data, at, BEFORE_FRAME // 4, self.order).astype(np.int64)
         captured = fields[:, 5]
-        self.refuse(captured > MOST_CAPTURED, number, offset, "{} bytes captured", captured)
-        self.refuse(captured > size - AROUND_FRAME, number, offset, "{} bytes captured, past the block's end", captured)
+        self.refuse(captured > MOST_CAPTURED, where, origin, "{} bytes captured", captured)
+        self.refuse(captured > size - AROUND_FRAME, where, origin, "{} bytes captured, past the block's end", captured)
         short = fields[:, 2] & 0xFFFF if self.order == "<" else fields[:, 2] >> 16
         interface = self.section + np.where(kind == PACKET, fields[:, 2], short)
-        self.refuse(interface >= len(self.interfaces), number, offset, "interface {} is not declared", interface)
+        self.refuse(interface >= len(self.interfaces), where, origin, "interface {} is not declared", interface)
         stamp = self.stamps(fields, interface)
-        self.refuse_late(stamp, number, offset)
+        self.refuse_late(stamp, where, origin)
         original = np.maximum(fields[:, 6], captured)
-        return Batch(data, number, offset, at + BEFORE_FRAME, captured, original, stamp, interface)
+        return Batch(data, origin, where, at + BEFORE_FRAME, captured, original, stamp, interface)
 
     def stamps(self, fields: Column, interface: Column) -> Column:
         """Answers the packets' stamps, each by its interface's clock."""

@@ -3,7 +3,7 @@ import struct
 
 import numpy as np
 
-from afdx.recordings.columns import Column, at_any
+from afdx.recordings.columns import HALF, Column, at_any
 
 RECORD = 16  # bytes of a record's header
 LANE = 16 * 1024  # bytes after which a record is guessed from which to go on too
@@ -50,13 +50,15 @@ def in_lanes(data: bytes, order: str) -> tuple[Column, int]:
     begins = guesses(data, order)
     if len(begins) < LEAST_LANES:
         return np.empty(0, np.int64), 0
-    lengths = at_any(data, f"{order}u4", 8)  # of a record at each place
+    fields = at_any(data, f"{order}u8", 4 if order == "<" else 8)  # at each place; the upper half is a length
     at, end = begins[:-1], begins[1:]
-    past, header = begins[-1:] + 1, np.array([RECORD])
+    # numpy takes less for columns of one length than for a column and a number
+    header, half, past = (np.full(len(at), value) for value in (RECORD, np.uint64(HALF), begins[-1] + 1))
     steps: list[Column] = []
     while len(steps) % AT_ONCE or (at < end).any():
         steps.append(at)
-        after = at + lengths[at]
+        after = np.right_shift(fields[at], half).view(np.int64)
+        after += at
         after += header
         at = np.minimum(after, past, out=after)
     walked = np.array([*steps, at])
