@@ -70,6 +70,20 @@ shows() {
         grep ' at ' shown.txt | sed 's/ apart [0-9]*/ apart/' | diff "day/truth/$1/recorded.txt" -
 }
 
+# compares RUN: what the tap shows of SW1's outputs is what the rules allow a switch that takes up to 3 us longer, but for what was hidden:
+# each frame that is not there is named, and of those that are late none but these is.
+compares() {
+    local status=0
+    rm -rf differences && mkdir differences
+    afdx compare net/SW1.toml "in/$1/A/SW1" "in/$1/seen" --ports 1,2,20 --tolerance 3000 --rows differences >compared.txt || status=$?
+    tail -n +2 differences/differences.csv >rows.txt
+    sed -n 's/^port-20 link \([0-9]*\) only-a .*/20,\1,missing/p' "day/truth/$1/recorded.txt" | sort >lost.txt
+    sed -n 's/^port-1 link \([0-9]*\) apart .*/\1/p' "day/truth/$1/recorded.txt" | sort -u >late.txt
+    grep -v '^1,' rows.txt | cut -d, -f1-3 | sort | diff lost.txt - &&
+        [ -z "$(grep '^1,' rows.txt | cut -d, -f2 | sort -u | comm -13 late.txt -)" ] &&
+        [ "$status" -eq "$([ -s rows.txt ] && echo 1 || echo 0)" ]
+}
+
 mkdir bin && ln -s "$afdx" bin/afdx && PATH=$room/bin:$top/python/bin:$PATH
 check "the ICD" /usr/bin/python3 "$top/end_to_end/day.py" lists lists
 check "its tables" afdx-icd lists/{links,ends,wires}.csv net --mapping lists/map.toml
@@ -82,5 +96,6 @@ for run in day/raw/*; do
     check "$run: who sent too much" babbled "$run"
     check "$run: how late frames were" measures "$run"
     check "$run: what a real switch did otherwise" shows "$run"
+    check "$run: whether it keeps what is proved" compares "$run"
 done
 finish

@@ -370,12 +370,14 @@ check "each close fails in turn, after the sync" each_fails close 0
 check "each write takes half in turn" each_half
 for call in write rename; do
     check "each $call of trace fails in turn" each_put_fails "$call" "arrivals.csv departures.csv" trace table.toml given out
+    check "each $call of compare fails in turn" each_put_fails "$call" differences.csv compare table.toml given newer --stamps free --rows out
     check "each $call of network run fails in turn" each_put_fails "$call" "$ports" network run "$aircraft/network.toml" "$aircraft/in" out
 done
 check "a new file that can be neither moved nor removed" stays_beside
 check "each read of alone is interrupted" interrupted "afdx: device read" alone --id 10 --bag 1 --jitter 0 --size 1000
 check "each read of check is interrupted" interrupted "afdx: device get table.toml" check table.toml
 check "each read of run is interrupted" interrupted "afdx: device get table.toml" run table.toml in out
+check "each read of compare is interrupted" interrupted "afdx: device get table.toml" compare table.toml given newer --rows out
 check "the program is ended at each call in turn" each_kill
 check "another run puts into OUT" another_puts
 check "another run has the new file" another_writes

@@ -41,7 +41,7 @@ to = "B.1"
 END
 sed 's/jitter_us = .*/jitter_us = 1000/' table.toml >later.toml
 sed 's/later/table/' network.toml >short.toml
-mkdir -p in cut pcapng usb out both/A both/B puts/A puts/B
+mkdir -p in cut pcapng usb sent out both/A both/B puts/A puts/B
 frames in/port-1.pcap 0.000000000:10:1518 0.000999999:10:1518 0.001000000:10:1518
 frames in/port-2.pcap 0.000000000:11:64
 head -c 1500 in/port-1.pcap >cut/port-1.pcap
@@ -53,6 +53,7 @@ done
 cp -r in whole && enlarge whole/port-1.pcap 65
 cp in/port-[12].pcap both/A
 cp in/port-2.pcap both/B
+"$afdx" run table.toml in sent >/dev/null
 alone=(alone --id 10 --bag 1 --jitter 0 --size 1518)
 
 check "the library is built" cc -Wall -Wextra -O1 -shared -fPIC -o refuse.so "$top/end_to_end/refuse.c"
@@ -67,6 +68,8 @@ refuses "measure" 0 "" /dev/null measure table.toml in
 refuses "survey" 0 "" /dev/null survey table.toml in
 refuses "trace" 0 "" /dev/null trace table.toml in out
 refuses "trace of two links, from the first frame" 0 "" /dev/null trace table.toml in out --link 10 --link 11 --relative
+refuses "compare" 0 "" /dev/null compare table.toml in sent --stamps free --rest --rows out
+refuses "compare that differs" 1 "" /dev/null compare table.toml in in --stamps free --rest --rows out
 refuses "network check" 0 "" /dev/null network check network.toml
 refuses "network jitter" 0 "" /dev/null network jitter network.toml
 refuses "help" 0 "" /dev/null --help

@@ -127,6 +127,8 @@ patch 24 '\x01'
 refuses_capture "P10 Backwards, port 1, record 2"
 head -c 150 good.pcap >in/port-1.pcap
 refuses_capture "P11 CutData, port 1, record 2"
+mkdir outputs && : >outputs/port-1.pcap && cp good.pcap outputs/port-2.pcap
+says 3 "afdx: capture P2 NoHeader, output 1" compare table.toml in outputs
 
 for number in 11 12 13 14 15 16; do link "$number" low; done >six.toml
 link 12 high >high.toml

@@ -12,6 +12,7 @@ import socket
 import subprocess
 import sys
 import time
+from collections.abc import Callable
 from pathlib import Path
 
 import model
@@ -67,6 +68,21 @@ def is_recorded(sent: list[model.Record], path: Path) -> bool:
     return all(record.data in recorded for record in sent)
 
 
+def await_frames(are_recorded: Callable[[], bool]) -> None:
+    """Waits until all frames are recorded."""
+    deadline = time.monotonic() + PATIENCE
+    while not are_recorded():
+        if time.monotonic() > deadline:
+            sys.exit("not every frame was recorded in order")
+        time.sleep(0.2)
+
+
+def end_recording(recorders: list[subprocess.Popen[bytes]]) -> None:
+    for recorder in recorders:
+        recorder.send_signal(signal.SIGINT)
+        recorder.wait()
+
+
 def record(sent: dict[int, list[model.Record]], target: Path) -> None:
     """Sends the frames and has them recorded."""
     recorders: list[subprocess.Popen[bytes]] = []
@@ -81,15 +97,9 @@ def record(sent: dict[int, list[model.Record]], target: Path) -> None:
             await_listening(recorder)
         arrivals = [(port, record) for port in sent for record in sent[port]]
         send(sorted(arrivals, key=lambda arrival: arrival[1].stamp))
-        deadline = time.monotonic() + PATIENCE
-        while not all(is_recorded(sent[port], path) for port, path in paths):
-            if time.monotonic() > deadline:
-                sys.exit("not every frame was recorded in order")
-            time.sleep(0.2)
+        await_frames(lambda: all(is_recorded(sent[port], path) for port, path in paths))
     finally:
-        for recorder in recorders:
-            recorder.send_signal(signal.SIGINT)
-            recorder.wait()
+        end_recording(recorders)
 
 
 def main() -> None:

@@ -87,11 +87,30 @@ def stamps_of_starts(folder: Path) -> None:
     write(folder / "raw" / "port-2.pcap", [])
 
 
+def what_left(folder: Path) -> None:
+    """Link 10 through a switch that takes 8 to 12 us for a frame. The recorder at the output is ahead, and was ended 0.1 s sooner; 0.5 s
+    after the first frame it lost one."""
+    write_table(folder / "table.toml", [1, 2], [(10, 1, 2, 20, 1000)])
+    table = (folder / "table.toml").read_text(encoding="utf-8")
+    (folder / "table.toml").write_text("version = 3\nlatency_us = 16\n\n" + table, encoding="utf-8")
+    chance = random.Random(1)
+    line_time = (1000 + model.LINE_OVERHEAD - 12) * TICK  # up to the end of the last bit
+    came = [record(BEGIN + number * 1_000_000, frame(10, 1000)[:-4] + number.to_bytes(4, "big")) for number in range(1000)]
+    left = [record(one.stamp + chance.randrange(8_000, 12_000) + line_time + 1_500_000, one.data) for one in came[:900]]
+    seen: dict[str, list[model.Record]] = {"in/port-1": came, "in/port-2": [], "left/port-1": [], "left/port-2": left[:500] + left[501:]}
+    for name, records in seen.items():
+        write(folder / f"{name}.pcap", records)
+    mark = frame(10, 200)
+    write(folder / "raw" / "mark-in.pcap", [record(BEGIN - 60 * model.SECOND, mark)])
+    write(folder / "raw" / "mark-left.pcap", [record(BEGIN - 60 * model.SECOND + 1_500_000, mark)])
+
+
 RECORDINGS: dict[str, Callable[[Path], None]] = {
     "clocks_that_are_apart": network_with_clocks_apart,
     "a_clock_that_drifts": one_link(20, [number * 999_950 for number in range(1000)]),
     "noise_on_the_stamps": one_link(0, noisy_stamps()),
     "stamps_of_the_frame_s_start": stamps_of_starts,
+    "what_left_a_switch": what_left,
 }
 
 

@@ -186,6 +186,48 @@ check "a line that says how far it is" tells_progress
 check "Ctrl-C while the program runs" is_ended_by INT tracing 130 "$network/table.toml" "$network/in"
 check "SIGTERM while the program runs" is_ended_by TERM tracing 143 "$network/table.toml" "$network/in"
 
+# recorded PAGE KIND TEXT..: the section of the recordings has a verdict of this kind, and each of these texts.
+recorded() {
+    local page=$1 kind=$2 text section
+    shift 2
+    section=$(sed -n '/id="recordings"/,/<table/p' "$page" | tr '\n' ' ' | sed 's|  *| |g')
+    echo "$section"
+    grep -q "<p class=\"verdict $kind\">" <<<"$section" || { echo "not $kind"; return 1; }
+    section=$(sed 's|<[^>]*>||g' <<<"$section")
+    for text in "$@"; do
+        grep -qE "$text" <<<"$section" || { echo "no $text"; return 1; }
+    done
+}
+
+# from_recorded_answers: of what compare answered before too the same page is made but for its origin.
+from_recorded_answers() {
+    "$AFDX" trace "$network/table.toml" "$network/in" earlier &&
+        "$AFDX" compare "$network/table.toml" "$network/in" faulty --stamps=free --rows earlier >earlier/compare.txt
+    (export AFDX=none && makes again.html "$network/table.toml" "$network/in" --answers earlier --recorded faulty --stamps free) &&
+        cmp again-differences.csv faulty-differences.csv &&
+        cmp <(sed '/id="origin"/,$d; s/faulty-diff/again-diff/g' faulty.html) <(sed '/id="origin"/,$d' again.html)
+}
+
+mkdir out
+"$AFDX" run "$network/table.toml" "$network/in" out >/dev/null
+cp -r out faulty
+python3 "$top/end_to_end/planted.py" lost faulty 3 100
+python3 "$top/end_to_end/planted.py" doubled faulty 3 200
+python3 "$top/end_to_end/planted.py" turned faulty 2 20
+check "recordings that conform" makes whole.html "$network/table.toml" "$network/in" --recorded out --stamps free
+check "are said to" recorded whole.html good 'The recordings conform' '958 records are of a frame that was passed' 'Nearest to its bound was link '
+check "and no difference is beside the page" test "$(wc -l <whole-differences.csv)" -eq 1
+check "their page in a browser" opens whole.html "$network/table.toml" "$network/in" --recorded out --compare stamps=free
+check "recordings that differ are an answer too" makes faulty.html "$network/table.toml" "$network/in" --recorded faulty --stamps free
+check "and are said to" recorded faulty.html bad 'The recordings differ' '2 missing, 2 extra'
+check "each difference in a browser, and in print" opens faulty.html "$network/table.toml" "$network/in" --recorded faulty --compare stamps=free --print
+check "the recordings' origin" tells_its_origin faulty.html "$network/table.toml" faulty
+check "what they were compared by" grep -q 'compare table.toml in faulty --stamps=free$' faulty.html
+check "so is that of earlier answers of compare" from_recorded_answers
+check "an option that compare refuses" ends_with 2 "afdx: usage" "$network/table.toml" "$network/in" made/page.html --recorded out --stamps begin
+check "recordings that are not there" ends_with 5 "afdx: device get none/port-1.pcap" \
+    "$network/table.toml" "$network/in" made/page.html --recorded none
+
 python3 "$top/bench/network.py" big 1000000
 check "Ctrl-C while it draws" is_ended_by INT drawing 130 big/table.toml big/in
 check "SIGTERM while it draws" is_ended_by TERM drawing 143 big/table.toml big/in

@@ -31,8 +31,12 @@ Box = tuple[str, float, float, float, float]  # a text and its place
 COLOURED = 3000  # texts whose colours are looked at, the first ones
 FIRST_COLUMNS = {1280: 12, 800: 8, 400: 3}
 CONTRAST = 4.5  # the least of a text to its paper, by WCAG
-HUES = {"verdict good": (120, 180), "verdict policed": (35, 55), "verdict bad": (0, 30)}  # degrees: green, amber, red
+HUES = {"verdict good": (120, 180), "verdict policed": (35, 55), "verdict empty": (35, 55),
+        "verdict bad": (0, 30)}  # degrees: green, amber, amber, red
+KINDS = ("missing", "extra", "early", "late", "foreign")
 DELAYS = re.compile(r"link (\d+) out (\d+) sent (\d+) least (\S+) greatest (\S+) bound (\S+)")
+COMPARED = re.compile(r"link (\d+) out (\d+) passed (\d+) seen (\d+) missing (\d+) extra (\d+) early (\d+) late (\d+) "
+                      r"before (\d+) after (\d+) unsure (\d+) least (\S+) greatest (\S+) bound (\d+)")
 PICTURE = """
 const figure = document.getElementById(arguments[0]);
 if (!figure) return null;
@@ -42,9 +46,9 @@ return {text: figure.querySelector("figcaption").innerText, points: figure.query
         width: drawing.width, height: drawing.height, left: place.left, right: place.right,
         link: !!document.querySelector(`a[href="#${arguments[0]}"]`)};
 """
-COLUMN = "return [...document.querySelectorAll('.sorts tbody tr')].map(row => row.cells[arguments[0]].textContent)"
-HEADING = """document.querySelectorAll('.sorts th button')[arguments[0]].click();
-return document.querySelectorAll('.sorts th')[arguments[0]].ariaSort"""
+COLUMN = "return [...document.querySelectorAll('#all tbody tr')].map(row => row.cells[arguments[0]].textContent)"
+HEADING = """document.querySelectorAll('#all th button')[arguments[0]].click();
+return document.querySelectorAll('#all th')[arguments[0]].ariaSort"""
 TABLES = """return [...document.querySelectorAll('table')].map(
     table => [...table.rows].map(row => [...row.cells].map(cell => cell.textContent.trim())))"""
 # The places of the texts in each picture with axes that is shown, and of the two texts of each bar.
@@ -58,7 +62,7 @@ return [...pictures, ...bars];
 """
 TIGHT = "return [...document.querySelectorAll('td, th')].filter(cell => cell.scrollWidth > cell.clientWidth).map(cell => cell.textContent)"
 FIRST = """
-const table = document.querySelector(".sorts");
+const table = document.getElementById("all");
 table.scrollIntoView();
 const verdict = document.querySelector(".verdict").getBoundingClientRect();
 const right = [...table.rows[0].cells].slice(0, arguments[0]).map(cell => cell.getBoundingClientRect().right);
@@ -77,7 +81,15 @@ const ink = element => element.ownerSVGElement ? getComputedStyle(element).fill 
 const texts = [...document.querySelectorAll("h1, h2, h3, p, b, a, td, th, figcaption, .bar span, svg[role=img] text")];
 return texts.slice(0, arguments[0]).map(text => [text.textContent.trim().slice(0, 40), ink(text), paper(text)]);
 """
-VERDICT = "const verdict = document.querySelector('.verdict'); return [verdict.className, getComputedStyle(verdict).borderLeftColor]"
+VERDICTS = "return [...document.querySelectorAll('.verdict')].map(said => [said.className, getComputedStyle(said).borderLeftColor])"
+ROWS = """const table = document.getElementById(arguments[0]);
+return table ? [...table.tBodies[0].rows].map(row => [...row.cells].map(cell => cell.textContent.trim())) : []"""
+OVERVIEWS = """return [...document.querySelectorAll("svg[aria-label='The run at a glance']")].filter(
+    svg => svg.getBoundingClientRect().height > 100).length"""
+# The texts of the picture of all differences, and how many pictures of links have ticks below, and a band.
+MARKED = """const shown = [...document.querySelectorAll("svg[aria-label^=Differences]")].filter(svg => svg.checkVisibility());
+return [shown.flatMap(svg => [...svg.querySelectorAll("text")].map(text => text.textContent.trim())),
+        document.querySelectorAll("figure:not(.policed) path.t").length, document.querySelectorAll("path.r").length]"""
 faults: list[str] = []
 
 
@@ -112,6 +124,40 @@ def measured(options: argparse.Namespace) -> list[tuple[str, ...]]:
 
 def grouped(word: str) -> str:
     return f"{int(word):,}" if word != "-" else word
+
+
+def compared(options: argparse.Namespace) -> list[tuple[str, ...]]:
+    """The lines `link` of compare."""
+    command = [os.environ["AFDX"], "compare", options.table, options.folder, options.recorded, *options.compare]
+    said = subprocess.run(command, capture_output=True, text=True, check=False)
+    return [match.groups() for match in map(COMPARED.fullmatch, said.stdout.splitlines()) if match]
+
+
+def recorded_row(line: tuple[str, ...], model: tuple[str, ...]) -> list[str]:
+    """The cells of a link at a port that was recorded, but for which part of its bound it took."""
+    link, port, passed, seen, *kinds, before, after, unsure, least, greatest, bound = line
+    verdict = "differs" if any(many != "0" for many in kinds) else "conforms"
+    numbers = [*model[3:], least, greatest, bound, passed, seen, *kinds, before, after, unsure]
+    return [link, port, verdict, *map(grouped, numbers)]
+
+
+def check_recordings(page: Any, options: argparse.Namespace, rows: list[tuple[str, ...]]) -> None:
+    """Each link at each port that was recorded, and each difference up to 50 of a port, has its row and its mark."""
+    models = {row[:2]: row for row in rows}
+    wanted = [recorded_row(line, models[line[:2]]) for line in compared(options)]
+    cells = page.execute_script(ROWS, "compared")
+    expect(f"rows of compare: {len(cells)}", wanted and [row[:9] + row[10:] for row in cells] == wanted)
+    beside = Path(options.page).with_name(f"{Path(options.page).stem}-differences.csv")
+    lines = [line.split(",") for line in beside.read_text(encoding="ascii").splitlines()[1:]]
+    shown = [[port, link or "-", kind, *(grouped(word or "-") for word in (came, left, delay, bound))]
+             for port, link, kind, came, _, left, _, delay, bound in lines]
+    cells = page.execute_script(ROWS, "differences")
+    expect(f"rows of differences: {len(cells)}", [row[:3] + row[5:] for row in cells] == shown)
+    texts, ticks, bands = page.execute_script(MARKED)
+    named = {text for port, _, kind, *_ in lines for text in (f"port {port}", kind)}
+    expect(f"a picture of {named}, not of {texts}", named == {text for text in texts if text in KINDS or text.startswith("port ")})
+    expect(f"{ticks} pictures of links have ticks", ticks == len({(port, link) for port, link, *_ in lines if link}))
+    expect(f"{bands} pictures have a band", bands == sum(line[-2] != "-" for line in compared(options)))
 
 
 def check_picture(page: Any, row: tuple[str, ...], width: int) -> None:
@@ -182,9 +228,9 @@ def check_colours(page: Any, scheme: str) -> None:
         over, under = sorted((brightness(ink), brightness(paper)), reverse=True)
         expect(f"{scheme}: {text!r} is {ink} on {paper}", (over + 0.05) / (under + 0.05) >= CONTRAST)
         expect(f"{scheme}: the paper of {text!r} is {paper}", (brightness(paper) < 0.1) == (scheme == "dark"))
-    kind, colour = page.execute_script(VERDICT)
-    least, most = HUES[kind]
-    expect(f"{scheme}: the {kind} is {colour}", least <= 360 * colorsys.rgb_to_hsv(*parts_of(colour))[0] <= most)
+    for kind, colour in page.execute_script(VERDICTS):
+        least, most = HUES[kind]
+        expect(f"{scheme}: the {kind} is {colour}", least <= 360 * colorsys.rgb_to_hsv(*parts_of(colour))[0] <= most)
 
 
 def check_print(page: Any) -> None:
@@ -218,7 +264,7 @@ def open_page(page: Any, path: str | Path, seconds: float, width: int) -> None:
 
 def check_page(page: Any, options: argparse.Namespace, rows: list[tuple[str, ...]], width: int) -> None:
     open_page(page, options.page, options.seconds, width)
-    overviews = page.execute_script("return [...document.querySelectorAll('.wide, .narrow')].filter(x => x.offsetHeight > 100).length")
+    overviews = page.execute_script(OVERVIEWS)
     expect("one picture of the run, where frames came in", overviews == any(sent != "0" for _, _, sent, *_ in rows))
     check_places(page, width)
     for row in rows if len(rows) <= LOOKED_AT else random.Random(1).sample(rows, LOOKED_AT):
@@ -234,11 +280,16 @@ def main() -> None:
     parser.add_argument("--unchecked", action="store_true")
     parser.add_argument("--seconds", type=float, default=10)
     parser.add_argument("--print", action="store_true")
+    parser.add_argument("--recorded", help="the folder of what was recorded")
+    parser.add_argument("--compare", nargs="*", default=[], help="the options of compare, as name=value without dashes")
     options = parser.parse_args()
+    options.compare = [f"--{option}" for option in options.compare]
     rows, page = measured(options), browser()
     try:
         for width in WIDTHS:
             check_page(page, options, rows, width)
+        if options.recorded:
+            check_recordings(page, options, rows)
         check_sorting(page, rows)
         for scheme in ("light", "dark"):
             check_colours(page, scheme)

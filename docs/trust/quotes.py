@@ -241,7 +241,7 @@ def rust_imports(file: str) -> dict[str, tuple[Path, list[str]]]:
         base, modules = (crate, path.split("::")[1:]) if first == "crate" else (TOP / "crates" / first, list[str]())
         for name in names.split(","):
             name = name.strip().split(" as ")[0]
-            if name[:1].isupper():
+            if name[:1].isupper() and not name.isupper():
                 brought[name] = (base, modules)
     return brought
 

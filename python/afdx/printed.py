@@ -12,6 +12,15 @@ DELAYS = re.compile(r"link (?P<link>\d+) out (?P<port>\d+) sent (?P<sent>\d+) "
                     r"least (?P<least>-|\d+) greatest (?P<greatest>-|\d+) bound (?P<bound>-|\d+)")
 # the most that a port's buffer held, as `afdx measure` prints it
 OCCUPIED = re.compile(r"out (?P<port>\d+) occupied (?P<occupied>\d+) of (?P<limit>\d+) at (?P<at>-|\d+)")
+# between which stamps recordings of a switch count, as `afdx compare` prints it
+SPAN = re.compile(r"span (?P<begin>\d+) to (?P<end>\d+)")
+# what left of a link at an output port that was recorded, as `afdx compare` prints it
+RECORDED = re.compile(r"link (?P<link>\d+) out (?P<port>\d+) passed (?P<passed>\d+) seen (?P<seen>\d+) "
+                      r"missing (?P<missing>\d+) extra (?P<extra>\d+) early (?P<early>\d+) late (?P<late>\d+) "
+                      r"before (?P<before>\d+) after (?P<after>\d+) unsure (?P<unsure>\d+) "
+                      r"least (?P<least>-|\d+) greatest (?P<greatest>-|\d+) bound (?P<bound>\d+)")
+# what left at an output port that was recorded, as `afdx compare` prints it
+SEEN = re.compile(r"out (?P<port>\d+) seen (?P<seen>\d+) foreign (?P<foreign>\d+)")
 # the jitter that a row needs, as `afdx network jitter` prints it
 JITTER = re.compile(r"switch (?P<switch>\S+) link (?P<link>\d+) jitter_us (?P<jitter_us>\d+)")
 # the way of a link to one of its ends, as `afdx network check` prints it

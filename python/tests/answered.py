@@ -8,7 +8,7 @@ from pathlib import Path
 
 from afdx.program import Progress
 from afdx.view import run
-from afdx.view.answers import Answers
+from afdx.view.answers import Answers, Compared
 from afdx.view.run import Run
 from afdx.view.table import Link, Table
 
@@ -48,7 +48,7 @@ def put_answers(folder: Path, size: str = SIZE, measured: str = MEASURED, arriva
         (folder / name).write_text(text)
 
 
-def read(folder: Path, table: Table = TABLE, checked: bool = True) -> Run:
+def read(folder: Path, table: Table = TABLE, checked: bool = True, compared: Compared | None = None) -> Run:
     """Reads the answers that the folder has."""
     size, measured = ((folder / name).read_text() for name in ("size.txt", "measure.txt"))
-    return run.read(Answers(size, measured, folder), table, checked, Progress("test"))
+    return run.read(Answers(size, measured, folder, compared), table, checked, Progress("test"))

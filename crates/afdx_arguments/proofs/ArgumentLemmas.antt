@@ -6,6 +6,7 @@ use Rattle.std.proofs.Common.{◌-◌, length, take}
 use Rattle.std.proofs.lemmas.List.{take_rest}
 use Rattle.std.specs.Box.{box_value}
 use Rattle.std.specs.Str.Parse.{ParsesUnsigned}
+use Rattle.afdx_recordings.specs.declared.recordings.Recordings.{Recordings}
 use Rattle.clap.specs.Words.{App, app_of, HasKind, IsAmong, Kinds, Row, Text, fault_of, is_simple, is_simple_and_free, kind_of, one_text, rows_of}
 use Rattle.clap.specs.Words.{subcommand_name_of, subcommand_of, subcommand_rows, subcommand_rows_of, ReadsOne}
 use Rattle.clap.specs.declared.builder.command.Command.{Command}
@@ -22,18 +23,18 @@ use Rattle.afdx_arguments.specs.declared.request.NoRequest.TheVariants.{Help, Us
 use Rattle.afdx_arguments.specs.declared.request.NetworkRequest.{NetworkRequest}
 use Rattle.afdx_arguments.specs.declared.request.Request.{Request}
 use Rattle.afdx_arguments.specs.declared.request.Request.TheVariants as request
-use Rattle.afdx_arguments.specs.Commands.{alone_app, check_app, size_app, paths_app, run_app, inputs_app, trace_app, explain_app, program}
+use Rattle.afdx_arguments.specs.Commands.{alone_app, check_app, size_app, paths_app, run_app, inputs_app, trace_app, explain_app, compare_app, program}
 use Rattle.afdx_arguments.specs.Commands.{network_check_app, network_size_app, network_jitter_app, network_run_app, network_program}
 use Rattle.afdx_arguments.specs.Explaining.{HasEntry}
-use Rattle.afdx_arguments.specs.Requests.{HasNumber, HasLink, AsksFor, AsksOfNetwork, AsksIn, Explains, Reads}
+use Rattle.afdx_arguments.specs.Requests.{HasRecordings, HasNumber, HasLink, AsksFor, AsksOfNetwork, AsksIn, Explains, Reads}
 use Rattle.afdx_arguments.specs.Requests.{is_network, fault_in, faults_of, HasMatches, HasNoMatches}
 
 pub simple : is_simple program ≡ true
-unfolding program alone_app check_app size_app paths_app run_app inputs_app trace_app explain_app
+unfolding program alone_app check_app size_app paths_app run_app inputs_app trace_app explain_app compare_app
 simple = refl
 
 pub simple_and_free : is_simple_and_free program ≡ true
-unfolding program alone_app check_app size_app paths_app run_app inputs_app trace_app explain_app
+unfolding program alone_app check_app size_app paths_app run_app inputs_app trace_app explain_app compare_app
 simple_and_free = refl
 
 pub network_simple : is_simple network_program ≡ true
@@ -99,6 +100,7 @@ module _ (name : Text) (rows : List Row) where
     go (request.Survey inputs) h = other (codes "alone") (codes "survey") (λ bad. omega (arith, bad)) named h.0
     go (request.Trace paths options) h = other (codes "alone") (codes "trace") (λ bad. omega (arith, bad)) named h.0
     go (request.Explain entry) h = other (codes "alone") (codes "explain") (λ bad. omega (arith, bad)) named h.0
+    go (request.Compare compare recordings) h = other (codes "alone") (codes "compare") (λ bad. omega (arith, bad)) named h.0
     go (request.Network r) h = h
 
   pub no_entry : name ≡ codes "explain" → ((entry : List ℕ) → HasEntry rows entry → ⊥) → (r : Request) → AsksFor (Some (name, rows)) r → ⊥
@@ -112,6 +114,24 @@ module _ (name : Text) (rows : List Row) where
     go (request.Measure inputs) h = other (codes "explain") (codes "measure") (λ bad. omega (arith, bad)) named h.0
     go (request.Survey inputs) h = other (codes "explain") (codes "survey") (λ bad. omega (arith, bad)) named h.0
     go (request.Trace paths options) h = other (codes "explain") (codes "trace") (λ bad. omega (arith, bad)) named h.0
+    go (request.Compare compare recordings) h = other (codes "explain") (codes "compare") (λ bad. omega (arith, bad)) named h.0
+    go (request.Network r) h = h
+
+  other_at : (k : ℕ) (a b : Text) → (get_or a k 0 ≡ get_or b k 0 → ⊥) → name ≡ a → name ≡ b → ⊥
+  other_at k a b differ is_a is_b = differ (ap (λ (t : Text). get_or t k 0) (sym is_a ∙ is_b))
+
+  pub no_recordings : name ≡ codes "compare" → ((recordings : Recordings) → HasRecordings rows recordings → ⊥) → (r : Request) → AsksFor (Some (name, rows)) r → ⊥
+  no_recordings named none = go where
+    go : (r : Request) → AsksFor (Some (name, rows)) r → ⊥
+    go (request.Compare compare recordings) h = none recordings h.2
+    go (request.Alone link) h = other (codes "compare") (codes "alone") (λ bad. omega (arith, bad)) named h.0
+    go (request.Check table) h = other_at 1 (codes "compare") (codes "check") (λ bad. omega (arith, bad)) named h.0
+    go (request.Size table) h = other (codes "compare") (codes "size") (λ bad. omega (arith, bad)) named h.0
+    go (request.Run paths options) h = other (codes "compare") (codes "run") (λ bad. omega (arith, bad)) named h.0
+    go (request.Measure inputs) h = other (codes "compare") (codes "measure") (λ bad. omega (arith, bad)) named h.0
+    go (request.Survey inputs) h = other (codes "compare") (codes "survey") (λ bad. omega (arith, bad)) named h.0
+    go (request.Trace paths options) h = other (codes "compare") (codes "trace") (λ bad. omega (arith, bad)) named h.0
+    go (request.Explain entry) h = other (codes "compare") (codes "explain") (λ bad. omega (arith, bad)) named h.0
     go (request.Network r) h = h
 
 -- an error of `clap`
@@ -152,6 +172,7 @@ none_of_networks arguments none (request.Measure inputs) h = h
 none_of_networks arguments none (request.Survey inputs) h = h
 none_of_networks arguments none (request.Trace paths options) h = h
 none_of_networks arguments none (request.Explain entry) h = h
+none_of_networks arguments none (request.Compare compare recordings) h = h
 
 -- an error that a call returned
 pub reads_error : (arguments : List Text) (r : Result Request NoRequest) (n : NoRequest) → IsErr r × IsErrAnd r (λ x. x ≡ n) → Reads arguments (Err n) → Reads arguments r

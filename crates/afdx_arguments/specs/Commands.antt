@@ -17,8 +17,16 @@ abbrev pub flag_rule : Text → Rule
 flag_rule name = record (new_rule name) { long = Some name; action = Some SetTrue }
 
 -- an option with a text
-abbrev pub list_rule : Text → Rule
-list_rule name = record (new_rule name) { long = Some name; value_names = 1 }
+abbrev pub text_rule : Text → Rule
+text_rule name = record (new_rule name) { long = Some name; value_names = 1 }
+
+-- an option with a whole number
+abbrev pub optional_rule : Text → Rule
+optional_rule name = record (text_rule name) { parser = Some (Unsigned 0 18446744073709551615) }
+
+-- a command with the arguments TABLE IN OUT
+abbrev pub files_app : Text → App
+files_app name = with_rule (with_rule (with_rule (new_app name) (path_rule (codes "TABLE"))) (path_rule (codes "IN"))) (path_rule (codes "OUT"))
 
 -- an option with the number of a link, which may be there more than once
 abbrev pub links_rule : Text → Rule
@@ -40,13 +48,11 @@ size_app = with_rule (new_app (codes "size")) (path_rule (codes "TABLE"))
 
 -- a command with TABLE IN OUT [--unchecked], to which run and trace add their own
 unfoldable pub paths_app : Text → App
-paths_app name =
-    with_rule (with_rule (with_rule (with_rule (new_app name) (path_rule (codes "TABLE"))) (path_rule (codes "IN"))) (path_rule (codes "OUT")))
-    (flag_rule (codes "unchecked"))
+paths_app name = with_rule (files_app name) (flag_rule (codes "unchecked"))
 
 -- afdx run TABLE IN OUT [--unchecked] [--verdict] [--fail-on WORDS]
 unfoldable pub run_app : App
-run_app = with_rule (with_rule (paths_app (codes "run")) (flag_rule (codes "verdict"))) (list_rule (codes "fail-on"))
+run_app = with_rule (with_rule (paths_app (codes "run")) (flag_rule (codes "verdict"))) (text_rule (codes "fail-on"))
 
 -- afdx trace TABLE IN OUT [--unchecked] [--link N].. [--relative]
 unfoldable pub trace_app : App
@@ -60,6 +66,20 @@ inputs_app name =
 -- afdx explain CODE
 unfoldable pub explain_app : App
 explain_app = with_rule (new_app (codes "explain")) (path_rule (codes "CODE"))
+
+-- .. [--least-latency US] [--tolerance NS] [--stamps end|free] [--offset PORT=NS]
+abbrev pub with_stamps : App → App
+with_stamps app =
+    with_rule (with_rule (with_rule (with_rule app (optional_rule (codes "least-latency"))) (optional_rule (codes "tolerance"))) (text_rule (codes "stamps")))
+    (text_rule (codes "offset"))
+
+-- .. [--rest] [--from STAMP] [--until STAMP]
+abbrev pub with_span : App → App
+with_span app = with_rule (with_rule (with_rule app (flag_rule (codes "rest"))) (optional_rule (codes "from"))) (optional_rule (codes "until"))
+
+-- afdx compare TABLE IN OUT with these, and [--ports PORT] [--rows FOLDER]
+unfoldable pub compare_app : App
+compare_app = with_rule (with_rule (with_span (with_stamps (files_app (codes "compare")))) (text_rule (codes "ports"))) (text_rule (codes "rows"))
 
 -- afdx network, whose own arguments are read by the program below
 abbrev pub network_app : App
@@ -76,11 +96,13 @@ program =
     (with_subcommand
     (with_subcommand
     (with_subcommand
+    (with_subcommand
     (with_subcommand (with_subcommand (with_subcommand (with_subcommand bare_program alone_app.top) check_app.top) size_app.top) run_app.top)
     (inputs_app (codes "measure")).top)
     (inputs_app (codes "survey")).top)
     trace_app.top)
     explain_app.top)
+    compare_app.top)
     network_app.top
 
 -- ---- networks

@@ -1,5 +1,6 @@
 -- What the arguments ask for.
-use Rattle.std.specs.Prelude.{◌≡◌, ◌≢◌, ◌⊎◌, ℕ, Bool, codes, List, [], drop, slice_get, unwrap_or, Option, Some, None, Result, Ok, Err, true, false}
+use Rattle.std.specs.Prelude.{◌≡◌, ◌≢◌, ◌⊎◌, ◌*◌, ◌≤◌, ℕ, Bool, codes, List, [], drop, slice_get, unwrap_or, Option, Some, None, Result, Ok, Err, true, false}
+use Rattle.std.specs.Prelude.{IfSome, MatchOption, option_map}
 use Rattle.std.specs.List.{AllZip}
 use Rattle.std.specs.Option.{option_map_or}
 use Rattle.std.specs.Str.{bytes_eq}
@@ -12,6 +13,7 @@ use Rattle.afdx_arguments.specs.declared.request.Paths.{Paths}
 use Rattle.afdx_arguments.specs.declared.request.RunOptions.{RunOptions}
 use Rattle.afdx_arguments.specs.declared.request.TraceOptions.{TraceOptions}
 use Rattle.afdx_arguments.specs.declared.request.Inputs.{Inputs}
+use Rattle.afdx_arguments.specs.declared.request.Compare.{Compare}
 use Rattle.afdx_arguments.specs.declared.request.NetworkPaths.{NetworkPaths}
 use Rattle.afdx_arguments.specs.declared.request.NetworkRequest.{NetworkRequest}
 use Rattle.afdx_arguments.specs.declared.request.NetworkRequest.TheVariants as network
@@ -20,6 +22,13 @@ use Rattle.afdx_arguments.specs.declared.request.Request.TheVariants as request
 use Rattle.afdx_arguments.specs.declared.request.NoRequest.{NoRequest}
 use Rattle.afdx_arguments.specs.declared.request.NoRequest.TheVariants.{Help, Usage, Memory}
 use Rattle.afdx_alone.specs.Link.{HasNumbers}
+use Rattle.afdx_recordings.specs.declared.offsets.Offsets.{Offsets}
+use Rattle.afdx_recordings.specs.declared.outputs.Outputs.{Outputs}
+use Rattle.afdx_recordings.specs.declared.recordings.Recordings.{Recordings}
+use Rattle.afdx_recordings.specs.declared.stamps.Stamps.{Stamps}
+use Rattle.afdx_recordings.specs.declared.stamps.Stamps.TheVariants.{End, Free}
+use Rattle.afdx_recordings.specs.Recordings.{AreOffsetsOf, AreOutputsOf, all_outputs, no_offsets}
+use Rattle.afdx_units.specs.Time.{IsInstant}
 use Rattle.afdx_arguments.specs.FailOn.{Chooses}
 use Rattle.afdx_arguments.specs.Commands.{program, network_program}
 use Rattle.afdx_arguments.specs.Explaining.{HasEntry}
@@ -74,6 +83,66 @@ pub record HasTraceOptions (rows : List Row) (options : TraceOptions) : Type 0 w
   pub links : AreLinks (unwrap_or (all_of (codes "link") rows) []) options.links.items
   pub relative : options.relative ≡ is_set (codes "relative") rows
 
+-- ---- recordings
+
+-- the entry of an option that may be left out is this number, if it is there
+abbrev pub HasOptional : Text → List Row → Option ℕ → Type 0
+HasOptional name rows n = MatchOption n ((m : ℕ) → HasNumber name rows m → ⊥) (HasNumber name rows)
+
+-- the number of such an option, of which this is the greatest; 0 where it is left out
+pub record HasUpTo (name : Text) (most : ℕ) (rows : List Row) (n : ℕ) : Type 0 where
+  pub entry : Option ℕ
+  pub has_entry : HasOptional name rows entry
+  pub is : n ≡ unwrap_or entry 0
+  pub limit : n ≤ most
+
+-- the instant of such an option, if it is there
+pub record HasInstant (name : Text) (rows : List Row) (instant : Option ℕ) : Type 0 where
+  pub entry : HasOptional name rows instant
+  pub limit : IfSome instant IsInstant
+
+-- the ends of last bits where nothing is said of stamps
+abbrev pub ChoosesStamps : Option Text → Stamps → Type 0
+ChoosesStamps None stamps = stamps ≡ End
+ChoosesStamps (Some text) End = text ≡ codes "end"
+ChoosesStamps (Some text) Free = text ≡ codes "free"
+
+-- no offset where nothing is said of them
+abbrev pub ChoosesOffsets : Option Text → Offsets → Type 0
+ChoosesOffsets None offsets = offsets ≡ no_offsets
+ChoosesOffsets (Some text) offsets = AreOffsetsOf text offsets
+
+-- all ports where none is named
+abbrev pub ChoosesOutputs : Option Text → Outputs → Type 0
+ChoosesOutputs None outputs = outputs ≡ all_outputs
+ChoosesOutputs (Some text) outputs = AreOutputsOf text outputs
+
+-- the entries say what is known of the recordings, which begin at rest or at an instant, not both; the least latency is given in µs
+pub record HasRecordings (rows : List Row) (recordings : Recordings) : Type 0 where
+  pub us : ℕ
+  pub has_us : HasUpTo (codes "least-latency") 100 rows us
+  pub least : recordings.least ≡ us * 1000
+  pub tolerance : HasUpTo (codes "tolerance") 1000000000 rows recordings.tolerance
+  pub stamps : ChoosesStamps (first_of (codes "stamps") rows) recordings.stamps
+  pub rest : recordings.rest ≡ is_set (codes "rest") rows
+  pub from : HasInstant (codes "from") rows recordings.from
+  pub until : HasInstant (codes "until") rows recordings.until
+  pub offsets : ChoosesOffsets (first_of (codes "offset") rows) recordings.offsets
+  pub outputs : ChoosesOutputs (first_of (codes "ports") rows) recordings.outputs
+  pub one_start : recordings.rest ≡ true → recordings.from ≡ None
+
+-- the entries name the files of recordings; profile: an empty argument names no folder
+pub record HasCompare (rows : List Row) (compare : Compare) : Type 0 where
+  pub table : first_of (codes "TABLE") rows ≡ Some compare.table.now
+  pub input : first_of (codes "IN") rows ≡ Some compare.input.now
+  pub output : first_of (codes "OUT") rows ≡ Some compare.output.now
+  pub has_input : compare.input.now ≢ []
+  pub has_output : compare.output.now ≢ []
+  pub folder : first_of (codes "rows") rows ≡ option_map (λ w. w.now) compare.rows
+  pub has_folder : first_of (codes "rows") rows ≢ Some []
+
+-- ---- subcommands
+
 -- the entries name the files of a network's run, and whether it is unchecked
 pub record HasNetworkPaths (rows : List Row) (paths : NetworkPaths) : Type 0 where
   pub network : first_of (codes "NET") rows ≡ Some paths.network.now
@@ -102,6 +171,7 @@ AsksFor (Some (name, rows)) (request.Measure inputs) = (name ≡ codes "measure"
 AsksFor (Some (name, rows)) (request.Survey inputs) = (name ≡ codes "survey") × HasInputs rows inputs
 AsksFor (Some (name, rows)) (request.Trace paths options) = (name ≡ codes "trace") × HasPaths rows paths × HasTraceOptions rows options
 AsksFor (Some (name, rows)) (request.Explain entry) = (name ≡ codes "explain") × HasEntry rows entry.now
+AsksFor (Some (name, rows)) (request.Compare compare recordings) = (name ≡ codes "compare") × HasCompare rows compare × HasRecordings rows recordings
 AsksFor (Some (name, rows)) (request.Network r) = ⊥
 
 -- ---- the two programs

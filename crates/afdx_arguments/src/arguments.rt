@@ -13,6 +13,7 @@ ghost use Rattle.afdx_arguments.specs.Requests.{HasNumber, is_set, HasLink, HasP
 ghost use Rattle.afdx_arguments.specs.Requests.{HasMatches, HasNoMatches, is_network};
 
 use crate::command::program;
+use crate::compare_arguments::{compare_of, recordings_of};
 use crate::explaining::entry_asked;
 use crate::fail_on::FailOn;
 use crate::network_arguments::network_asked;
@@ -24,7 +25,7 @@ use clap::{ArgMatches, Command, Error};
 use std::alloc::{AllocError, Global};
 
 /// The number of an option.
-fn number(matches: &ArgMatches<'_>, name: &str) -> Option<u64>
+pub(crate) fn number(matches: &ArgMatches<'_>, name: &str) -> Option<u64>
     ensures { MatchOption result ((n : ℕ) → HasNumber name.now (rows_of (found_of matches.now)) n → ⊥)
         (HasNumber name.now (rows_of (found_of matches.now))) }
 {
@@ -189,6 +190,10 @@ fn run_asked<'a>(name: &str, inner: &ArgMatches<'a>) -> Option<Request<'a>>
     } else if name == "explain" {
         let entry = entry_asked(inner)?;
         Some(Request::Explain(entry))
+    } else if name == "compare" {
+        let compare = compare_of(inner)?;
+        let recordings = recordings_of(inner)?;
+        Some(Request::Compare(compare, recordings))
     } else {
         None
     }

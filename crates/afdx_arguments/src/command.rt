@@ -3,9 +3,10 @@
 ghost use Rattle.std.specs.Prelude.{◌≡◌, codes, false, IfOk};
 ghost use Rattle.clap.specs.Words.{App, app_of, new_app, rule_of, with_rule, with_subcommand};
 ghost use Rattle.clap.specs.declared.builder.command.Command.TheViews.{out-Command};
-ghost use Rattle.afdx_arguments.specs.Commands.{number_rule, path_rule, flag_rule, list_rule, links_rule, alone_app, check_app, size_app, paths_app, run_app, inputs_app, trace_app};
-ghost use Rattle.afdx_arguments.specs.Commands.{network_app, bare_program, program};
+ghost use Rattle.afdx_arguments.specs.Commands.{number_rule, path_rule, flag_rule, text_rule, links_rule, alone_app, check_app, size_app, files_app, paths_app, run_app, inputs_app, trace_app};
+ghost use Rattle.afdx_arguments.specs.Commands.{compare_app, network_app, bare_program, program};
 
+use crate::compare_command::compare;
 use crate::explaining::explain;
 use clap::builder::ValueParser;
 use clap::{Arg, ArgAction, Command};
@@ -32,6 +33,7 @@ pub(crate) fn path<'a>(alloc: Global, name: &'a str, about: &'a str) -> Arg<'a>
     Arg::new(alloc, name).help(about).required(true)
 }
 
+/// A flag.
 pub(crate) fn flag<'a>(alloc: Global, name: &'a str, about: &'a str) -> Arg<'a>
     ensures rule { rule_of result ≡ flag_rule name.entry.now }
     ensures local { result.global ≡ false }
@@ -43,8 +45,13 @@ pub(crate) fn flag<'a>(alloc: Global, name: &'a str, about: &'a str) -> Arg<'a>
 }
 
 /// An option with a text.
-fn list_option<'a>(alloc: Global, name: &'a str, value: &'a str, about: &'a str) -> Arg<'a>
-    ensures rule { rule_of result ≡ list_rule name.entry.now }
+pub(crate) fn text_option<'a>(
+    alloc: Global,
+    name: &'a str,
+    value: &'a str,
+    about: &'a str,
+) -> Arg<'a>
+    ensures rule { rule_of result ≡ text_rule name.entry.now }
     ensures local { result.global ≡ false }
 {
     Arg::new(alloc, name)
@@ -240,6 +247,24 @@ fn size<'a>(alloc: Global) -> Result<Command<'a>, AllocError>
     ))
 }
 
+/// A command that goes by a table and by files that come in, with what its help says of it, at its end and of OUT.
+pub(crate) fn with_files<'a>(
+    alloc: Global,
+    name: &'a str,
+    about: &'a str,
+    more: &'a str,
+    output: &'a str,
+) -> Result<Command<'a>, AllocError>
+    ensures app { IfOk result (λ c. app_of c ≡ files_app name.entry.now) }
+    ensures local { IfOk result (λ c. (out-Command c).has_globals ≡ false) }
+{
+    let table = path(alloc, "TABLE", "The configuration table");
+    let input = path(alloc, "IN", "The folder of port-1.pcap and so on");
+    let output = path(alloc, "OUT", output);
+    let command = with_no_arguments(alloc, name, about, more).arg(table);
+    with_argument(with_argument(command, input), output)
+}
+
 /// A command that goes by the files of a run, with what its help says of it, at its end and of OUT.
 fn with_paths<'a>(
     alloc: Global,
@@ -251,15 +276,8 @@ fn with_paths<'a>(
     ensures app { IfOk result (λ c. app_of c ≡ paths_app name.entry.now) }
     ensures local { IfOk result (λ c. (out-Command c).has_globals ≡ false) }
 {
-    let table = path(alloc, "TABLE", "The configuration table");
-    let input = path(alloc, "IN", "The folder of port-1.pcap and so on");
-    let output = path(alloc, "OUT", output);
     let unchecked = flag(alloc, "unchecked", "Runs a table whatever its load");
-    let command = with_no_arguments(alloc, name, about, more).arg(table);
-    with_argument(
-        with_argument(with_argument(command, input), output),
-        unchecked,
-    )
+    with_argument(with_files(alloc, name, about, more, output), unchecked)
 }
 
 fn run<'a>(alloc: Global) -> Result<Command<'a>, AllocError>
@@ -271,7 +289,7 @@ fn run<'a>(alloc: Global) -> Result<Command<'a>, AllocError>
     let sums = "Adds a last line to the report that sums it up";
     let verdict = flag(alloc, "verdict", sums);
     let fails = "Ends with status 1 if there was one of WORDS";
-    let fail_on = list_option(alloc, "fail-on", "WORDS", fails);
+    let fail_on = text_option(alloc, "fail-on", "WORDS", fails);
     let command = with_paths(alloc, "run", about, RUN, output);
     with_argument(with_argument(command, verdict), fail_on)
 }
@@ -380,5 +398,6 @@ pub(crate) fn program<'a>(alloc: Global, version: &'a str) -> Result<Command<'a>
     let runs = with_run(alloc, checks)?;
     let rows = with_rows(alloc, runs)?;
     let all = with_command(rows, explain(alloc))?;
-    all.subcommand(network(alloc))
+    let compares = with_command(all, compare(alloc))?;
+    compares.subcommand(network(alloc))
 }

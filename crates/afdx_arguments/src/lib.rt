@@ -3,6 +3,8 @@
 
 mod arguments;
 mod command;
+mod compare_arguments;
+mod compare_command;
 mod explaining;
 mod fail_on;
 mod network_arguments;
@@ -13,5 +15,6 @@ pub use arguments::parse;
 pub use explaining::{is_explained, plain_of};
 pub use fail_on::FailOn;
 pub use request::{
-    Inputs, NetworkPaths, NetworkRequest, NoRequest, Paths, Request, RunOptions, TraceOptions,
+    Compare, Inputs, NetworkPaths, NetworkRequest, NoRequest, Paths, Request, RunOptions,
+    TraceOptions,
 };

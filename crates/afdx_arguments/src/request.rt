@@ -2,6 +2,7 @@
 
 use crate::fail_on::FailOn;
 use afdx_alone::Alone;
+use afdx_recordings::Recordings;
 
 /// The files of a run, as they were written.
 #[derive(Clone, Copy, Debug, PartialEq, Eq)]
@@ -71,6 +72,19 @@ pub enum NetworkRequest<'a> {
     Run(NetworkPaths<'a>),
 }
 
+/// The files of recordings of a switch, as they were written.
+#[derive(Clone, Copy, Debug, PartialEq, Eq)]
+pub struct Compare<'a> {
+    /// The file of the configuration table.
+    pub table: &'a str,
+    /// The folder of the captures that came in.
+    pub input: &'a str,
+    /// The folder of what was recorded at the output ports.
+    pub output: &'a str,
+    /// The folder into which each difference is put, if any.
+    pub rows: Option<&'a str>,
+}
+
 /// A command with what it goes by.
 #[derive(Debug, Drop)]
 pub enum Request<'a> {
@@ -90,6 +104,8 @@ pub enum Request<'a> {
     Trace(Paths<'a>, TraceOptions),
     /// What MESSAGES says of a code, which is this text.
     Explain(&'static str),
+    /// What was recorded of a switch beside what is proved of this one.
+    Compare(Compare<'a>, Recordings),
     /// A command of networks.
     Network(NetworkRequest<'a>),
 }

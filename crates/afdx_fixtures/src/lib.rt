@@ -9,4 +9,6 @@ mod one_frame;
 
 pub use commands::{Said, Served, VERSION, answer_over, answers, folder_of, split};
 pub use memory_folder::{MemoryFolder, OpenedFile};
-pub use one_frame::{Broken, CHECKED, LINK_10, OneFrame, REPORT, RUN, captured};
+pub use one_frame::{
+    Broken, CHECKED, COMPARE, CONFORMS, LINK_10, NO_DIFFERENCES, OneFrame, REPORT, RUN, captured,
+};

@@ -33,6 +33,23 @@ pub const CHECKED: &str = "afdx run t in out";
 /// A run of a table whatever its load.
 pub const RUN: &str = "afdx run t in out --unchecked";
 
+/// The comparison of recordings that were made from a switch at rest, whose stamps are when the line was free.
+pub const COMPARE: &str = "afdx compare t in out --stamps free --rest --rows found";
+
+/// What it prints of the recordings of one frame.
+pub const CONFORMS: &str = "span 0 to 6720
+link 10 out 2 passed 1 seen 1 missing 0 extra 0 early 0 late 0 before 0 after 0 unsure 0 least 6720 greatest 6720 bound 159390
+out 1 seen 0 foreign 0
+out 2 seen 1 foreign 0
+conforms
+";
+
+/// The file of differences that it puts then.
+pub const NO_DIFFERENCES: (&str, &[u8]) = (
+    "found/differences.csv",
+    b"port,link,kind,record_in,stamp_in,record_out,stamp_out,delay,bound\n",
+);
+
 /// The run of one frame of 64 bytes at port 1: the table, and the captures that come in and go out where there are frames.
 #[derive(Drop)]
 pub struct OneFrame {
@@ -77,6 +94,22 @@ impl OneFrame {
         folder.add("t", self.table.as_bytes())?;
         folder.add("in/port-1.pcap", &self.came)?;
         folder.add("in/port-2.pcap", &HEADER)
+    }
+
+    /// Adds what is there and what is put: recordings of the switch.
+    pub fn add_recordings_to<A: Allocator + Copy>(
+        &self,
+        folder: &mut MemoryFolder<A>,
+    ) -> Result<(), AllocError> {
+        self.add_to(folder)?;
+        folder.add("out/port-1.pcap", &HEADER)?;
+        folder.add("out/port-2.pcap", &self.sent)
+    }
+
+    /// The recordings, and this file of differences.
+    pub fn compared<'a>(&'a self, differences: (&'a str, &'a [u8])) -> [(&'a str, &'a [u8]); 6] {
+        let [table, first, second, third, fourth] = self.files();
+        [table, first, second, third, fourth, differences]
     }
 
     /// What is there. The call of number `failing` fails so.

@@ -1,5 +1,5 @@
 -- What counts of recordings that begin and end somewhere (profile).
-use Rattle.std.specs.Prelude.{ℕ, ◌+◌, ◌*◌, ◌-◌, nat_le, Bool, true, ◌&&◌, Option, Some, None}
+use Rattle.std.specs.Prelude.{ℕ, ◌+◌, ◌*◌, ◌-◌, min, nat_le, Bool, true, ◌&&◌, Option, Some, None}
 use Rattle.std.specs.Option.{option_map}
 use Rattle.afdx_units.specs.declared.line.Speed.{Speed}
 use Rattle.afdx_pairing.specs.declared.limits.Limits.{Limits}
@@ -41,10 +41,18 @@ limits_of w bound speed = record {
   before = before_of w.start w.tolerance bound;
 }
 
--- the instant from which on nothing is known of accounts, where they were not full
-abbrev pub unknown_since : Start → Option ℕ
-unknown_since Rest = None
-unknown_since (Cut from) = Some from
+-- the last instant that pcap can hold
+abbrev pub last_instant : ℕ
+last_instant = 4294967295999999999
+
+-- the instant from which on nothing is known of accounts, where they were not full: the one from which on frames count, since frames that
+-- do not count may have taken of an account up to then
+abbrev pub unknown_from : ℕ → Start → Option ℕ
+unknown_from tolerance Rest = None
+unknown_from tolerance (Cut from) = Some (min (from + tolerance) last_instant)
+
+abbrev pub unknown_since : Watch → Option ℕ
+unknown_since w = unknown_from w.tolerance w.start
 
 -- the instant up to which records count, where not all had left
 abbrev pub last_record : Watch → Option ℕ

@@ -6,6 +6,9 @@ ghost use Rattle.afdx_following.specs.Watch.{has_frame, has_record, limits_of, u
 use afdx_pairing::Limits;
 use afdx_units::{Speed, Stamp};
 
+/// The last instant, in nanoseconds, that a stamp can be.
+const LAST: u64 = 4_294_967_295_999_999_999;
+
 /// Where the recordings begin.
 #[derive(Clone, Copy, Debug, PartialEq, Eq)]
 pub enum Start {
@@ -77,13 +80,17 @@ impl Watch {
         }
     }
 
-    /// The instant from which on nothing is known of accounts; none where they were full.
+    /// The instant from which on nothing is known of accounts, which is that from which on frames count; none where they were full.
     pub fn unknown_since(&self) -> Option<Stamp>
-        ensures { result ≡ unknown_since self.now.start }
+        ensures { result ≡ unknown_since self.now }
     {
-        match self.start {
-            Start::Rest => None,
-            Start::Cut(from) => Some(from),
+        let Start::Cut(from) = self.start else {
+            return None;
+        };
+        let since = u128::from(from.ns()) + u128::from(self.tolerance);
+        match Stamp::from_ns(since.min(u128::from(LAST)) as u64) {
+            Some(since) => Some(since),
+            None => unreachable!(),
         }
     }
 

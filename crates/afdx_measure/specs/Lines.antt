@@ -1,21 +1,9 @@
--- What is reported of a run as text (profile): lines that end with a line feed, numbers in decimal, `-` where there is none.
-use Rattle.std.specs.Prelude.{ℕ, codes, decimal, List, [], ◌∷◌, ◌++◌, flat_map, Option, Some, None}
+-- What is reported of a run as text (profile).
+use Rattle.std.specs.Prelude.{ℕ, codes, List, [], ◌∷◌, Option, Some}
 use Rattle.std.specs.Option.{option_map, option_map_or}
+use Rattle.afdx_lines.specs.Lines.{line}
 use Rattle.afdx_measure.specs.declared.delays.Delays.{Delays}
 use Rattle.afdx_measure.specs.declared.filling.Filling.{Filling}
-
--- a number, if there is one
-abbrev pub number : Option ℕ → List ℕ
-number None = codes "-"
-number (Some n) = decimal n
-
--- a word and its number
-abbrev pub part : List ℕ × Option ℕ → List ℕ
-part p = p.0 ++ number p.1
-
--- words with their numbers, and a line feed
-abbrev pub line : List (List ℕ × Option ℕ) → List ℕ
-line parts = flat_map part parts ++ codes "\n"
 
 -- the delays of a link's copies at a port, in nanoseconds, beside the port's bound for the link's priority
 abbrev pub link_line : ℕ → ℕ → Delays → Option ℕ → List ℕ

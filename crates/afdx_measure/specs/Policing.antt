@@ -13,7 +13,7 @@ use Rattle.afdx_spells.specs.declared.spell.Excess.{Excess}
 use Rattle.afdx_spells.specs.declared.spell.Spell.{Spell}
 use Rattle.afdx_spells.specs.Spells.{spells_of}
 use Rattle.afdx_spells.specs.Lines.{spell_line}
-use Rattle.afdx_measure.specs.Lines.{line}
+use Rattle.afdx_lines.specs.Lines.{line}
 use Rattle.afdx_measure.specs.Report.{report_of}
 
 -- by how many ns a link's frame came too early for those that were passed

@@ -1,49 +1,12 @@
 //! What is reported of a run, as text.
 
-ghost use Rattle.std.specs.Prelude.{◌≡◌, ◌++◌, map, string_bytes, OnOk};
-ghost use Rattle.afdx_measure.specs.Lines.{number, part, line, link_line, peak_line};
+ghost use Rattle.std.specs.Prelude.{◌≡◌, ◌++◌, string_bytes, OnOk};
+ghost use Rattle.afdx_measure.specs.Lines.{link_line, peak_line};
 
 use crate::delays::Delays;
 use crate::filling::Filling;
+use afdx_lines::put_line;
 use std::alloc::{AllocError, Allocator};
-
-/// A number, or `-` where there is none.
-fn put_number<A: Allocator + Copy>(
-    text: &mut String<A>,
-    reported: Option<u128>,
-) -> Result<(), AllocError>
-    ensures { OnOk result (string_bytes text.new ≡ string_bytes text.old ++ number reported) }
-{
-    match reported {
-        Some(number) => write!(text, "{number}"),
-        None => text.push_str("-"),
-    }
-}
-
-/// A word and its number.
-fn put_part<A: Allocator + Copy>(
-    text: &mut String<A>,
-    word: &str,
-    number: Option<u128>,
-) -> Result<(), AllocError>
-    ensures { OnOk result (string_bytes text.new ≡ string_bytes text.old ++ part (word.now, number)) }
-{
-    text.push_str(word)?;
-    put_number(text, number)
-}
-
-/// Words with their numbers, and a line feed.
-fn put_line<A: Allocator + Copy>(
-    text: &mut String<A>,
-    parts: &[(&str, Option<u128>)],
-) -> Result<(), AllocError>
-    ensures { OnOk result (string_bytes text.new ≡ string_bytes text.old ++ line (map (λ p. (p.0.now, p.1)) parts.now)) }
-{
-    for (word, number) in parts {
-        put_part(text, word, *number)?;
-    }
-    text.push_str("\n")
-}
 
 /// Appends the line of a link at a port, whose bound for the link's priority is this, where one is promised.
 ///

@@ -1,12 +1,15 @@
 -- The first of the records that are at hand.
-use Rattle.std.proofs.Common.{◌≡◌, ℕ, zero, suc, ◌+◌, ◌<◌, ◌≤◌, nat_lt, Bool, true, false, cond, List, [], ◌∷◌, length, get_or, drop, slice_get, Option, Some, None}
+use Rattle.std.proofs.Common.{◌≡◌, ℕ, zero, suc, ◌+◌, ◌<◌, ◌≤◌, nat_lt, Bool, true, false, cond, List, [], ◌∷◌, length, get_or, drop, set, slice_get, Option, Some, None}
 use Rattle.std.proofs.Common.{inl, inr, refl, ap, sym, ◌∙◌, arith, subst}
+use Rattle.std.specs.Option.{option_map}
 use Rattle.std.proofs.Math.Numerals.{suc-eq-add-one}
 use Rattle.std.proofs.Math.Seq.{drop-cons}
 use Rattle.std.proofs.lemmas.Bool.{cases_lt, lt-ltb, ltb-true}
 use Rattle.std.proofs.lemmas.Option.{same_Some}
 use Rattle.afdx_earliest.specs.Instants.{instant_at, IsFirstIn}
+use Rattle.afdx_pairing.specs.Events.{Numbered}
 use Rattle.afdx_merging.specs.declared.lane.Lane.{Lane}
+use Rattle.afdx_merging.specs.Merge.{due_at}
 use Rattle.afdx_merging.specs.Inner.Merging.{due_of, dues_of, sooner, lesser, least_of, stamp_of}
 
 -- the instant at the place of a lane
@@ -117,3 +120,43 @@ least_more {Z} lanes k l old new lt is same was =
 
 pub least_all : {Z : Type 0} (lanes : List (Lane Z)) (k : ℕ) (least : Option ℕ) → length lanes ≤ k → lesser least (least_of (drop k lanes)) ≡ least_of lanes → least ≡ least_of lanes
 least_all {Z} lanes k least le was = sym (lesser_none least) ∙ ap (λ (ls : List (Lane Z)). lesser least (least_of ls)) (sym (none_left lanes k le)) ∙ was
+
+-- ---- the least, where the next record is taken
+
+lesser_swaps : (a b c : Option ℕ) → lesser a (lesser b c) ≡ lesser b (lesser a c)
+lesser_swaps None b c = refl
+lesser_swaps (Some a) None None = refl
+lesser_swaps (Some a) None (Some c) = refl
+lesser_swaps (Some a) (Some b) None = ap Some (omega arith)
+lesser_swaps (Some a) (Some b) (Some c) = ap Some (omega arith)
+
+-- with what is no less it stays
+lesser_stays : (a : ℕ) (b c : Option ℕ) → ((n : ℕ) → b ≡ Some n → a ≤ n) → lesser (Some a) (lesser b c) ≡ lesser (Some a) c
+lesser_stays a None c le = refl
+lesser_stays a (Some b) None le = let it = le b refl in ap Some (omega (arith, it))
+lesser_stays a (Some b) (Some c) le = let it = le b refl in ap Some (omega (arith, it))
+
+-- a lane's next record is taken, and what is then at hand is no sooner
+pub least_taken : {Z : Type 0} (lanes : List (Lane Z)) (k : ℕ) (was now : Lane Z) (a : ℕ) → slice_get lanes k ≡ Some was → stamp_of was ≡ Some a → ((n : ℕ) → stamp_of now ≡ Some n → a ≤ n)
+    → lesser (Some a) (least_of (set lanes k now)) ≡ least_of lanes
+least_taken [] k was now a at is le = absurd cc
+least_taken {Z} (x ∷ lanes) zero was now a at is le =
+    lesser_stays a (stamp_of now) (least_of lanes) le
+    ∙ ap (λ (o : Option ℕ). lesser o (least_of lanes)) (sym is)
+    ∙ ap (λ (l : Lane Z). lesser (stamp_of l) (least_of lanes)) (sym (same_Some x was at))
+least_taken (x ∷ lanes) (suc k) was now a at is le =
+    lesser_swaps (Some a) (stamp_of x) (least_of (set lanes k now))
+    ∙ ap (λ (o : Option ℕ). lesser (stamp_of x) o) (least_taken lanes k was now a at is le)
+
+no_stamp : {Z : Type 0} (l : Lane Z) → due_of l ≡ None → stamp_of l ≡ None
+no_stamp {Z} l none = by l.head none where
+  by : (o : Option Numbered) → option_map (λ (n : Numbered). due_at l.clock n.frame.stamp) o ≡ None → option_map (λ (n : Numbered). n.frame.stamp) o ≡ None
+  by None is = refl
+  by (Some n) is = absurd cc
+
+-- where none is at hand, there is no least one
+pub least_none : {Z : Type 0} (lanes : List (Lane Z)) → IsFirstIn (dues_of lanes) (length lanes) None → least_of lanes ≡ None
+least_none [] none = refl
+least_none {Z} (l ∷ lanes) none =
+    ap (λ (o : Option ℕ). lesser o (least_of lanes)) (no_stamp l (none 0 (omega arith)))
+    ∙ least_none lanes (λ j lt. none (suc j) (omega (arith, lt)))

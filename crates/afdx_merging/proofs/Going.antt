@@ -1,5 +1,5 @@
 -- A merge goes on by one record.
-use Rattle.std.proofs.Common.{◌≡◌, ◌≢◌, ℕ, ◌+◌, ◌<◌, ◌≤◌, ◌==◌, Bool, cond, List, [], ◌∷◌, ◌++◌, map, length, length-set, set, slice_get, Option, Some, None}
+use Rattle.std.proofs.Common.{◌≡◌, ◌≢◌, ℕ, zero, suc, ◌+◌, ◌<◌, ◌≤◌, ◌==◌, Bool, cond, List, [], ◌∷◌, ◌++◌, map, length, length-set, set, slice_get, Option, Some, None}
 use Rattle.std.proofs.Common.{inl, inr, refl, ap, sym, ◌∙◌, arith, subst, append_assoc}
 use Rattle.std.specs.Prelude.{◌⊎◌, option_to_list}
 use Rattle.std.specs.List.{AllByRecursion}
@@ -18,8 +18,8 @@ use Rattle.afdx_merging.specs.declared.lane.Lane.{Lane}
 use Rattle.afdx_merging.specs.declared.merging.Merging.{Merging}
 use Rattle.afdx_merging.specs.Merge.{due_at, numbered_from, Arrival, arrival_at, at_place, IsBy, AreInOrder, IsAfter}
 use Rattle.afdx_merging.specs.Inner.Lanes.{without_head, IsAtHand, IsReadBy}
-use Rattle.afdx_merging.specs.Inner.Merging.{dues_of, IsLaneOf, HasMerged, HaveNoFault, AreReadBy, HasNoneAt, Takes, IsAdvanced}
-use Rattle.afdx_merging.proofs.Firsts.{instant_of}
+use Rattle.afdx_merging.specs.Inner.Merging.{dues_of, lesser, least_of, IsLaneOf, HasMerged, HaveNoFault, AreReadBy, HasNoneAt, Takes, IsAdvanced}
+use Rattle.afdx_merging.proofs.Firsts.{instant_of, least_taken}
 use Rattle.afdx_merging.proofs.Lists.{all_more, all_weaker, get-set, set_twice, there, back_items}
 use Rattle.afdx_merging.proofs.Rising.{taken_rises}
 use Rattle.afdx_merging.proofs.Stopping.{without}
@@ -290,3 +290,59 @@ merges_on {R} {Z} remaining clocks first now later m came ws vs ps a merged take
     let piece_is = ap length (back_items m.piece ps same) ∙ same in
     goes_on remaining clocks first now later m new came ws a merged takes
     (subst (λ (ls : List (Lane Z)). IsAdvanced remaining now later ws ls a.place) (sym (back_items (with_items m.lanes ws) vs long)) on) (subst (λ n. 0 < n) (sym piece_is) merged.room)
+
+-- ---- the least instant of those at hand
+
+set_there : {X : Type 0} (xs : List X) (k : ℕ) (x y : X) → slice_get xs k ≡ Some x → slice_get (set xs k y) k ≡ Some y
+set_there [] k x y at = absurd cc
+set_there (z ∷ xs) zero x y at = refl
+set_there (z ∷ xs) (suc k) x y at = set_there xs k x y at
+
+last_of : {X : Type 0} (P : X → Type 0) (xs : List X) (x : X) → AllByRecursion P (xs ++ x ∷ []) → P x
+last_of P [] x all = all.0
+last_of P (y ∷ xs) x all = last_of P xs x all.1
+
+stamps_rise : (a : Arrival) (place : ℕ) (c : Clock) (n : Numbered) → a.due ≡ due_at c a.head.frame.stamp → IsBy a (arrival_at place c n) → a.head.frame.stamp ≤ n.frame.stamp
+stamps_rise a place c n due (inl lt) = omega (arith, due, lt)
+stamps_rise a place c n due (inr same) = let equal = same.0 in omega (arith, due, equal)
+
+least_left : {R Z : Type 0} (remaining : R → Option (List ℕ)) (clocks : List Clock) (first now later : List R) (m new : Merging Z) (came : List Arrival) (mid : List (Lane Z)) (a : Arrival)
+    → Takes m.lanes.items mid a → IsAdvanced remaining now later mid new.lanes.items a.place → HasMerged remaining clocks first later new (came ++ a ∷ [])
+    → lesser (Some a.head.frame.stamp) (least_of new.lanes.items) ≡ least_of m.lanes.items
+least_left {R} {Z} remaining clocks first now later m new came mid a takes on merged =
+    ap (λ (ls : List (Lane Z)). lesser (Some a.head.frame.stamp) (least_of ls)) lanes
+    ∙ least_taken m.lanes.items a.place takes.lane on.later a.head.frame.stamp takes.at (ap (λ (o : Option Numbered). option_map (λ (x : Numbered). x.frame.stamp) o) takes.head)
+    (λ n is. by on.later.head refl n is) where
+      lanes : new.lanes.items ≡ set m.lanes.items a.place on.later
+      lanes = on.lanes ∙ ap (λ (ls : List (Lane Z)). set ls a.place on.later) takes.lanes ∙ set_twice m.lanes.items a.place (without_head takes.lane) on.later
+
+      there_now : slice_get new.lanes.items a.place ≡ Some on.later
+      there_now = ap (λ (ls : List (Lane Z)). slice_get ls a.place) lanes ∙ set_there m.lanes.items a.place takes.lane on.later takes.at
+
+      was : on.lane ≡ without_head takes.lane
+      was = elim (get-set m.lanes.items a.place a.place (without_head takes.lane) on.lane (ap (λ (ls : List (Lane Z)). slice_get ls a.place) (sym takes.lanes) ∙ on.at)) [
+        | inl same ↦ same.1
+        | inr other ↦ absurd (other.0 refl)
+      ]
+
+      due : a.due ≡ due_at on.later.clock a.head.frame.stamp
+      due = due_is a m.lanes.items mid takes ∙ ap (λ (c : Clock). due_at c a.head.frame.stamp) (sym (on.clock ∙ ap (λ (l : Lane Z). l.clock) was))
+
+      by : (o : Option Numbered) → on.later.head ≡ o → (n : ℕ) → option_map (λ (x : Numbered). x.frame.stamp) o ≡ Some n → a.head.frame.stamp ≤ n
+      by None head n is = absurd cc
+      by (Some x) head n is =
+          subst (λ (k : ℕ). a.head.frame.stamp ≤ k) (same_Some x.frame.stamp n is)
+          (stamps_rise a a.place on.later.clock x due
+          (last_of (λ b. IsBy b (arrival_at a.place on.later.clock x)) came a (merged.up_to a.place on.later x there_now head)))
+
+pub least_goes : {R Z : Type 0} (remaining : R → Option (List ℕ)) (clocks : List Clock) (first now later : List R) (m : Merging Z) (came : List Arrival) (ws vs : List (Lane Z))
+    (ps : List ℕ) (a : Arrival)
+    → HasMerged remaining clocks first now m came → Takes m.lanes.items ws a → IsAdvanced remaining now later ws vs a.place → length ps ≡ length m.piece.items
+    → lesser (Some a.head.frame.stamp) (least_of (with_items (with_items m.lanes ws) vs).items) ≡ least_of m.lanes.items
+least_goes {R} {Z} remaining clocks first now later m came ws vs ps a merged takes on same =
+    let new : Merging Z = record { lanes = with_items (with_items m.lanes ws) vs; piece = with_items m.piece ps } in
+    let taken = taken_back m.lanes ws a takes in
+    let long : length vs ≡ length (with_items m.lanes ws).items = ap length on.lanes ∙ length-set ws a.place on.later ∙ ap length (sym taken) in
+    least_left remaining clocks first now later m new came ws a takes
+    (subst (λ (ls : List (Lane Z)). IsAdvanced remaining now later ws ls a.place) (sym (back_items (with_items m.lanes ws) vs long)) on)
+    (merges_on remaining clocks first now later m came ws vs ps a merged takes on same)

@@ -1,6 +1,6 @@
 //! Captures in the order of their records.
 
-ghost use Rattle.std.specs.Prelude.{◌≡◌, ◌<◌, ◌+◌, ◌++◌, ◌∷◌, [], None, List, length, map, IfOk, IfErr, OnOk, IfSome, IfNone};
+ghost use Rattle.std.specs.Prelude.{◌≡◌, ◌<◌, ◌+◌, ◌++◌, ◌∷◌, [], None, Some, List, length, map, IfOk, IfErr, OnOk, IfSome, IfNone};
 ghost use Rattle.afdx_earliest.specs.Instants.{IsFirstIn};
 ghost use Rattle.afdx_merging.specs.declared.clock.Clock.{Clock as By};
 ghost use Rattle.afdx_merging.specs.Merge.{Arrival as Came, IsAfter};
@@ -205,6 +205,8 @@ impl<A: Allocator + Copy> Merging<A> {
             → HasMerged R.remaining clocks first readers.new self.new (came ++ a ∷ []) × IsAfter clocks came a)) }
         ensures none { IfOk result (λ found. IfNone found ((clocks : List By) (first : List R) (came : List Came)
             → HasMerged R.remaining clocks first readers.old self.old came → AreMerged R.remaining clocks first came)) }
+        ensures least { IfOk result (λ found. IfSome found (λ a. lesser (Some a.head.frame.stamp) (least_of self.new.lanes.items) ≡ least_of self.old.lanes.items)) }
+        ensures none_left { IfOk result (λ found. IfNone found (least_of self.old.lanes.items ≡ None)) }
         ensures err { IfErr result (λ fault. (clocks : List By) (first : List R) (came : List Came)
             → HasMerged R.remaining clocks first readers.old self.old came → IsMergeFault R.remaining first fault) }
         ensures read { IfErr result (λ fault. WereAllRead R.remaining readers.new fault) }

@@ -78,12 +78,20 @@ abbrev pub part : List ℕ → Option ℕ → List ℕ
 part name None = []
 part name (Some n) = name ++ decimal n
 
+-- of a capture, by this name of the port, if it is one's
+abbrev pub text_of : List ℕ → Option ℕ → PcapFault → List ℕ
+text_of name port f = codes "afdx: capture " ++ fault_text f ++ part name port ++ part (codes ", record ") (record_of f)
+
 -- of a capture, which is a port's or not
 abbrev pub capture_text : Option ℕ → PcapFault → List ℕ
-capture_text port f = codes "afdx: capture " ++ fault_text f ++ part (codes ", port ") port ++ part (codes ", record ") (record_of f)
+capture_text port f = text_of (codes ", port ") port f
 
 abbrev pub capture_line : Option ℕ → PcapFault → List ℕ
 capture_line port f = as_line (capture_text port f)
+
+-- of the capture of what left at a port
+abbrev pub output_line : ℕ → PcapFault → List ℕ
+output_line port f = as_line (text_of (codes ", output ") (Some port) f)
 
 -- ---- of a load
 

@@ -5,7 +5,7 @@ use Rattle.afdx_messages.specs.declared.failure.Failure.{Failure}
 use Rattle.afdx_messages.specs.declared.failure.Failure.TheVariants as failure
 use Rattle.afdx_wiring.specs.Lines.{as_line}
 use Rattle.afdx_folder.specs.Output.{AppendsPrefix}
-use Rattle.afdx_messages.specs.Lines.{memory_text, table_line, capture_line, load_line, network_failure_line, network_status}
+use Rattle.afdx_messages.specs.Lines.{memory_text, table_line, capture_line, output_line, load_line, network_failure_line, network_status}
 
 abbrev pub memory_line : List ℕ
 memory_line = as_line memory_text
@@ -18,6 +18,7 @@ line_of (failure.Table refusal) = table_line refusal
 line_of (failure.Load f) = load_line f
 line_of (failure.Capture f) = capture_line None f
 line_of (failure.PortCapture port f) = capture_line (Some port) f
+line_of (failure.OutputCapture port f) = output_line port f
 line_of (failure.Network f) = network_failure_line f
 line_of (failure.Get name) = as_line (codes "afdx: device get " ++ string_bytes name)
 line_of (failure.Put name) = as_line (codes "afdx: device put " ++ string_bytes name)
@@ -31,6 +32,7 @@ status_of failure.Usage = 2
 status_of (failure.Table refusal) = 3
 status_of (failure.Capture f) = 3
 status_of (failure.PortCapture port f) = 3
+status_of (failure.OutputCapture port f) = 3
 status_of (failure.Load f) = 4
 status_of (failure.Network f) = network_status f
 status_of _ = 5

@@ -1,7 +1,7 @@
 //! What is reported of a capture's fault.
 
 ghost use Rattle.std.specs.Prelude.{◌≡◌, ◌++◌, IfOk, OnOk, string_bytes};
-ghost use Rattle.afdx_messages.specs.Lines.{fault_text, part, capture_text, capture_line, record_of};
+ghost use Rattle.afdx_messages.specs.Lines.{fault_text, part, text_of, capture_text, capture_line, output_line, record_of};
 
 use afdx_pcap::PcapFault;
 use std::alloc::{AllocError, Global};
@@ -52,6 +52,23 @@ fn push_part(line: &mut String, name: &str, number: Option<usize>) -> Result<(),
     Ok(())
 }
 
+/// What is reported of a fault of a capture, without its line feed; this names the port, if it is one's.
+fn text_of(
+    alloc: Global,
+    name: &str,
+    port: Option<u8>,
+    fault: PcapFault,
+) -> Result<String, AllocError>
+    ensures { IfOk result (λ text. string_bytes text ≡ text_of name.now port fault) }
+{
+    let fault_name = fault_text(alloc, fault)?;
+    let mut text = String::from_str(alloc, "afdx: capture ")?;
+    text.push_str(&fault_name)?;
+    push_part(&mut text, name, port.map(usize::from))?;
+    push_part(&mut text, ", record ", record_of(fault))?;
+    Ok(text)
+}
+
 /// What is reported of a fault of a capture, which is a port's or not, without its line feed.
 pub(crate) fn capture_text(
     alloc: Global,
@@ -60,12 +77,7 @@ pub(crate) fn capture_text(
 ) -> Result<String, AllocError>
     ensures { IfOk result (λ text. string_bytes text ≡ capture_text port fault) }
 {
-    let name = fault_text(alloc, fault)?;
-    let mut text = String::from_str(alloc, "afdx: capture ")?;
-    text.push_str(&name)?;
-    push_part(&mut text, ", port ", port.map(usize::from))?;
-    push_part(&mut text, ", record ", record_of(fault))?;
-    Ok(text)
+    text_of(alloc, ", port ", port, fault)
 }
 
 /// The line of a fault of a capture, which is a port's or not.
@@ -75,6 +87,17 @@ pub fn capture_line(alloc: Global, port: Option<u8>, fault: PcapFault) -> Result
     ensures { IfOk result (λ line. string_bytes line ≡ capture_line port fault) }
 {
     let mut line = capture_text(alloc, port, fault)?;
+    line.push_str("\n")?;
+    Ok(line)
+}
+
+/// The line of a fault of the capture of what left at a port.
+///
+/// An error says that memory ran out. O(line).
+pub fn output_line(alloc: Global, port: u8, fault: PcapFault) -> Result<String, AllocError>
+    ensures { IfOk result (λ line. string_bytes line ≡ output_line port fault) }
+{
+    let mut line = text_of(alloc, ", output ", Some(port), fault)?;
     line.push_str("\n")?;
     Ok(line)
 }

@@ -116,7 +116,9 @@ fn code_of(failure: &Failure) -> Option<&'static str>
         Failure::Usage => "usage",
         Failure::Table(refusal) => table_code(*refusal),
         Failure::Load(fault) => rule_code(fault.rule),
-        Failure::Capture(fault) | Failure::PortCapture(_, fault) => capture_code(*fault),
+        Failure::Capture(fault)
+        | Failure::PortCapture(_, fault)
+        | Failure::OutputCapture(_, fault) => capture_code(*fault),
         Failure::Network(refusal) => network_code(refusal),
         Failure::Get(_) => "get",
         Failure::Put(_) => "put",

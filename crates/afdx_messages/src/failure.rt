@@ -16,7 +16,7 @@ use thiserror::Error;
 /// Why a command ends with another status than 0. Each message is its variant's name.
 #[derive(Debug, Drop, Error)]
 pub enum Failure {
-    /// All was done, and there was one of what the run is to fail on.
+    /// All was done, and there was one of what the run is to fail on, or something speaks against the switch that was recorded.
     #[error("Found")]
     Found,
     /// The arguments are refused.
@@ -34,6 +34,9 @@ pub enum Failure {
     /// The file of this port is no capture, and this is its first fault.
     #[error("PortCapture")]
     PortCapture(u8, PcapFault),
+    /// The file of what left at this port is no capture, and this is its first fault.
+    #[error("OutputCapture")]
+    OutputCapture(u8, PcapFault),
     /// What only commands of networks refuse.
     #[error("Network")]
     Network(NetworkFailure),

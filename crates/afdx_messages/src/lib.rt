@@ -13,7 +13,7 @@ mod network_failure;
 mod reporting;
 mod table;
 
-pub use capture::capture_line;
+pub use capture::{capture_line, output_line};
 pub use failure::Failure;
 pub use load::load_line;
 pub use network::{network_failure_line, network_status};

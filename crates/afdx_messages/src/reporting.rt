@@ -8,7 +8,7 @@ ghost use Rattle.afdx_messages.specs.Codes.{more_of};
 ghost use Rattle.afdx_messages.specs.Reporting.{line_of, memory_line, status_of, ReportsAs, IsTold};
 ghost use Rattle.afdx_wiring.specs.Lines.{as_line};
 
-use crate::capture::capture_line;
+use crate::capture::{capture_line, output_line};
 use crate::code::more_of;
 use crate::failure::Failure;
 use crate::load::load_line;
@@ -75,9 +75,9 @@ fn device_line(alloc: Global, call: &str, name: &str) -> Result<String, AllocErr
 }
 
 /// Writes the line of a failure, or its lines, and where failures are explained what MESSAGES says of their code, as far as the writer
-/// takes them, and gives the failure's status: 1, without a line, where there was one of what a run is to fail on, 2 for refused
-/// arguments, 3 for a refused table, network or capture, 4 for a refused load or refused jitters, 5 for a device or memory. It also
-/// says whether the writer took all of it.
+/// takes them, and gives the failure's status: 1, without a line, where there was one of what a run is to fail on, or something speaks
+/// against a switch that was recorded, 2 for refused arguments, 3 for a refused table, network or capture, 4 for a refused load or
+/// refused jitters, 5 for a device or memory. It also says whether the writer took all of it.
 ///
 /// Only a line with a number or a name takes memory. Where that is refused, memory is the failure. O(line).
 pub fn report<E: Write>(alloc: Global, failure: &Failure, is_explained: bool, err: &mut E) -> Ending
@@ -99,6 +99,10 @@ pub fn report<E: Write>(alloc: Global, failure: &Failure, is_explained: bool, er
         }
         Failure::PortCapture(port, fault) => {
             let line = capture_line(alloc, Some(*port), *fault);
+            write_made(err, line, more, memory, 3)
+        }
+        Failure::OutputCapture(port, fault) => {
+            let line = output_line(alloc, *port, *fault);
             write_made(err, line, more, memory, 3)
         }
         Failure::Load(fault) => write_made(err, load_line(alloc, *fault), more, memory, 4),

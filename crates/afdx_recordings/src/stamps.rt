@@ -1,6 +1,6 @@
 //! Which instant a stamp is.
 
-ghost use Rattle.std.specs.Prelude.{◌≡◌};
+ghost use Rattle.std.specs.Prelude.{◌≡◌, ◌≤◌};
 ghost use Rattle.afdx_recordings.specs.Recordings.{gap_of};
 
 /// Which instant the stamps of records that left are.
@@ -15,7 +15,8 @@ pub enum Stamps {
 impl Stamps {
     /// Bytes from a stamp until the line is free. O(1).
     pub fn gap(self) -> u64
-        ensures { result ≡ gap_of self }
+        ensures gap { result ≡ gap_of self }
+        ensures small { result ≤ 12 }
     {
         match self {
             Stamps::End => 12,

@@ -1,8 +1,10 @@
 //! The folder in memory that the tests have, with each of its allocations refused in turn: by its calls, of which each that is out
-//! of memory is made once more, and in a run.
+//! of memory is made once more, in a run, and in a comparison.
 
 use crate::allocations::{Calls, Memory, count, made_again, refuse};
-use afdx_fixtures::{MemoryFolder, OneFrame, REPORT, RUN, answer_over};
+use afdx_fixtures::{
+    COMPARE, CONFORMS, MemoryFolder, NO_DIFFERENCES, OneFrame, REPORT, RUN, answer_over,
+};
 use afdx_folder::{Folder, FolderFault, NewFile};
 use std::alloc::Global;
 use std::io::Print;
@@ -183,4 +185,41 @@ fn new_files_are_put_or_let_go(rt: HostRuntime) -> Result<(), Fail> {
     let run = OneFrame::new(alloc)?;
     let running = Running { alloc, run: &run };
     refuse(&rt, alloc, "Run over a folder in memory", &running, 13)
+}
+
+/// The comparison of recordings of one frame.
+#[derive(Clone, Copy)]
+struct Comparing<'a> {
+    alloc: Global,
+    run: &'a OneFrame,
+}
+
+impl Calls for Comparing<'_> {
+    fn answer(&self, memory: &Memory) -> Result<Option<bool>, Fail> {
+        let mut folder = MemoryFolder::new(memory);
+        let Ok(()) = self.run.add_recordings_to(&mut folder) else {
+            return Ok(None);
+        };
+        let got = answer_over(self.alloc, COMPARE, b"", &mut folder)?;
+        if got.is(0, CONFORMS.as_bytes(), b"") {
+            return Ok(Some(folder.holds(&self.run.compared(NO_DIFFERENCES), 6)));
+        }
+        let is_out = got.is(5, b"", b"afdx: memory\n") && folder.holds(&self.run.files(), 5);
+        Ok(if is_out { None } else { Some(false) })
+    }
+}
+
+/// One allocation at least for the name and for the bytes of each recording, for each that is opened, and for the new file and its name.
+#[test]
+fn differences_are_put_or_let_go(rt: HostRuntime) -> Result<(), Fail> {
+    let alloc = rt.alloc();
+    let run = OneFrame::new(alloc)?;
+    let comparing = Comparing { alloc, run: &run };
+    refuse(
+        &rt,
+        alloc,
+        "Comparison over a folder in memory",
+        &comparing,
+        16,
+    )
 }

@@ -71,6 +71,7 @@ not_got_text failure.Usage files path name switches first before after same fail
 not_got_text (failure.Table r) files path name switches first before after same fails upto = absurd fails
 not_got_text (failure.Capture r) files path name switches first before after same fails upto = absurd fails
 not_got_text (failure.PortCapture p r) files path name switches first before after same fails upto = absurd fails
+not_got_text (failure.OutputCapture p r) files path name switches first before after same fails upto = absurd fails
 not_got_text (failure.Put s) files path name switches first before after same fails upto = absurd fails
 not_got_text (failure.Load r) files path name switches first before after same fails upto = absurd fails
 not_got_text (failure.Network r) files path name switches first before after same fails upto = absurd fails
@@ -116,6 +117,7 @@ stops_at_table failure.Usage refusal switches texts i d tables in_texts within a
 stops_at_table (failure.Table r) refusal switches texts i d tables in_texts within are is h = absurd h
 stops_at_table (failure.Capture r) refusal switches texts i d tables in_texts within are is h = absurd h
 stops_at_table (failure.PortCapture p r) refusal switches texts i d tables in_texts within are is h = absurd h
+stops_at_table (failure.OutputCapture p r) refusal switches texts i d tables in_texts within are is h = absurd h
 stops_at_table (failure.Put s) refusal switches texts i d tables in_texts within are is h = absurd h
 stops_at_table (failure.Get s) refusal switches texts i d tables in_texts within are is h = absurd h
 stops_at_table (failure.Load r) refusal switches texts i d tables in_texts within are is h = absurd h
@@ -145,6 +147,7 @@ not_joined_before failure.Usage a b path l before after keeps h = absurd h
 not_joined_before (failure.Table r) a b path l before after keeps h = absurd h
 not_joined_before (failure.Capture r) a b path l before after keeps h = absurd h
 not_joined_before (failure.PortCapture p r) a b path l before after keeps h = absurd h
+not_joined_before (failure.OutputCapture p r) a b path l before after keeps h = absurd h
 not_joined_before (failure.Put s) a b path l before after keeps h = absurd h
 not_joined_before (failure.Load r) a b path l before after keeps h = absurd h
 not_joined_before failure.Read a b path l before after keeps h = absurd h

@@ -18,10 +18,10 @@ use Rattle.afdx_network_report.specs.Lines.{Names, name_of}
 use Rattle.afdx_messages.specs.declared.failure.Failure.{Failure}
 use Rattle.afdx_messages.specs.declared.failure.Failure.TheVariants as failure
 use Rattle.afdx_folder.specs.Files.{Files, Shows, ShowsAll, KeepsFiles, DeviceLog, one_more}
-use Rattle.afdx_serve.specs.Runs.{capture_name, names_in, bytes_of_captures, FailsToGet}
+use Rattle.afdx_serve.specs.Runs.{capture_name, names_in, bytes_of_captures, FailsToGet, GetsNamed}
 use Rattle.afdx_serve.specs.Networks.{names_of}
 use Rattle.afdx_serve.specs.NetworkRuns.{switch_folder, names_at, bytes_at, HasGiven, open_names, GetsGiven, FailsToGetGiven}
-use Rattle.afdx_serve.specs.Inner.OpenPorts.{HasOpen, GetsNamed, FailsToGetNamed}
+use Rattle.afdx_serve.specs.Inner.OpenPorts.{HasOpen, FailsToGetNamed}
 use Rattle.afdx_serve.proofs.CaptureLemmas.{one_more_got}
 use Rattle.afdx_serve.proofs.FileLemmas.{ShowsAll-before, ShowsAll-nil, KeepsFiles-trans}
 
@@ -66,7 +66,7 @@ stands_further files name before names rest all got split earlier s =
       earlier = subst (λ (ns : List (List ℕ)). ShowsAll files ns (got ++ s.got)) (sym taken) (ShowsAll-append files before (take s.place names) got s.got earlier s.earlier);
     }
 
-GetsNamed-before : (name : List ℕ) (a b : Option Files) (names : List (List ℕ)) → KeepsFiles a b → GetsNamed name b names → GetsNamed name a names
+pub GetsNamed-before : (name : List ℕ) (a b : Option Files) (names : List (List ℕ)) → KeepsFiles a b → GetsNamed name b names → GetsNamed name a names
 GetsNamed-before name a b names keeps s = record { place = s.place; got = s.got; is_there = s.is_there; earlier = ShowsAll-before a b _ _ keeps s.earlier }
 
 -- ---- one switch
@@ -165,6 +165,7 @@ not_got_named failure.Usage files name names first before after same fails upto 
 not_got_named (failure.Table r) files name names first before after same fails upto = absurd fails
 not_got_named (failure.Capture r) files name names first before after same fails upto = absurd fails
 not_got_named (failure.PortCapture p r) files name names first before after same fails upto = absurd fails
+not_got_named (failure.OutputCapture p r) files name names first before after same fails upto = absurd fails
 not_got_named (failure.Put s) files name names first before after same fails upto = absurd fails
 not_got_named (failure.Load r) files name names first before after same fails upto = absurd fails
 not_got_named (failure.Network r) files name names first before after same fails upto = absurd fails
@@ -297,6 +298,7 @@ module _ (files b : Option Files) (path : List ℕ) (net : Network) (i : ℕ) (d
   not_got_given (failure.Table r) first before now same fails = absurd fails
   not_got_given (failure.Capture r) first before now same fails = absurd fails
   not_got_given (failure.PortCapture p r) first before now same fails = absurd fails
+  not_got_given (failure.OutputCapture p r) first before now same fails = absurd fails
   not_got_given (failure.Put s) first before now same fails = absurd fails
   not_got_given (failure.Load r) first before now same fails = absurd fails
   not_got_given (failure.Network r) first before now same fails = absurd fails

@@ -22,10 +22,10 @@ use Rattle.afdx_messages.specs.declared.failure.Failure.{Failure}
 use Rattle.afdx_messages.specs.declared.failure.Failure.TheVariants as failure
 use Rattle.afdx_folder.specs.Files.{Files, DeviceLog, Shows, ShowsAll, IsOpened, KeepsFiles}
 use Rattle.afdx_folder.specs.Input.{AreGiven}
-use Rattle.afdx_serve.specs.Runs.{capture_name, names_in, port_names, bytes_of_captures, inputs_of, HasPlan, HasCaptures, FailsToGet, FailsToGetAll, FailsToGather}
+use Rattle.afdx_serve.specs.Runs.{capture_name, names_in, port_names, bytes_of_captures, inputs_of, HasPlan, HasCaptures, FailsToGet, FailsToGetAll, FailsToGather, GetsNamed}
 use Rattle.afdx_serve.specs.Inner.Outputs.{AreEmpty, HaveBytes}
 use Rattle.afdx_serve.specs.Inner.Leading.{IsPlanOf, AreOpened, AreOpenedPorts, IsInFiles, FailsToLeadFrom, IsLed}
-use Rattle.afdx_serve.specs.Inner.OpenPorts.{GetsNamed, FailsToGetNamed}
+use Rattle.afdx_serve.specs.Inner.OpenPorts.{FailsToGetNamed}
 use Rattle.afdx_serve.proofs.FileLemmas.{KeepsFiles-refl, KeepsFiles-trans, ShowsAll-before, IsOpened-before}
 use Rattle.afdx_serve.proofs.GivenLemmas.{not_got_named}
 use Rattle.afdx_serve.proofs.PutLemmas.{have_bytes, written_back}
@@ -213,6 +213,7 @@ named_capture failure.Usage files path t names before after named fails = absurd
 named_capture (failure.Table r) files path t names before after named fails = absurd fails
 named_capture (failure.Capture r) files path t names before after named fails = absurd fails
 named_capture (failure.PortCapture p r) files path t names before after named fails = absurd fails
+named_capture (failure.OutputCapture p r) files path t names before after named fails = absurd fails
 named_capture (failure.Put s) files path t names before after named fails = absurd fails
 named_capture (failure.Load r) files path t names before after named fails = absurd fails
 named_capture (failure.Network r) files path t names before after named fails = absurd fails

@@ -13,5 +13,6 @@ pub mod VerdictLemmas
 pub mod ServingLemmas
 pub mod SizeLemmas
 pub mod CheckLemmas
+pub mod CompareLemmas
 mod PutLemmas
 mod NetworkRunLemmas

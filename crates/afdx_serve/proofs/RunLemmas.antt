@@ -45,6 +45,7 @@ module _ (paths : Paths) (names all : List (List ℕ)) (a b c : Option Files) (f
   not_all_put (failure.Table r) h = absurd h
   not_all_put (failure.Capture r) h = absurd h
   not_all_put (failure.PortCapture p r) h = absurd h
+  not_all_put (failure.OutputCapture p r) h = absurd h
   not_all_put (failure.Get s) h = absurd h
   not_all_put (failure.Load r) h = absurd h
   not_all_put (failure.Network r) h = absurd h
@@ -72,6 +73,7 @@ module _ (paths : Paths) (results : Results) (a b c : Option Files) (first befor
   not_all options (failure.Table r) w v none h = absurd h
   not_all options (failure.Capture r) w v none h = absurd h
   not_all options (failure.PortCapture p r) w v none h = absurd h
+  not_all options (failure.OutputCapture p r) w v none h = absurd h
   not_all options (failure.Get s) w v none h = absurd h
   not_all options (failure.Load r) w v none h = absurd h
   not_all options (failure.Network r) w v none h = absurd h
@@ -110,6 +112,7 @@ module _ (inputs : Inputs) (a b : Option Files) (t : Content) (first before afte
   not_gathered (failure.Table r) h = absurd h
   not_gathered (failure.Capture r) h = absurd h
   not_gathered (failure.PortCapture p r) h = absurd h
+  not_gathered (failure.OutputCapture p r) h = absurd h
   not_gathered (failure.Load r) h = absurd h
   not_gathered (failure.Network r) h = absurd h
   not_gathered (failure.Put s) h = absurd h
@@ -121,6 +124,7 @@ module _ (inputs : Inputs) (a b : Option Files) (t : Content) (first before afte
 module _ (inputs : Inputs) (a : Option Files) (plan : Plan) (captures : List Text) (before after : DeviceLog) (of : IsRunOf inputs a plan captures) (count : after ≡ before) where
   pub not_led : (f : Failure) → FailsToLead f (table_in plan) captures → FailsToGather f inputs a before after
   not_led (failure.PortCapture p r) h = (table_in plan, captures, of.has_plan, of.has_captures, h, count)
+  not_led (failure.OutputCapture p r) h = absurd h
   not_led failure.Memory h = tt
   not_led failure.Found h = absurd h
   not_led failure.Usage h = absurd h
@@ -191,6 +195,7 @@ not_gathered_run paths options a b first after keeps w v none (failure.Table r) 
 not_gathered_run paths options a b first after keeps w v none (failure.Get s) h = ((h, keeps), none)
 not_gathered_run paths options a b first after keeps w v none (failure.Load r) h = ((h, keeps), none)
 not_gathered_run paths options a b first after keeps w v none (failure.PortCapture p r) h = ((h, keeps), none)
+not_gathered_run paths options a b first after keeps w v none (failure.OutputCapture p r) h = absurd h
 not_gathered_run paths options a b first after keeps w v none failure.Found h = absurd h
 not_gathered_run paths options a b first after keeps w v none failure.Usage h = absurd h
 not_gathered_run paths options a b first after keeps w v none (failure.Network r) h = absurd h

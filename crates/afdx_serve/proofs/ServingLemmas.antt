@@ -8,6 +8,7 @@ use Rattle.afdx_messages.specs.declared.failure.Failure.{Failure}
 use Rattle.afdx_messages.specs.declared.failure.Failure.TheVariants as failure
 use Rattle.afdx_messages.specs.Reporting.{ReportsAs, IsMade}
 use Rattle.afdx_serve.specs.Serving.{World, FailsToPerform, FailsToPerformNetwork, Fails, RunsOut}
+use Rattle.afdx_serve.proofs.CompareLemmas.{never_refused, rows_ended}
 use Rattle.afdx_serve.proofs.NetworkLemmas.{never_usage, spares}
 use Rattle.afdx_serve.proofs.RunLemmas.{run_ended, trace_ended}
 
@@ -20,6 +21,7 @@ module _ (arguments : List (List ℕ)) (input : Option (List ℕ)) (old new : Wo
   fails (request.Measure inputs) asks failure.Usage h = absurd h.0
   fails (request.Survey inputs) asks failure.Usage h = absurd h.0
   fails (request.Trace paths options) asks failure.Usage h = absurd h.0.0
+  fails (request.Compare c r) asks failure.Usage h = absurd (never_refused c r old.files old.failed new.failed h.0.0)
   fails (request.Explain entry) asks failure.Usage h = absurd h.0
   fails (request.Network r) asks failure.Usage h = absurd (never_usage r old new h)
   fails r asks failure.Found h = (r, asks, h)
@@ -28,6 +30,7 @@ module _ (arguments : List (List ℕ)) (input : Option (List ℕ)) (old new : Wo
   fails r asks (failure.Table e) h = (r, asks, h)
   fails r asks (failure.Capture e) h = (r, asks, h)
   fails r asks (failure.PortCapture p e) h = (r, asks, h)
+  fails r asks (failure.OutputCapture p e) h = (r, asks, h)
   fails r asks (failure.Get name) h = (r, asks, h)
   fails r asks (failure.Put name) h = (r, asks, h)
   fails r asks failure.Read h = (r, asks, h)
@@ -54,6 +57,7 @@ module _ (arguments : List (List ℕ)) (input : Option (List ℕ)) (old new : Wo
   runs_out (failure.Table e) (request.Measure inputs) made asks h = inl (h.2, h.1)
   runs_out (failure.Table e) (request.Survey inputs) made asks h = inl (h.2, h.1)
   runs_out (failure.Table e) (request.Trace paths options) made asks h = inl (h.1, h.0.1)
+  runs_out (failure.Table e) (request.Compare c r) made asks h = inl (h.1, h.0.1)
   runs_out (failure.Table e) (request.Explain entry) made asks h = absurd h.0
   runs_out (failure.Table e) (request.Network r) made asks h = network_runs_out (failure.Table e) r made asks h
   runs_out (failure.Load e) (request.Alone link) made asks h = absurd h.0
@@ -63,6 +67,7 @@ module _ (arguments : List (List ℕ)) (input : Option (List ℕ)) (old new : Wo
   runs_out (failure.Load e) (request.Measure inputs) made asks h = inl (h.2, h.1)
   runs_out (failure.Load e) (request.Survey inputs) made asks h = inl (h.2, h.1)
   runs_out (failure.Load e) (request.Trace paths options) made asks h = inl (h.1, h.0.1)
+  runs_out (failure.Load e) (request.Compare c r) made asks h = inl (h.1, h.0.1)
   runs_out (failure.Load e) (request.Explain entry) made asks h = absurd h.0
   runs_out (failure.Load e) (request.Network r) made asks h = network_runs_out (failure.Load e) r made asks h
   runs_out (failure.Capture e) (request.Alone link) made asks h = inl (h.0.1, h.1.0)
@@ -72,17 +77,29 @@ module _ (arguments : List (List ℕ)) (input : Option (List ℕ)) (old new : Wo
   runs_out (failure.Capture e) (request.Measure inputs) made asks h = absurd h.0
   runs_out (failure.Capture e) (request.Survey inputs) made asks h = absurd h.0
   runs_out (failure.Capture e) (request.Trace paths options) made asks h = absurd h.0.0
+  runs_out (failure.Capture e) (request.Compare c r) made asks h = inl (h.1, h.0.1)
   runs_out (failure.Capture e) (request.Explain entry) made asks h = absurd h.0
   runs_out (failure.Capture e) (request.Network r) made asks h = network_runs_out (failure.Capture e) r made asks h
   runs_out (failure.PortCapture p e) (request.Alone link) made asks h = absurd h.0
+  runs_out (failure.OutputCapture p e) (request.Alone link) made asks h = absurd h.0
   runs_out (failure.PortCapture p e) (request.Check path) made asks h = absurd h
+  runs_out (failure.OutputCapture p e) (request.Check path) made asks h = absurd h
   runs_out (failure.PortCapture p e) (request.Size path) made asks h = absurd h
+  runs_out (failure.OutputCapture p e) (request.Size path) made asks h = absurd h
   runs_out (failure.PortCapture p e) (request.Run paths options) made asks h = inl (h.1, h.0.1)
+  runs_out (failure.OutputCapture p e) (request.Run paths options) made asks h = inl (h.1, h.0.1)
   runs_out (failure.PortCapture p e) (request.Measure inputs) made asks h = inl (h.2, h.1)
+  runs_out (failure.OutputCapture p e) (request.Measure inputs) made asks h = inl (h.2, h.1)
   runs_out (failure.PortCapture p e) (request.Survey inputs) made asks h = inl (h.2, h.1)
+  runs_out (failure.OutputCapture p e) (request.Survey inputs) made asks h = inl (h.2, h.1)
   runs_out (failure.PortCapture p e) (request.Trace paths options) made asks h = inl (h.1, h.0.1)
+  runs_out (failure.OutputCapture p e) (request.Trace paths options) made asks h = inl (h.1, h.0.1)
+  runs_out (failure.PortCapture p e) (request.Compare c r) made asks h = inl (h.1, h.0.1)
   runs_out (failure.PortCapture p e) (request.Explain entry) made asks h = absurd h.0
+  runs_out (failure.OutputCapture p e) (request.Compare c r) made asks h = inl (h.1, h.0.1)
+  runs_out (failure.OutputCapture p e) (request.Explain entry) made asks h = absurd h.0
   runs_out (failure.PortCapture p e) (request.Network r) made asks h = network_runs_out (failure.PortCapture p e) r made asks h
+  runs_out (failure.OutputCapture p e) (request.Network r) made asks h = network_runs_out (failure.OutputCapture p e) r made asks h
   runs_out (failure.Get name) (request.Alone link) made asks h = absurd h.0
   runs_out (failure.Get name) (request.Check path) made asks h = inl (h.3, h.2)
   runs_out (failure.Get name) (request.Size path) made asks h = inl (h.3, h.2)
@@ -90,6 +107,7 @@ module _ (arguments : List (List ℕ)) (input : Option (List ℕ)) (old new : Wo
   runs_out (failure.Get name) (request.Measure inputs) made asks h = inl (h.2, h.1)
   runs_out (failure.Get name) (request.Survey inputs) made asks h = inl (h.2, h.1)
   runs_out (failure.Get name) (request.Trace paths options) made asks h = inl (h.1, h.0.1)
+  runs_out (failure.Get name) (request.Compare c r) made asks h = inl (h.1, h.0.1)
   runs_out (failure.Get name) (request.Explain entry) made asks h = absurd h.0
   runs_out (failure.Get name) (request.Network r) made asks h = network_runs_out (failure.Get name) r made asks h
   runs_out (failure.Put name) (request.Alone link) made asks h = absurd h.0
@@ -99,6 +117,7 @@ module _ (arguments : List (List ℕ)) (input : Option (List ℕ)) (old new : Wo
   runs_out (failure.Put name) (request.Survey inputs) made asks h = absurd h.0
   runs_out (failure.Put name) (request.Run paths options) made asks h = inr (request.Run paths options, asks, (run_ended _ paths _ _ _ _ h.0, h.1))
   runs_out (failure.Put name) (request.Trace paths options) made asks h = inr (request.Trace paths options, asks, (trace_ended _ paths options _ _ _ _ h.0, h.1))
+  runs_out (failure.Put name) (request.Compare c r) made asks h = inr (request.Compare c r, asks, (rows_ended _ c r _ _ _ _ h.0, h.1))
   runs_out (failure.Put name) (request.Explain entry) made asks h = absurd h.0
   runs_out (failure.Put name) (request.Network r) made asks h = network_runs_out (failure.Put name) r made asks h
   runs_out (failure.Network e) (request.Alone link) made asks h = absurd h.0
@@ -108,6 +127,7 @@ module _ (arguments : List (List ℕ)) (input : Option (List ℕ)) (old new : Wo
   runs_out (failure.Network e) (request.Measure inputs) made asks h = absurd h.0
   runs_out (failure.Network e) (request.Survey inputs) made asks h = absurd h.0
   runs_out (failure.Network e) (request.Trace paths options) made asks h = absurd h.0.0
+  runs_out (failure.Network e) (request.Compare c r) made asks h = inl (h.1, h.0.1)
   runs_out (failure.Network e) (request.Explain entry) made asks h = absurd h.0
   runs_out (failure.Network e) (request.Network r) made asks h = network_runs_out (failure.Network e) r made asks h
 
@@ -124,5 +144,6 @@ module _ (arguments : List (List ℕ)) (input : Option (List ℕ)) (old new : Wo
   reported (failure.Load r) t (inr e) h = subst (λ (x : Failure). Fails x arguments input old new) (sym e.1) (runs_out (failure.Load r) h.0 tt h.1 h.2)
   reported (failure.Capture r) t (inr e) h = subst (λ (x : Failure). Fails x arguments input old new) (sym e.1) (runs_out (failure.Capture r) h.0 tt h.1 h.2)
   reported (failure.PortCapture p r) t (inr e) h = subst (λ (x : Failure). Fails x arguments input old new) (sym e.1) (runs_out (failure.PortCapture p r) h.0 tt h.1 h.2)
+  reported (failure.OutputCapture p r) t (inr e) h = subst (λ (x : Failure). Fails x arguments input old new) (sym e.1) (runs_out (failure.OutputCapture p r) h.0 tt h.1 h.2)
   reported (failure.Get name) t (inr e) h = subst (λ (x : Failure). Fails x arguments input old new) (sym e.1) (runs_out (failure.Get name) h.0 tt h.1 h.2)
   reported (failure.Put name) t (inr e) h = subst (λ (x : Failure). Fails x arguments input old new) (sym e.1) (runs_out (failure.Put name) h.0 tt h.1 h.2)

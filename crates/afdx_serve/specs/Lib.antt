@@ -1,4 +1,5 @@
 pub mod Checks
+pub mod Compares
 pub mod Inner
 pub mod Measures
 pub mod NetworkChecks

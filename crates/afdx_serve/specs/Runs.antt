@@ -78,6 +78,13 @@ pub record GetsUpTo (name : List ℕ) (files : Option Files) (path : List ℕ) (
   pub is_there : slice_get (port_names path t) place ≡ Some name
   pub earlier : ShowsAll files (take place (port_names path t)) got
 
+-- the name is one of these, and those before it were got
+pub record GetsNamed (name : List ℕ) (files : Option Files) (names : List (List ℕ)) : Type 0 where
+  pub place : ℕ
+  pub got : List (List ℕ)
+  pub is_there : slice_get names place ≡ Some name
+  pub earlier : ShowsAll files (take place names) got
+
 -- the report of a run
 abbrev pub report_in : Results → List ℕ
 report_in results = report_of results.counts

@@ -7,6 +7,7 @@ use Rattle.afdx_arguments.specs.declared.request.Paths.{Paths}
 use Rattle.afdx_arguments.specs.declared.request.RunOptions.{RunOptions}
 use Rattle.afdx_arguments.specs.declared.request.TraceOptions.{TraceOptions}
 use Rattle.afdx_arguments.specs.declared.request.Inputs.{Inputs}
+use Rattle.afdx_arguments.specs.declared.request.Compare.{Compare}
 use Rattle.afdx_arguments.specs.declared.request.Request.{Request}
 use Rattle.afdx_arguments.specs.declared.request.Request.TheVariants as request
 use Rattle.afdx_arguments.specs.Requests.{Asks, AskForHelp, AreRefused}
@@ -15,6 +16,9 @@ use Rattle.afdx_messages.specs.declared.failure.Failure.TheVariants as failure
 use Rattle.afdx_alone.specs.Answer.{IsAnswer}
 use Rattle.afdx_table.specs.Content.{Content}
 use Rattle.afdx_load.specs.Accepted.{IsAccepted, first_fault}
+use Rattle.afdx_recordings.specs.declared.recordings.Recordings.{Recordings}
+use Rattle.afdx_compare.specs.Comparison.{Comparison, conform}
+use Rattle.afdx_compare.specs.Report.{report_of}
 use Rattle.afdx_serve.specs.Checks.{IsCheckOf}
 use Rattle.afdx_serve.specs.Sizes.{AreSizesIn, AreSizesFrom}
 use Rattle.afdx_wiring.specs.Net.{Network}
@@ -38,6 +42,7 @@ use Rattle.afdx_verdict.specs.Verdict.{verdict_of}
 use Rattle.afdx_serve.specs.Measures.{MeasuresTo, SurveysTo}
 use Rattle.afdx_serve.specs.Verdicts.{text_of, is_found}
 use Rattle.afdx_serve.specs.Traces.{PutsTrace, FailsToTrace}
+use Rattle.afdx_serve.specs.Compares.{PutsRows, FailsToCompare}
 use Rattle.afdx_serve.specs.Runs.{HasTable, HasNoTable, LeadsTo, FailsToGather, FailsToRun, names_in, bytes_of_captures}
 
 -- what commands work on, as far as contracts see it
@@ -264,6 +269,26 @@ Traces paths options old new = PutsTrace paths options old.files new.files × (n
 abbrev pub FailsToTraceAll : Failure → Paths → TraceOptions → World → World → Type 0
 FailsToTraceAll f paths options old new = FailsToTrace f paths options old.files new.files old.failed new.failed × WritesNothing old new
 
+-- ---- recordings
+
+-- what was found out of the files was put, where a folder is named for it, and reported; nothing speaks against the switch, or something
+abbrev pub ComparesTo : Bool → Compare → Recordings → World → World → Type 0
+ComparesTo conforms c r old new =
+    (from until : ℕ) × (found : Comparison) × PutsRows c r old.files new.files old.failed new.failed from until found
+    × Appends old.written new.written (report_of r from until found) × (conform found ≡ conforms)
+
+-- all was done, and nothing does
+abbrev pub Compares : Compare → Recordings → World → World → Type 0
+Compares c r old new = ComparesTo true c r old new
+
+-- something does, or why not all was done, and what was done
+abbrev pub FailsToCompareAll : Failure → Compare → Recordings → World → World → Type 0
+FailsToCompareAll failure.Found c r old new = ComparesTo false c r old new
+FailsToCompareAll failure.Write c r old new =
+    (from until : ℕ) × (found : Comparison) × PutsRows c r old.files new.files old.failed new.failed from until found
+    × AppendsPrefix old.written new.written (report_of r from until found)
+FailsToCompareAll f c r old new = FailsToCompare f c r old.files new.files old.failed new.failed × WritesNothing old new
+
 -- ---- what MESSAGES says of a code
 
 -- this entry was written
@@ -286,6 +311,7 @@ Performs (request.Run paths options) input old new = Runs paths options old new
 Performs (request.Measure inputs) input old new = Measures inputs old new
 Performs (request.Survey inputs) input old new = Surveys inputs old new
 Performs (request.Trace paths options) input old new = Traces paths options old new
+Performs (request.Compare c r) input old new = Compares c r old new
 Performs (request.Explain entry) input old new = WritesEntry entry.now old.written new.written × KeepsFolder old new
 Performs (request.Network r) input old new = PerformsNetwork r old new
 
@@ -298,6 +324,7 @@ FailsToPerform f (request.Run paths options) input old new = FailsToRunAll f pat
 FailsToPerform f (request.Measure inputs) input old new = FailsToMeasure f inputs old new
 FailsToPerform f (request.Survey inputs) input old new = FailsToSurvey f inputs old new
 FailsToPerform f (request.Trace paths options) input old new = FailsToTraceAll f paths options old new
+FailsToPerform f (request.Compare c r) input old new = FailsToCompareAll f c r old new
 FailsToPerform f (request.Explain entry) input old new = FailsToWriteEntry f entry.now old.written new.written × KeepsFolder old new
 FailsToPerform f (request.Network r) input old new = FailsToPerformNetwork f r old new
 

@@ -4,6 +4,7 @@
 #![tactic(auto)]
 
 mod check;
+mod compare;
 mod explain;
 mod gathering;
 mod get;

@@ -1,11 +1,20 @@
-//! The names of captures in a folder.
+//! The names of files in a folder.
 
-ghost use Rattle.std.specs.Prelude.{◌≡◌, map, string_bytes, IfOk};
+ghost use Rattle.std.specs.Prelude.{◌≡◌, ◌++◌, map, string_bytes, IfOk};
 ghost use Rattle.afdx_session.specs.Texts.{texts_of};
 ghost use Rattle.afdx_serve.specs.Runs.{capture_name, names_in};
 
 use afdx_table::PortRow;
 use std::alloc::{AllocError, Global};
+
+/// The name of a file in a folder.
+pub(crate) fn name_in(alloc: Global, folder: &str, file: &str) -> Result<String, AllocError>
+    ensures { IfOk result (λ name. string_bytes name ≡ folder.now ++ file.now) }
+{
+    let mut name = String::from_str(alloc, folder)?;
+    name.push_str(file)?;
+    Ok(name)
+}
 
 /// The name of a port's capture: the folder's, `/port-`, the port's number, `.pcap`.
 pub(crate) fn capture_name(alloc: Global, folder: &str, port: u8) -> Result<String, AllocError>

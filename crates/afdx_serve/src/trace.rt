@@ -1,6 +1,6 @@
 //! The command `trace`.
 
-ghost use Rattle.std.specs.Prelude.{◌≡◌, true, [], ◌∷◌, ◌++◌, map, IfOk, MatchResult, string_bytes};
+ghost use Rattle.std.specs.Prelude.{◌≡◌, true, [], ◌∷◌, map, IfOk, MatchResult, string_bytes};
 ghost use Rattle.afdx_core.specs.Isolation.{IsIsolatedRun};
 ghost use Rattle.afdx_core.specs.State.{State};
 ghost use Rattle.afdx_session.specs.Texts.{texts_of, AreOfPorts};
@@ -10,6 +10,7 @@ ghost use Rattle.afdx_serve.specs.Runs.{inputs_of, FailsToLead, FailsToGather};
 ghost use Rattle.afdx_serve.specs.Traces.{trace_names, trace_texts, IsTraceIn, PutsTrace, FailsToTrace};
 
 use crate::gathering::{gather, inputs_of};
+use crate::names::name_in;
 use crate::outputs::put_texts;
 use afdx_arguments::{Paths, TraceOptions};
 use afdx_folder::Folder;
@@ -72,15 +73,6 @@ fn traced<F: Folder>(
 {
     let (plan, captures) = gather(alloc, &inputs_of(paths), folder)?;
     of_captures(alloc, plan, &captures, &selection_of(options))
-}
-
-/// The name of a file in a folder.
-fn name_in(alloc: Global, folder: &str, file: &str) -> Result<String, AllocError>
-    ensures { IfOk result (λ name. string_bytes name ≡ folder.now ++ file.now) }
-{
-    let mut name = String::from_str(alloc, folder)?;
-    name.push_str(file)?;
-    Ok(name)
 }
 
 /// The names of the two files in a folder.

@@ -8,9 +8,11 @@ import matplotlib
 # Of the palette of Okabe and Ito, whose colours all readers tell apart.
 COLOURS = {"high": "#0072B2", "low": "#E69F00"}
 PASSED, POLICED = "#0072B2", "#D55E00"
+LATE, FOREIGN = "#CC79A7", "#009E73"
 INK, AXES, GRID = "#1c2024", "#5a6470", "#dfe3e8"
 # What the page's style sets in place of a colour, so that the pictures follow it into the dark.
-VARIABLES = {PASSED: "high", COLOURS["low"]: "low", POLICED: "policed", INK: "ink", AXES: "soft", GRID: "line"}
+VARIABLES = {PASSED: "high", COLOURS["low"]: "low", POLICED: "policed", FOREIGN: "used", INK: "ink", AXES: "soft",
+             GRID: "line"}
 
 matplotlib.rcParams.update({
     "svg.fonttype": "none", "svg.hashsalt": "afdx-view", "font.family": "sans-serif", "font.size": 11,

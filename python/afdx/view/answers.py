@@ -13,14 +13,40 @@ from afdx.program import Program
 
 PRINTED = ("size.txt", "measure.txt")
 TRACED = ("arrivals.csv", "departures.csv")
+COMPARED = ("compare.txt", "differences.csv")
+DIFFERS = 1  # the status of `compare` that recordings differ, which is an answer too
+
+
+@dataclass(frozen=True)
+class Asked:
+    """The folder of what was recorded at the output ports of a switch, and the options of `compare`, as `--name=value`
+    but for `--rest`."""
+    folder: str
+    options: list[str]
+
+    def offsets(self) -> dict[int, int]:
+        """Answers what is added to the stamps of each port, in ns, of options that the program has taken."""
+        given = [option.removeprefix("--offset=") for option in self.options if option.startswith("--offset=")]
+        pairs = [pair.split("=") for text in given for pair in text.split(",")]
+        return {int(port): int(offset) for port, offset in pairs}
+
+
+@dataclass(frozen=True)
+class Compared:
+    """What `compare` printed of recordings, and its file."""
+    recordings: Asked
+    said: str
+    rows: Path
 
 
 @dataclass(frozen=True)
 class Answers:
-    """What `size` and `measure` printed, and the folder with the two files of `trace`."""
+    """What `size` and `measure` printed, the folder with the two files of `trace`, and what `compare` found if there
+    are recordings."""
     size: str
     measured: str
     folder: Path
+    compared: Compared | None = None
 
     @property
     def arrivals(self) -> Path:
@@ -31,7 +57,8 @@ class Answers:
         return self.folder / TRACED[1]
 
     def files(self) -> list[Path]:
-        return [self.folder / name for name in (*PRINTED, *TRACED)]
+        compared = COMPARED if self.compared else ()
+        return [self.folder / name for name in (*PRINTED, *TRACED, *compared)]
 
 
 def need_files(command: str, paths: Sequence[str]) -> None:
@@ -45,18 +72,35 @@ def need_files(command: str, paths: Sequence[str]) -> None:
             raise Failure(USAGE, f"{command}: {path} is not a file, and the program reads it more than once")
 
 
+def compare(program: Program, table: str, folder: str, recordings: Asked, room: Path) -> Compared:
+    """Has the program compare recordings, and put its file into the room."""
+    answer = program.ask("compare", table, folder, recordings.folder, *recordings.options, "--rows", room)
+    if answer.status not in (0, DIFFERS):
+        raise Failure(answer.status, answer.line)
+    return Compared(recordings, answer.said, room / COMPARED[1])
+
+
 @contextmanager
-def asked(program: Program, size: str, table: str, folder: str, unchecked: bool) -> Iterator[Answers]:
-    """Runs the program over a table, of which it has said the size, and a folder of captures; the answers are there for
-    the time of the context."""
+def asked(program: Program, size: str, table: str, folder: str, unchecked: bool = False,
+          recordings: Asked | None = None) -> Iterator[Answers]:
+    """Runs the program over a table, of which it has said the size, a folder of captures, and recordings if there are
+    some; the answers are there for the time of the context."""
     options = ["--unchecked"] if unchecked else []
-    with tempfile.TemporaryDirectory(prefix=f"{program.progress.command}-") as room:
+    with tempfile.TemporaryDirectory(prefix=f"{program.progress.command}-") as name:
+        room = Path(name)
+        compared = compare(program, table, folder, recordings, room) if recordings else None
         program.answer("trace", table, folder, room, *options)
-        yield Answers(size, program.answer("measure", table, folder, *options), Path(room))
+        yield Answers(size, program.answer("measure", table, folder, *options), room, compared)
 
 
-def kept(command: str, folder: Path) -> Answers:
-    """Answers what a folder has of an earlier run: size.txt and measure.txt with what these commands printed, and the
-    files of `trace`."""
-    size, measured = (files.get(command, folder / name).decode("ascii", "replace") for name in PRINTED)
-    return Answers(size, measured, folder)
+def kept(command: str, folder: Path, recordings: Asked | None) -> Answers:
+    """Answers what a folder has of an earlier run: size.txt and measure.txt with what these commands printed, the files
+    of `trace`, and of recordings compare.txt and the file of `compare`."""
+    size, measured = (text_of(command, folder / name) for name in PRINTED)
+    said, rows = (folder / name for name in COMPARED)
+    return Answers(size, measured, folder,
+                   Compared(recordings, text_of(command, said), rows) if recordings else None)
+
+
+def text_of(command: str, path: Path) -> str:
+    return files.get(command, path).decode("ascii", "replace")

@@ -6,9 +6,11 @@ signal waits for that: modules that were compiled from Cython drop an exception 
 import argparse
 import errno
 import os
+import shutil
 import tempfile
 from collections.abc import Sequence
 from dataclasses import dataclass
+from functools import partial
 from pathlib import Path
 from typing import TYPE_CHECKING
 
@@ -41,23 +43,49 @@ def check_place(command: str, out: Path) -> None:
         raise failing(command, f"cannot write {out}", error) from error
 
 
-def check_inputs(command: str, out: Path, names: Sequence[str]) -> None:
-    """Ends the command if one of its inputs can be read but once, or would be replaced by the page."""
+def rows_beside(out: Path) -> Path:
+    """Answers the name of the file of all differences."""
+    return out.with_name(f"{out.stem}-differences.csv")
+
+
+def check_inputs(command: str, options: argparse.Namespace, names: Sequence[str]) -> None:
+    """Ends the command if one of its inputs can be read but once, or would be replaced by the page or the file beside
+    it."""
     answers.need_files(command, names)
+    out = Path(options.out)
+    made = [out, rows_beside(out)] if options.recordings else [out]
     for name in names:
-        if out.exists() and os.path.exists(name) and os.path.samefile(name, out):
+        if any(file.exists() and os.path.exists(name) and os.path.samefile(name, file) for file in made):
             raise Failure(USAGE, f"{command}: the page would replace {name}, of which it is made")
 
 
-def captures_of(folder: str, table: Table) -> list[str]:
-    return [f"{folder}/port-{port}.pcap" for port in table.ports]
+def captures_of(folder: str, ports: Sequence[int]) -> list[str]:
+    return [f"{folder}/port-{port}.pcap" for port in ports]
 
 
 def words_of(options: argparse.Namespace) -> list[str]:
     """Answers the arguments in one order, whatever the order in which they were given."""
     unchecked = ["--unchecked"] if options.unchecked else []
     kept = ["--answers", options.answers] if options.answers else []
-    return [options.table, options.folder, options.out, *unchecked, *kept]
+    asked = options.recordings
+    recorded = ["--recorded", asked.folder, *asked.options] if asked else []
+    return [options.table, options.folder, options.out, *unchecked, *kept, *recorded]
+
+
+def comparing_of(options: argparse.Namespace) -> list[str]:
+    """Answers the words of the comparison."""
+    asked = options.recordings
+    return ["afdx", "compare", options.table, options.folder, asked.folder, *asked.options] if asked else []
+
+
+def inputs_of(options: argparse.Namespace, table: Table) -> list[str]:
+    """Names what the page is made of, but for recordings."""
+    return [options.table, *captures_of(options.folder, table.ports)]
+
+
+def recorded_of(options: argparse.Namespace, ports: Sequence[int]) -> list[str]:
+    """Names what was recorded at these output ports."""
+    return captures_of(options.recordings.folder, ports) if options.recordings else []
 
 
 def sized(program: Program, name: str) -> Sized:
@@ -71,48 +99,75 @@ def read(answered: Answers, table: Table, unchecked: bool, progress: Progress) -
     return run.read(answered, table, not unchecked, progress)
 
 
-def run_of(program: Program, asked: Sized, folder: str, unchecked: bool = False) -> "Run":
+def run_of(program: Program, asked: Sized, folder: str) -> "Run":
     """Runs the program over a folder of captures."""
-    with answers.asked(program, asked.size, asked.name, folder, unchecked) as answered:
-        return read(answered, asked.table, unchecked, program.progress)
+    with answers.asked(program, asked.size, asked.name, folder) as answered:
+        return read(answered, asked.table, False, program.progress)
 
 
 def drawn(options: argparse.Namespace, run: "Run", origin: provenance.Provenance, progress: Progress) -> str:
     with signals.held():
         from afdx.view.page import page
     title = f"{provenance.shown(options.table)} over {provenance.shown(options.folder)}"
-    return page(run, title, origin, progress)
+    return page(run, title, origin, progress, rows_beside(Path(options.out)).name)
 
 
-def run_page(command: str, options: argparse.Namespace) -> str:
-    """Runs the program and makes the page of it."""
+def origin_of(command: str, program: Program | None, options: argparse.Namespace, run: "Run",
+              inputs: Sequence[str]) -> provenance.Provenance:
+    """Answers where the page comes from: of recordings those that were read."""
+    recorded = recorded_of(options, run.recordings.differences.ports if run.recordings else [])
+    comparison = provenance.Comparison(comparing_of(options), recorded)
+    return provenance.provenance_of(command, program, words_of(options), inputs, comparison)
+
+
+def put(command: str, options: argparse.Namespace, text: str, answered: Answers) -> None:
+    """Puts the page under its name, and before it the file of all differences if there is one."""
+    out = Path(options.out)
+    if answered.compared:
+        beside = rows_beside(out)
+        try:
+            with open(answered.compared.rows, "rb") as rows:
+                files.put_by(beside, partial(shutil.copyfileobj, rows))
+        except OSError as error:
+            raise failing(command, f"cannot write {beside}", error) from error
+    files.put(command, out, text.encode("utf-8", "replace"))
+
+
+def make_by_program(command: str, options: argparse.Namespace) -> None:
+    """Runs the program and puts the page of it."""
     program = Program(command)
     answers.need_files(command, [options.table])
     asked = sized(program, options.table)
-    inputs = [options.table, *captures_of(options.folder, asked.table)]
-    check_inputs(command, Path(options.out), inputs)
-    run = run_of(program, asked, options.folder, options.unchecked)
-    return drawn(options, run, provenance.provenance_of(command, program, words_of(options), inputs), program.progress)
+    inputs = inputs_of(options, asked.table)
+    check_inputs(command, options, [*inputs, *recorded_of(options, asked.table.ports)])
+    with answers.asked(program, asked.size, asked.name, options.folder, options.unchecked,
+                       options.recordings) as answered:
+        run = read(answered, asked.table, options.unchecked, program.progress)
+        origin = origin_of(command, program, options, run, inputs)
+        put(command, options, drawn(options, run, origin, program.progress), answered)
 
 
-def answered_page(command: str, options: argparse.Namespace) -> str:
-    """Makes the page of a run for which the program ran before."""
-    kept = answers.kept(command, Path(options.answers))
+def make_by_answers(command: str, options: argparse.Namespace) -> None:
+    """Puts the page of a run for which the program ran before."""
+    kept = answers.kept(command, Path(options.answers), options.recordings)
     try:
         table = table_of(toml.read(command, Path(options.table)))
-        inputs = [options.table, *captures_of(options.folder, table), *map(str, kept.files())]
-        check_inputs(command, Path(options.out), inputs)
-        origin = provenance.provenance_of(command, None, words_of(options), inputs)
+        inputs = [*inputs_of(options, table), *map(str, kept.files())]
+        check_inputs(command, options, [*inputs, *recorded_of(options, table.ports)])
         progress = Progress(command)
-        return drawn(options, read(kept, table, options.unchecked, progress), origin, progress)
+        run = read(kept, table, options.unchecked, progress)
+        text = drawn(options, run, origin_of(command, None, options, run, inputs), progress)
     except (LookupError, TypeError, ValueError) as error:
-        raise Failure(DEVICE, f"{command}: the files in {options.answers} are not what size, measure and trace answer "
+        asked = "size, measure, trace and compare" if options.recordings else "size, measure and trace"
+        raise Failure(DEVICE, f"{command}: the files in {options.answers} are not what {asked} answer "
                               f"of {options.table}") from error
+    put(command, options, text, kept)
 
 
 def make(command: str, options: argparse.Namespace) -> None:
     """Makes the page that the options ask for, and puts it under its name."""
-    out = Path(options.out)
-    check_place(command, out)
-    text = answered_page(command, options) if options.answers else run_page(command, options)
-    files.put(command, out, text.encode("utf-8", "replace"))
+    check_place(command, Path(options.out))
+    if options.answers:
+        make_by_answers(command, options)
+    else:
+        make_by_program(command, options)

@@ -10,10 +10,11 @@ from afdx import printed
 from afdx.pages import templates, words
 from afdx.pages.drawing import svg_of
 from afdx.program import Progress
-from afdx.view import pictures
+from afdx.view import differences, pictures
 from afdx.view.bars import Bar, bars_of
 from afdx.view.pairs import Pair
 from afdx.view.provenance import Provenance
+from afdx.view.recorded import Recorded
 from afdx.view.run import PORT_PARTS, Run
 from afdx.view.spells import SHOWN, Babbling
 from afdx.view.strips import Strip, strip
@@ -43,7 +44,7 @@ class PortDelays:
     port: int
     picture: Markup
     scale: int  # the greatest delay, ns
-    strips: list[tuple[Pair, Strip]]
+    strips: list[tuple[Pair, Strip, Recorded | None]]
 
 
 def port_cards(run: Run) -> list[PortCard]:
@@ -65,16 +66,25 @@ def policed_cards(run: Run) -> Iterator[PolicedCard]:
         yield PolicedCard(link, babbling, int(run.fates.by_link["passed"][link]), drawn)
 
 
+def link_strip(run: Run, pair: Pair, place: int, scale: int,
+               recorded: Recorded | None) -> tuple[Pair, Strip, Recorded | None]:
+    """Draws the delays of a link, and with recordings their delays and their differences."""
+    marks = run.recordings.differences.ticks.points(place)[0] if run.recordings else None
+    drawn = strip(*run.drawn.links.points(place), pair.bound or scale, run.span, marks,
+                  recorded.between if recorded else None)
+    return pair, drawn, recorded
+
+
 def port_delays(run: Run, progress: Progress) -> Iterator[PortDelays]:
     """Makes the pictures by port; of a link the bound is at the top, or else the greatest delay of the port."""
     places = {id(pair): place for place, pair in enumerate(run.drawn.shown)}
+    recorded = {id(link.model): link for link in run.recordings.links} if run.recordings else {}
     for port in sorted({pair.port for pair in run.drawn.shown}):
         progress.say(f"pictures of port {port}")
         picture = Markup(svg_of(pictures.port_delays(run, port), f"Delays of all that left port {port}"))
         own = [pair for pair in run.drawn.shown if pair.port == port]
         scale = max(pair.greatest or 0 for pair in own)
-        strips = [(pair, strip(*run.drawn.links.points(places[id(pair)]), pair.bound or scale, run.span))
-                  for pair in own]
+        strips = [link_strip(run, pair, places[id(pair)], scale, recorded.get(id(pair))) for pair in own]
         yield PortDelays(port, picture, scale, strips)
 
 
@@ -89,7 +99,15 @@ def overviews(run: Run, progress: Progress) -> list[Markup]:
     return [Markup(svg_of(pictures.overview(run, width), "The run at a glance")) for width in (WIDE, NARROW)]
 
 
-def page(run: Run, title: str, provenance: Provenance, progress: Progress) -> str:
+def marked(run: Run) -> list[Markup]:
+    """Makes the picture of all differences, for wide and for narrow places, if there are some."""
+    found = run.recordings.differences if run.recordings else None
+    return [Markup(svg_of(pictures.differing(found, width), "Differences of the recordings"))
+            for width in (WIDE, NARROW)] if found and found.many else []
+
+
+def page(run: Run, title: str, provenance: Provenance, progress: Progress, rows: str) -> str:
+    """Answers the text of the page; `rows` is the name of the file that has all differences."""
     first = run.fates.first
     overview = [] if first is None else overviews(run, progress)
     template = templates.environment(Path(__file__).resolve().parent).get_template("page.html")
@@ -97,6 +115,7 @@ def page(run: Run, title: str, provenance: Provenance, progress: Progress) -> st
         title=title, run=run, first=first, verdict=verdict_of(run), both=partial(both, first or 0), overview=overview,
         port_cards=port_cards(run), policed_cards=policed_cards(run), port_delays=port_delays(run, progress),
         with_pictures={(pair.link, pair.port) for pair in run.drawn.shown}, port_parts=PORT_PARTS,
-        spells_shown=SHOWN, provenance=provenance)
+        spells_shown=SHOWN, provenance=provenance, marked=marked(run), kinds=differences.KINDS,
+        rows_shown=differences.SHOWN, rows_file=rows)
     progress.clear()
     return text

@@ -5,12 +5,16 @@ from typing import Any
 from matplotlib.figure import Figure
 from matplotlib.ticker import EngFormatter, PercentFormatter
 
-from afdx.pages.drawing import COLOURS, INK, PASSED, POLICED, head, rule
+from afdx.pages.drawing import COLOURS, FOREIGN, INK, LATE, PASSED, POLICED, head, rule
 from afdx.view.departures import PRIORITIES
+from afdx.view.differences import KINDS, Differences
 from afdx.view.greatest import Floats, Ints
 from afdx.view.run import Run
 
 MARKS = {"high": "o", "low": "D"}
+# of differences the mark, its colour, and how far it is below the middle of its port's row
+SIGNS = {"missing": ("x", POLICED, -0.28), "extra": ("P", PASSED, -0.14), "early": ("<", COLOURS["low"], 0.0),
+         "late": (">", LATE, 0.14), "foreign": ("s", FOREIGN, 0.28)}
 
 SECONDS = EngFormatter("s", sep=" ")
 
@@ -122,3 +126,32 @@ def port_delays(run: Run, port: int) -> Any:
     axes.yaxis.set_major_formatter(SECONDS)
     axes.legend(loc="lower left", bbox_to_anchor=(-0.02, 0.99), ncol=2, handletextpad=0.3, columnspacing=1)
     return figure
+
+
+def differing(differences: Differences, width: float) -> Any:
+    """Draws when which differences were, in a row for each port that has some. The width is in inches."""
+    ports = sorted({port for port, _ in differences.many})
+    place, height = differences.place, 0.5 * len(ports) + 0.1
+    figure = Figure(figsize=(width, height + 1.2))
+    axes = panel(figure, 0.3, height)
+    rule(axes)
+    axes.xaxis.set_major_formatter(SECONDS)
+    begin, span = (place.begin - place.first) / 1e9, differences.marks.span / 1e9
+    axes.set_xlim(begin - 0.01 * span, begin + 1.01 * span)
+    for kind in KINDS:
+        mark, colour, below = SIGNS[kind]
+        for row, port in enumerate(ports):
+            instants = begin + differences.marks.points(differences.group(port, kind))[0] / 1e9
+            axes.plot(instants, [row + below] * len(instants), mark, color=colour, markersize=6,
+                      label=kind if (port, kind) == first_of(differences, kind) else "_")
+    axes.set_yticks(range(len(ports)), [f"port {port}" for port in ports])
+    axes.set_ylim(len(ports) - 0.5, -0.5)
+    axes.set_title("Differences, by port and time", loc="left", fontsize=12, pad=40, fontweight="bold")
+    axes.legend(loc="lower left", bbox_to_anchor=(-0.01, 1), ncol=5 if width > 6 else 3, handletextpad=0.1,
+                columnspacing=1, borderaxespad=0.2)
+    return figure
+
+
+def first_of(differences: Differences, kind: str) -> tuple[int, str] | None:
+    """Answers the first port that has differences of a kind, and the kind."""
+    return min((pair for pair in differences.many if pair[1] == kind), default=None)

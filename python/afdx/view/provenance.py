@@ -19,6 +19,7 @@ class Provenance:
     sums: list[tuple[str, str]]  # of each file its name and its SHA-256
     line: str  # the command line
     made: str  # the time in UTC
+    comparing: str  # the command line by which recordings were compared; empty if none were
 
     @property
     def program(self) -> str:
@@ -59,12 +60,23 @@ def now(command: str) -> str:
         raise Failure(USAGE, f"{command}: SOURCE_DATE_EPOCH is not a time: {fixed}") from error
 
 
-def provenance_of(command: str, asked: program.Program | None, arguments: Sequence[str],
-                  names: Sequence[str]) -> Provenance:
-    """Answers where a page of these arguments comes from, which was made of these files."""
+def line_of(words: Sequence[str]) -> str:
+    return shlex.join(map(shown, words))
+
+
+@dataclass(frozen=True)
+class Comparison:
+    """The words of the command by which recordings were compared, and the captures that were recorded."""
+    words: Sequence[str] = ()
+    recorded: Sequence[str] = ()
+
+
+def provenance_of(command: str, asked: program.Program | None, arguments: Sequence[str], names: Sequence[str],
+                  comparison: Comparison = Comparison()) -> Provenance:
+    """Answers where a page of these arguments comes from, which was made of these files and of this comparison."""
     version, sums = [], sums_of(command, names)
+    sums += [(f"{name}, recorded", found) for name, found in sums_of(command, comparison.recorded)]
     if asked:
         version = asked.answer("--version").splitlines()
         sums.append(("afdx", sum_of(command, shutil.which(asked.file) or asked.file)))
-    line = shlex.join([command, *map(shown, arguments)])
-    return Provenance(version, sums, line, now(command))
+    return Provenance(version, sums, line_of([command, *arguments]), now(command), line_of(comparison.words))

@@ -3,12 +3,13 @@ from dataclasses import dataclass
 
 from afdx import printed
 from afdx.program import Progress
-from afdx.view import departures
+from afdx.view import departures, recorded
 from afdx.view.answers import Answers
 from afdx.view.arrivals import Fates, Policed, read_fates, read_policed
 from afdx.view.departures import PRIORITIES, Drawn
 from afdx.view.greatest import Greatest
 from afdx.view.pairs import Pair, pairs_of
+from afdx.view.recorded import Recordings
 from afdx.view.table import Table
 
 POINTS = 600_000  # of all strips together; so the page stays below 20 MB
@@ -29,6 +30,7 @@ class Run:
     policed: Policed
     drawn: Drawn
     parts: int  # of the time in a strip
+    recordings: Recordings | None  # of another switch, if there are some
 
     @property
     def span(self) -> int:
@@ -71,5 +73,6 @@ def read(answers: Answers, table: Table, checked: bool, progress: Progress) -> R
     if fates.first is not None:
         columns = departures.columns_of(pairs, drawn, checked)
         departures.read(answers.departures, drawn, columns, fates.first + table.latency)
+    recordings = recorded.read(answers.compared, pairs, shown, fates, parts) if answers.compared else None
     return Run(checked, printed.lines_of(printed.PORT, answers.size),
-               printed.lines_of(printed.OCCUPIED, answers.measured), pairs, fates, policed, drawn, parts)
+               printed.lines_of(printed.OCCUPIED, answers.measured), pairs, fates, policed, drawn, parts, recordings)

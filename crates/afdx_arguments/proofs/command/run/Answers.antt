@@ -14,5 +14,5 @@ pub returns : goal.returns
 unfolding run_app
 returns c =
     let five = if_rule c.with_argument.result with_paths c.flag-verdict.result _ c.flag-verdict.ensures.rule (c.with_argument.ensures.app with_paths c.with_paths-command.ensures.app) in
-    let six = if_rule c.with_argument-2.result with_verdict c.list_option-fail_on.result _ c.list_option-fail_on.ensures.rule (c.with_argument-2.ensures.app with_verdict five) in
+    let six = if_rule c.with_argument-2.result with_verdict c.text_option-fail_on.result _ c.text_option-fail_on.ensures.rule (c.with_argument-2.ensures.app with_verdict five) in
     record { app = six; local = c.with_argument-2.ensures.local (c.with_argument.ensures.local c.with_paths-command.ensures.local) }

@@ -44,6 +44,12 @@ returns-in-PortCapture-clause-reported g c =
     made (failure.PortCapture c.in-PortCapture.port c.in-PortCapture.fault) _ _ _ _ _ _ _ _ _ tt c.capture_line-line.ensures refl
     (rw c.in-PortCapture.is at c.more_of-more.ensures) c.more_of-memory.ensures c.write_made-in-PortCapture.ensures)
 
+pub returns-in-OutputCapture-clause-reported : goal.returns-in-OutputCapture-clause-reported
+returns-in-OutputCapture-clause-reported g c =
+    rw c.in-OutputCapture.is (
+    made (failure.OutputCapture c.in-OutputCapture.port c.in-OutputCapture.fault) _ _ _ _ _ _ _ _ _ tt c.output_line-line.ensures refl
+    (rw c.in-OutputCapture.is at c.more_of-more.ensures) c.more_of-memory.ensures c.write_made-in-OutputCapture.ensures)
+
 pub returns-in-Get-clause-reported : goal.returns-in-Get-clause-reported
 returns-in-Get-clause-reported g c =
     rw c.in-Get.is (

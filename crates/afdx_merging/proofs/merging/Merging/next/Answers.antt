@@ -6,7 +6,8 @@ use Rattle.afdx_merging.specs.Read.{IsMergeFault, WereAllRead}
 use Rattle.afdx_merging.specs.Inner.Merging.{dues_of, HasMerged, HaveNoFault, HasNoneAt, AreReadBy, Takes, IsAdvanced}
 use Rattle.afdx_merging.proofs.Ending.{all_merged}
 use Rattle.afdx_merging.proofs.Failing.{of_error}
-use Rattle.afdx_merging.proofs.Going.{none_faulty, none_there, all_read, is_after, taken_long, taken_within, taken_back, merges_on}
+use Rattle.afdx_merging.proofs.Firsts.{least_none}
+use Rattle.afdx_merging.proofs.Going.{none_faulty, none_there, all_read, is_after, taken_long, taken_within, taken_back, merges_on, least_goes}
 use Rattle.afdx_merging.proofs.merging.Merging.next.Goals as goal
 
 pub returns-in_default-clause-none : goal.returns-in_default-clause-none
@@ -98,3 +99,20 @@ returns-clause-some g c = λ clocks first came merged.
           (c.in_ok-advance_at.ensures.room ∙ ap length c.deref_mut-3.ensures.value),
       is_after rem clocks first readers m came ws a merged takes,
     )
+
+pub returns-in_default-clause-none_left : goal.returns-in_default-clause-none_left
+returns-in_default-clause-none_left g c =
+    least_none c.args.self.now.lanes.items (subst (λ ls. IsFirstIn (dues_of ls) (length ls) None) c.deref_mut.ensures.value c.in_default.ensures.none)
+
+pub returns-clause-least : goal.returns-clause-least
+returns-clause-least g c =
+    let rem = g.R.Read.remaining in
+    let m = c.args.self.now in
+    let readers = c.args.readers.now in
+    let a : Arrival = record { place = c.in-Some.place; due = c.in-Some.due; head = c.in-Some.head } in
+    let ws = c.take_first.new.lanes in
+    let takes : Takes m.lanes.items ws a = subst (λ ls. Takes ls ws a) c.deref_mut.ensures.value c.in-Some.ensures.some in
+    let is = c.deref_mut-2.ensures.value ∙ taken_back m.lanes ws a takes in
+    let on = subst (λ ls. IsAdvanced rem readers c.advance_at.new.readers ls c.advance_at.new.lanes a.place) is c.in_ok-advance_at.ensures.ok in
+    least_goes rem c.requires.0 c.requires.1 readers c.advance_at.new.readers m c.requires.2 ws c.advance_at.new.lanes c.advance_at.new.piece a c.requires.3 takes on
+    (c.in_ok-advance_at.ensures.room ∙ ap length c.deref_mut-3.ensures.value)

@@ -1,0 +1,47 @@
+-- All that came and left, in the order of the instants (profile).
+use Rattle.std.specs.Prelude.{ℕ, min, max, List, [], ◌∷◌, Option, Some, None, slice_get, if◌then◌else◌}
+use Rattle.std.specs.Option.{option_or, option_map_or}
+use Rattle.afdx_merging.specs.Merge.{Arrival}
+use Rattle.afdx_recordings.specs.declared.recordings.Recordings.{Recordings}
+use Rattle.afdx_compare.specs.declared.sources.Source.{Source}
+use Rattle.afdx_compare.specs.Comparison.{Comparison, with_came, with_left}
+
+-- ---- what arrived
+
+-- a record of the capture at a place: it came or left there
+abbrev pub with_record_of : Option Source → Arrival → Comparison → Comparison
+with_record_of None a c = c
+with_record_of (Some s) a c = if s.leaves then with_left s a.head c else with_came s.port a.head c
+
+abbrev pub with_arrival : List Source → Arrival → Comparison → Comparison
+with_arrival captures a c = with_record_of (slice_get captures a.place) a c
+
+abbrev pub with_arrivals : List Source → List Arrival → Comparison → Comparison
+with_arrivals captures [] c = c
+with_arrivals captures (a ∷ arrivals) c = with_arrivals captures arrivals (with_arrival captures a c)
+
+-- ---- the span
+
+-- the least and the greatest instant of all, if there are any
+abbrev pub lesser : ℕ → Option ℕ → ℕ
+lesser at None = at
+lesser at (Some other) = min at other
+
+abbrev pub greater : ℕ → Option ℕ → ℕ
+greater at None = at
+greater at (Some other) = max at other
+
+abbrev pub least_of : List Arrival → Option ℕ
+least_of [] = None
+least_of (a ∷ arrivals) = Some (lesser a.head.frame.stamp (least_of arrivals))
+
+abbrev pub greatest_of : List Arrival → Option ℕ
+greatest_of [] = None
+greatest_of (a ∷ arrivals) = Some (greater a.head.frame.stamp (greatest_of arrivals))
+
+-- recordings begin at the least stamp of all and end at the greatest, where nothing else is said
+abbrev pub begin_of : Recordings → List Arrival → ℕ
+begin_of r arrivals = option_map_or (λ at. at) (option_or r.from (least_of arrivals)) 0
+
+abbrev pub end_of : Recordings → List Arrival → ℕ
+end_of r arrivals = option_map_or (λ at. at) (option_or r.until (greatest_of arrivals)) 0

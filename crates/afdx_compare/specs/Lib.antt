@@ -1,0 +1,9 @@
+pub mod Arrivals
+pub mod Comparison
+pub mod Differences
+pub mod Found
+pub mod Inner
+pub mod Sources
+pub mod Within
+pub mod Report
+pub mod Rows

@@ -1,0 +1,174 @@
+//! What is reported of a comparison, as text.
+
+ghost use Rattle.std.specs.Prelude.{◌≡◌, ◌++◌, option_copied, slice_get, string_bytes, IfOk, OnOk};
+ghost use Rattle.afdx_compare.specs.Report.{output_line, link_lines, links_from, port_line, ports_from, span_line, verdict_line, report_of};
+
+use crate::comparison::{Comparison, Port};
+use crate::findings::Findings;
+use afdx_following::{Following, Output};
+use afdx_lines::put_line;
+use afdx_recordings::Outputs;
+use afdx_table::{PortRow, Table};
+use afdx_units::Stamp;
+use std::alloc::{AllocError, Allocator};
+
+/// Appends the line of a link at a port.
+fn put_output<A: Allocator + Copy>(
+    text: &mut String<A>,
+    link: u16,
+    unsure: u64,
+    output: &Output<'_, A>,
+) -> Result<(), AllocError>
+    ensures { OnOk result (string_bytes text.new ≡ string_bytes text.old ++ output_line link unsure output.now) }
+{
+    let tally = output.tally();
+    let (least, greatest) = match tally.delays {
+        Some(range) => (Some(range.least), Some(range.greatest)),
+        None => (None, None),
+    };
+    put_line(
+        text,
+        &[
+            ("link ", Some(u128::from(link))),
+            (" out ", Some(u128::from(output.port()))),
+            (" passed ", Some(tally.passed())),
+            (" seen ", Some(tally.seen())),
+            (" missing ", Some(u128::from(tally.missing))),
+            (" extra ", Some(u128::from(tally.extra))),
+            (" early ", Some(u128::from(tally.early))),
+            (" late ", Some(u128::from(tally.late))),
+            (" before ", Some(u128::from(tally.before))),
+            (" after ", Some(u128::from(tally.after))),
+            (" unsure ", Some(u128::from(unsure))),
+            (" least ", least),
+            (" greatest ", greatest),
+            (" bound ", Some(u128::from(output.limits().bound))),
+        ],
+    )
+}
+
+/// Appends the lines of a link of a number, by its ports.
+fn put_link<A: Allocator + Copy>(
+    text: &mut String<A>,
+    link: u16,
+    followed: &Following<'_, A>,
+) -> Result<(), AllocError>
+    ensures { OnOk result (string_bytes text.new ≡ string_bytes text.old ++ link_lines link followed.now) }
+{
+    for output in followed.outputs() {
+        put_output(text, link, followed.unsure(), output)?;
+    }
+    Ok(())
+}
+
+/// Appends the lines of all links, in the table's order.
+fn put_links<A: Allocator + Copy>(
+    text: &mut String<A>,
+    comparison: &Comparison<'_, A>,
+) -> Result<(), AllocError>
+    ensures { OnOk result (string_bytes text.new ≡ string_bytes text.old ++ links_from comparison.now.table.links 0 comparison.now.links) }
+{
+    let table = comparison.table();
+    for (place, link) in comparison.links().iter().enumerate() {
+        if let Some(row) = table.link_at(place) {
+            put_link(text, row.id, link)?;
+        }
+    }
+    Ok(())
+}
+
+/// Appends the line of an output port, if it was recorded.
+fn put_port<A: Allocator + Copy>(
+    text: &mut String<A>,
+    recorded: &Outputs,
+    row: &PortRow,
+    port: &Port<A>,
+) -> Result<(), AllocError>
+    ensures { OnOk result (string_bytes text.new ≡ string_bytes text.old ++ port_line recorded.now row.now port.now) }
+{
+    if !recorded.has(row.id) {
+        return Ok(());
+    }
+    put_line(
+        text,
+        &[
+            ("out ", Some(u128::from(row.id))),
+            (" seen ", Some(u128::from(port.seen))),
+            (" foreign ", Some(u128::from(port.foreign))),
+        ],
+    )
+}
+
+/// The row of the port at a place of a table.
+pub(crate) fn row_at(table: &Table, place: usize) -> Option<&PortRow>
+    ensures { option_copied result ≡ slice_get table.now.ports place }
+{
+    table.ports().get(place)
+}
+
+/// Appends the lines of the output ports that were recorded, by rising number.
+fn put_ports<A: Allocator + Copy>(
+    text: &mut String<A>,
+    recorded: &Outputs,
+    comparison: &Comparison<'_, A>,
+) -> Result<(), AllocError>
+    ensures { OnOk result (string_bytes text.new ≡ string_bytes text.old ++ ports_from recorded.now comparison.now.table.ports 0 comparison.now.ports) }
+{
+    let table = comparison.table();
+    for (place, port) in comparison.ports().iter().enumerate() {
+        if let Some(row) = row_at(table, place) {
+            put_port(text, recorded, row, port)?;
+        }
+    }
+    Ok(())
+}
+
+/// Appends the span of instants that the recordings have.
+fn put_span<A: Allocator + Copy>(
+    text: &mut String<A>,
+    from: Stamp,
+    until: Stamp,
+) -> Result<(), AllocError>
+    ensures { OnOk result (string_bytes text.new ≡ string_bytes text.old ++ span_line from until) }
+{
+    put_line(
+        text,
+        &[
+            ("span ", Some(u128::from(from.ns()))),
+            (" to ", Some(u128::from(until.ns()))),
+        ],
+    )
+}
+
+/// Appends the verdict.
+fn put_verdict<A: Allocator + Copy>(text: &mut String<A>, conforms: bool) -> Result<(), AllocError>
+    ensures { OnOk result (string_bytes text.new ≡ string_bytes text.old ++ verdict_line conforms) }
+{
+    if conforms {
+        text.push_str("conforms\n")
+    } else {
+        text.push_str("differs\n")
+    }
+}
+
+/// What is reported of a comparison: its span, a line for each link and each of its output ports that were recorded, one for each of these ports, and last `conforms` or
+/// `differs`.
+///
+/// An error is out of memory. O(lines).
+pub fn report<A: Allocator + Copy>(
+    alloc: A,
+    findings: &Findings<'_, A>,
+) -> Result<String<A>, AllocError>
+    ensures { IfOk result (λ text. string_bytes text ≡ report_of findings.now.recordings findings.now.from findings.now.until findings.now.comparison) }
+{
+    let mut text = String::new(alloc);
+    put_span(&mut text, findings.from, findings.until)?;
+    put_links(&mut text, &findings.comparison)?;
+    put_ports(
+        &mut text,
+        &findings.recordings.outputs,
+        &findings.comparison,
+    )?;
+    put_verdict(&mut text, findings.conforms())?;
+    Ok(text)
+}
