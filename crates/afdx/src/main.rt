@@ -12,7 +12,9 @@ mod version;
 use crate::version::VERSION;
 use afdx_folder::Disk;
 use afdx_messages::{Failure, report};
+use afdx_progress::{ClearingWriter, Progress, WatchedFolder, WatchedReader};
 use afdx_serve::serve;
+use std::io::IsTerminal;
 use std::process::ExitCode;
 use std::{env, io};
 
@@ -26,18 +28,20 @@ fn arguments(rt: &HostRuntime) -> Result<Vec<String>, Failure> {
 }
 
 fn main(rt: HostRuntime) -> ExitCode {
-    let mut err = rt.stderr();
+    let progress = Progress::new(&rt, rt.stderr().is_terminal());
+    let mut err = ClearingWriter::new(rt.stderr(), &progress);
     let ending = match arguments(&rt) {
         Ok(arguments) => serve(
             rt.alloc(),
             VERSION,
             &arguments,
-            &mut rt.stdin(),
-            &mut rt.stdout(),
+            &mut WatchedReader::new(rt.stdin(), None, &progress),
+            &mut ClearingWriter::new(rt.stdout(), &progress),
             &mut err,
-            &mut Disk::new(rt.alloc(), &rt),
+            &mut WatchedFolder::new(Disk::new(rt.alloc(), &rt), &progress),
         ),
         Err(failure) => report(rt.alloc(), &failure, false, &mut err),
     };
+    progress.end();
     ExitCode::from(ending.status)
 }
