@@ -1,6 +1,6 @@
 #!/usr/bin/env bash
-# python/bin/afdx-view: its page of the example network, of tables and captures that are refused or lose frames, and of a network
-# of 24 ports and 4096 links, opened in Debian's chromium; what ends it early; and README's picture.
+# python/bin/afdx-view: its page of the example network, of tables and captures that are refused or lose frames, of a table of 24 ports
+# and 4096 links, and of a network of three switches, opened in Debian's chromium; what ends it early; and README's picture.
 . "$(dirname "$0")/common.sh"
 install python3=python3 chromium=chromium chromedriver=chromium-driver pdftotext=poppler-utils
 install_python jinja2 matplotlib numpy pandas selenium
@@ -33,6 +33,11 @@ opens() {
     /usr/bin/python3 "$top/end_to_end/view_page.py" "$@"
 }
 
+# opens_network PAGE CHECK..: the same of the page of a network, by view_network.py.
+opens_network() {
+    /usr/bin/python3 "$top/end_to_end/view_network.py" "$@"
+}
+
 # says KIND PAGE TEXT..: the verdict is of this kind and has each of these texts.
 says() {
     local kind=$1 page=$2 text verdict
@@ -54,15 +59,16 @@ from_answers() {
         cmp <(sed '/id="origin"/,$d' network.html) <(sed '/id="origin"/,$d' answers.html)
 }
 
-# tells_its_origin PAGE TABLE IN: the page has the program's version, and the sums of it, of the table and of each capture.
+# tells_its_origin PAGE FILE..: the page has the program's version, and the sums of it and of each file, and says nothing of the host.
 tells_its_origin() {
-    local file sum
-    grep -qF "<td>$("$AFDX" --version | head -n 1) · " "$1" || { echo "no version"; return 1; }
-    for file in "$(command -v "$AFDX")" "$2" "$3"/*; do
+    local page=$1 file sum
+    shift
+    grep -qF "<td>$("$AFDX" --version | head -n 1) · " "$page" || { echo "no version"; return 1; }
+    for file in "$(command -v "$AFDX")" "$@"; do
         sum=$(sha256sum <"$file" | cut -d ' ' -f 1)
-        grep -q "<td>$sum" "$1" || { echo "no $sum of $file"; return 1; }
+        grep -q "<td>$sum" "$page" || { echo "no $sum of $file"; return 1; }
     done
-    ! grep -n -e "$HOSTNAME" -e "$top" -e "$room" "$1"
+    ! grep -n -e "$HOSTNAME" -e "$top" -e "$room" "$page"
 }
 
 # tells_whether_proved: the page has the last line that the program says of its version.
@@ -136,7 +142,7 @@ check "its verdict" says policed network.html '^Accepted\. ' '788 frames in, 958
     ': its excess was policed, 162 of its 198 frames' \
     'No other link came near its bound: the nearest, link 402 at port 2, took 33 % of it \(111,520 of 333,451 ns\)'
 check "its page in a browser, and in print" opens network.html "$network/table.toml" "$network/in" --print
-check "its origin" tells_its_origin network.html "$network/table.toml" "$network/in"
+check "its origin" tells_its_origin network.html "$network/table.toml" "$network"/in/*
 check "whether the program was proved" tells_whether_proved
 check "what is promised of the run" grep 'then under this accepted table, whatever frames the captures hold, ' network.html
 check "the same page again" makes again.html "$network/table.toml" "$network/in"
@@ -186,6 +192,27 @@ check "a line that says how far it is" tells_progress
 check "Ctrl-C while the program runs" is_ended_by INT tracing 130 "$network/table.toml" "$network/in"
 check "SIGTERM while the program runs" is_ended_by TERM tracing 143 "$network/table.toml" "$network/in"
 
+aircraft=$top/examples/aircraft
+check "the example of three switches" makes aircraft.html "$aircraft/network.toml" "$aircraft/in"
+check "its verdict" says policed aircraft.html '^Accepted\. ' '180 frames in from end systems, 150 copies out to them, 0 lost, 65 policed' \
+    'Link 401 was policed at cabin, 65 of its 80 frames, from 30\.822 ms .* to 69\.880 ms' \
+    'No way came near its bound: the nearest, link 303 from cockpit\.3 to cabin\.2, took 73 % of it \(61,820 of 85,124 ns\)'
+check "its page in a browser, and in print" opens_network aircraft.html "$aircraft/network.toml" "$aircraft/in"
+check "its origin" tells_its_origin aircraft.html "$aircraft"/*.toml "$aircraft"/in/*/*
+check "what is promised of a network" grep 'then in this accepted network, whatever frames the captures hold, ' aircraft.html
+cp -r "$aircraft" short && sed -i 's/^jitter_us = .*/jitter_us = 0/' short/bay.toml
+check "a network that is refused" ends_with 4 "$("$AFDX" network check short/network.toml 2>&1 | tail -n 1)" short/network.toml short/in made/page.html
+check "and unchecked" makes short.html short/network.toml short/in --unchecked
+check "is not accepted" says bad short.html '^Not accepted: afdx: network J1 Jitter, switch bay, link' 'so no bound is promised'
+check "its ways in a browser" opens_network short.html short/network.toml short/in --unchecked
+check "answers are of a table" ends_with 2 "afdx-view: --answers is for a table, and $aircraft/network.toml is of a network" \
+    "$aircraft/network.toml" "$aircraft/in" made/page.html --answers earlier
+cp -r "$aircraft" linked && ln linked/bay.toml linked/bay.html
+check "a page in a table's place" ends_with 2 "afdx-view: the page would replace linked/bay.toml, of which it is made" \
+    linked/network.toml linked/in linked/bay.html
+printf '[[switch]]\nname = "A"\ntable = "none.toml"\n' >alone.toml
+check "a network whose table is not there" ends_with 5 "afdx: device get none.toml" alone.toml "$network/in" made/page.html
+
 # recorded PAGE KIND TEXT..: the section of the recordings has a verdict of this kind, and each of these texts.
 recorded() {
     local page=$1 kind=$2 text section
@@ -221,7 +248,7 @@ check "their page in a browser" opens whole.html "$network/table.toml" "$network
 check "recordings that differ are an answer too" makes faulty.html "$network/table.toml" "$network/in" --recorded faulty --stamps free
 check "and are said to" recorded faulty.html bad 'The recordings differ' '2 missing, 2 extra'
 check "each difference in a browser, and in print" opens faulty.html "$network/table.toml" "$network/in" --recorded faulty --compare stamps=free --print
-check "the recordings' origin" tells_its_origin faulty.html "$network/table.toml" faulty
+check "the recordings' origin" tells_its_origin faulty.html "$network/table.toml" faulty/*
 check "what they were compared by" grep -q 'compare table.toml in faulty --stamps=free$' faulty.html
 check "so is that of earlier answers of compare" from_recorded_answers
 check "an option that compare refuses" ends_with 2 "afdx: usage" "$network/table.toml" "$network/in" made/page.html --recorded out --stamps begin

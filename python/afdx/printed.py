@@ -21,6 +21,12 @@ RECORDED = re.compile(r"link (?P<link>\d+) out (?P<port>\d+) passed (?P<passed>\
                       r"least (?P<least>-|\d+) greatest (?P<greatest>-|\d+) bound (?P<bound>\d+)")
 # what left at an output port that was recorded, as `afdx compare` prints it
 SEEN = re.compile(r"out (?P<port>\d+) seen (?P<seen>\d+) foreign (?P<foreign>\d+)")
+# what came in at a port of a switch, what became of a link's frames there, and of the copies at an output port, as
+# `afdx network run` prints them
+CAME = re.compile(r"(?P<switch>\S+) in (?P<port>\d+) seen (?P<seen>\d+) .*")
+POLICED = re.compile(r"(?P<switch>\S+) link (?P<link>\d+) passed (?P<passed>\d+) policed (?P<policed>\d+)")
+COPIES = re.compile(r"(?P<switch>\S+) out (?P<port>\d+) (?P<priority>high|low) offered (?P<offered>\d+) "
+                    r"full (?P<full>\d+) aged (?P<aged>\d+) sent (?P<sent>\d+)")
 # the jitter that a row needs, as `afdx network jitter` prints it
 JITTER = re.compile(r"switch (?P<switch>\S+) link (?P<link>\d+) jitter_us (?P<jitter_us>\d+)")
 # the way of a link to one of its ends, as `afdx network check` prints it

@@ -46,12 +46,15 @@ def recordings_of(parser: argparse.ArgumentParser, options: argparse.Namespace) 
 def options_of(arguments: Sequence[str]) -> argparse.Namespace:
     parser = argparse.ArgumentParser(
         prog=COMMAND,
-        description="Runs afdx over captures and makes one page of pictures of what became of the frames.",
+        description="Runs afdx over captures and makes one page of pictures of what became of the frames, at one "
+                    "switch or in a network of several.",
         epilog="The page needs nothing else, no network either. With --recorded all differences are put beside it, "
                "into OUT-differences.csv; that there are some is no failure. Exit status 0: the page was made; 2: "
                "usage; 5: a file fails or the program can't be run; else that of the program, with its line.")
-    parser.add_argument("table", metavar="TABLE", help="the configuration table")
-    parser.add_argument("folder", metavar="IN", help="the folder of the captures, port-1.pcap and so on")
+    parser.add_argument("table", metavar="TABLE", help="the configuration table, or the file of a network")
+    parser.add_argument("folder", metavar="IN",
+                        help="the folder of the captures, port-1.pcap and so on; of a network it has a folder with "
+                             "these for each switch")
     parser.add_argument("out", metavar="OUT.html", help="the page to make; its folder must be there")
     parser.add_argument("--unchecked", action="store_true",
                         help="run a table that is not accepted too; no bound is promised then")

@@ -19,9 +19,12 @@ from afdx.failure import DEVICE, USAGE, Failure, failing
 from afdx.program import Program, Progress
 from afdx.view import answers, provenance
 from afdx.view.answers import Answers
+from afdx.view.network import layout
 from afdx.view.table import Table, table_of
 
 if TYPE_CHECKING:
+    from afdx.view.network.answers import Asked, NetworkAnswers
+    from afdx.view.network.run import NetworkRun
     from afdx.view.run import Run
 
 
@@ -105,11 +108,14 @@ def run_of(program: Program, asked: Sized, folder: str) -> "Run":
         return read(answered, asked.table, False, program.progress)
 
 
+def title_of(options: argparse.Namespace) -> str:
+    return f"{provenance.shown(options.table)} over {provenance.shown(options.folder)}"
+
+
 def drawn(options: argparse.Namespace, run: "Run", origin: provenance.Provenance, progress: Progress) -> str:
     with signals.held():
         from afdx.view.page import page
-    title = f"{provenance.shown(options.table)} over {provenance.shown(options.folder)}"
-    return page(run, title, origin, progress, rows_beside(Path(options.out)).name)
+    return page(run, title_of(options), origin, progress, rows_beside(Path(options.out)).name)
 
 
 def origin_of(command: str, program: Program | None, options: argparse.Namespace, run: "Run",
@@ -164,10 +170,55 @@ def make_by_answers(command: str, options: argparse.Namespace) -> None:
     put(command, options, text, kept)
 
 
+def drawn_network(options: argparse.Namespace, run: "NetworkRun", origin: provenance.Provenance,
+                  progress: Progress) -> str:
+    with signals.held():
+        from afdx.view.network.page import page
+    return page(run, title_of(options), origin, progress)
+
+
+def read_network(asked: "Asked", answered: "NetworkAnswers", progress: Progress) -> "NetworkRun":
+    with signals.held():
+        from afdx.view.network import run
+    return run.read(asked, answered, progress)
+
+
+def make_of_network(command: str, options: argparse.Namespace) -> None:
+    """Runs the program over a network and puts the page of it."""
+    with signals.held():
+        from afdx.view.network import answers as network
+    program = Program(command)
+    asked = network.ask_size(program, options.table, options.unchecked)
+    inputs = [options.table, *map(str, asked.layout.tables.values()), *network.given(asked, options.folder)]
+    check_inputs(command, options, inputs)
+    with network.answered(program, asked, options.folder) as answered:
+        run = read_network(asked, answered, program.progress)
+        origin = provenance.provenance_of(command, program, words_of(options), list(dict.fromkeys(inputs)))
+        text = drawn_network(options, run, origin, program.progress)
+    files.put(command, Path(options.out), text.encode("utf-8", "replace"))
+
+
+def is_network(command: str, options: argparse.Namespace) -> bool:
+    """Says whether the file is of a network. What is no TOML that Python reads counts as a table: the program says what
+    is wrong with it."""
+    try:
+        answers.need_files(command, [options.table])
+        return layout.is_network(toml.read(command, Path(options.table)))
+    except Failure as failure:
+        if failure.status == USAGE:
+            raise
+        return False
+
+
 def make(command: str, options: argparse.Namespace) -> None:
     """Makes the page that the options ask for, and puts it under its name."""
     check_place(command, Path(options.out))
-    if options.answers:
+    if is_network(command, options):
+        refused = [name for name in ("answers", "recorded") if getattr(options, name)]
+        if refused:
+            raise Failure(USAGE, f"{command}: --{refused[0]} is for a table, and {options.table} is of a network")
+        make_of_network(command, options)
+    elif options.answers:
         make_by_answers(command, options)
     else:
         make_by_program(command, options)

@@ -3,6 +3,7 @@ from collections.abc import Iterator
 from dataclasses import dataclass
 from functools import partial
 from pathlib import Path
+from typing import Any
 
 from markupsafe import Markup
 
@@ -106,16 +107,25 @@ def marked(run: Run) -> list[Markup]:
             for width in (WIDE, NARROW)] if found and found.many else []
 
 
+def template(name: str) -> Any:
+    return templates.environment(Path(__file__).resolve().parent).get_template(name)
+
+
+def parts_of(run: Run, progress: Progress, depth: int = 2, mark: str = "") -> dict[str, Any]:
+    """Answers what the templates show of a run: below headings of this depth, with names that begin with the mark."""
+    first = run.fates.first
+    return {
+        "depth": depth, "mark": mark, "run": run, "first": first, "verdict": verdict_of(run),
+        "both": partial(both, first or 0), "overview": [] if first is None else overviews(run, progress),
+        "port_cards": port_cards(run), "policed_cards": policed_cards(run), "port_delays": port_delays(run, progress),
+        "with_pictures": {(pair.link, pair.port) for pair in run.drawn.shown}, "port_parts": PORT_PARTS,
+        "spells_shown": SHOWN}
+
+
 def page(run: Run, title: str, provenance: Provenance, progress: Progress, rows: str) -> str:
     """Answers the text of the page; `rows` is the name of the file that has all differences."""
-    first = run.fates.first
-    overview = [] if first is None else overviews(run, progress)
-    template = templates.environment(Path(__file__).resolve().parent).get_template("page.html")
-    text = template.render(
-        title=title, run=run, first=first, verdict=verdict_of(run), both=partial(both, first or 0), overview=overview,
-        port_cards=port_cards(run), policed_cards=policed_cards(run), port_delays=port_delays(run, progress),
-        with_pictures={(pair.link, pair.port) for pair in run.drawn.shown}, port_parts=PORT_PARTS,
-        spells_shown=SHOWN, provenance=provenance, marked=marked(run), kinds=differences.KINDS,
+    text = template("page.html").render(
+        **parts_of(run, progress), title=title, provenance=provenance, marked=marked(run), kinds=differences.KINDS,
         rows_shown=differences.SHOWN, rows_file=rows)
     progress.clear()
-    return text
+    return str(text)

@@ -19,15 +19,18 @@ SIGNS = {"missing": ("x", POLICED, -0.28), "extra": ("P", PASSED, -0.14), "early
 SECONDS = EngFormatter("s", sep=" ")
 
 
+Groups = Sequence[tuple[Ints, Floats]]  # instants and values, by place in PRIORITIES
+
+
 def plot(axes: Any, instants: Ints, values: Floats, priority: str) -> None:
     axes.plot(instants / 1e9, values, MARKS[priority], color=COLOURS[priority], markersize=4, markeredgewidth=0,
               label=priority)
 
 
-def time_axis(axes: Any, run: Run) -> None:
+def time_axis(axes: Any, span: int) -> None:
     rule(axes)
     axes.xaxis.set_major_formatter(SECONDS)
-    axes.set_xlim(-0.01 * run.span / 1e9, 1.01 * run.span / 1e9)
+    axes.set_xlim(-0.01 * span / 1e9, 1.01 * span / 1e9)
 
 
 def policing(axes: Any, run: Run) -> None:
@@ -48,21 +51,20 @@ def policing(axes: Any, run: Run) -> None:
     axes.grid(axis="y", visible=False)
 
 
-def shares(axes: Any, run: Run) -> None:
+def shares(axes: Any, groups: Groups, checked: bool) -> None:
     """Draws which part of its bound each copy took; if none is promised, its delay."""
-    scale = 1.0 if run.checked else 1e9
+    scale = 1.0 if checked else 1e9
     greatest = 0.0
-    for group, priority in enumerate(PRIORITIES):
-        instants, values = run.drawn.run.points(group)
+    for priority, (instants, values) in zip(PRIORITIES, groups, strict=True):
         greatest = max(greatest, values.max(initial=0) / scale)
         plot(axes, instants, values / scale, priority)
-    if run.checked:
+    if checked:
         axes.axhline(1, color=INK, linewidth=1.4, linestyle=(0, (5, 3)), label="bound")
         axes.yaxis.set_major_formatter(PercentFormatter(1, decimals=0))
     else:
         axes.yaxis.set_major_formatter(SECONDS)
-    axes.set_ylim(0, 1.05 if run.checked else 1.25 * max(greatest, 1e-9))
-    head(axes, "Delays, against their bounds" if run.checked else "Delays; no bound is promised")
+    axes.set_ylim(0, 1.05 if checked else 1.25 * max(greatest, 1e-9))
+    head(axes, "Delays, against their bounds" if checked else "Delays; no bound is promised")
 
 
 def panel(figure: Any, bottom: float, height: float) -> Any:
@@ -96,13 +98,13 @@ def overview(run: Run, width: float) -> Any:
     below = panel(figure, 0.3, 1.9)
     grid = [panel(figure, 2.85, rows), below] if links else [below]
     for axes in grid:
-        time_axis(axes, run)
+        time_axis(axes, run.span)
     shade(grid, run.policed.cover.ranges())
     if links:
         policing(grid[0], run)
     if sum(run.policed.spells[link].count for link in links) == 1:
         name_babbler(below, run)
-    shares(below, run)
+    shares(below, [run.drawn.run.points(group) for group in range(len(PRIORITIES))], run.checked)
     return figure
 
 
@@ -110,7 +112,7 @@ def port_delays(run: Run, port: int) -> Any:
     """Draws the delays of all that left a port, high and low, with their bounds."""
     figure = Figure(figsize=(4.5, 2.7), layout="constrained")
     axes = figure.subplots()
-    time_axis(axes, run)
+    time_axis(axes, run.span)
     axes.locator_params(axis="x", nbins=4)
     bounds = {pair.priority: pair.bound for pair in run.pairs if pair.port == port}
     for priority, colour in COLOURS.items():

@@ -1,5 +1,6 @@
 """Puts together what the page shows of a run."""
 from dataclasses import dataclass
+from typing import Protocol, TypeVar
 
 from afdx import printed
 from afdx.program import Progress
@@ -17,6 +18,19 @@ STRIPS = 20_000  # the most strips; those nearest to their bounds if there are m
 STRIP_PARTS = (24, 240)  # the least and the most parts of the time in a strip
 PORT_PARTS = 300  # of the picture of a port
 RUN_PARTS = 600  # of the picture of the run
+
+
+class Sender(Protocol):
+    """Is what a strip is of: what sent so many frames, with their greatest delay."""
+    sent: int
+    greatest: int | None
+
+    @property
+    def share(self) -> float | None:
+        """Answers which part of its bound the greatest delay took."""
+
+
+Timed = TypeVar("Timed", bound=Sender)
 
 
 @dataclass
@@ -41,14 +55,21 @@ class Run:
         return all(need["breaks"] == "-" for need in self.needs)
 
 
-def shown_of(pairs: list[Pair], checked: bool) -> list[Pair]:
-    """Answers the pairs that have a picture: those that sent, or of very many those nearest to their bounds."""
-    sent = [pair for pair in pairs if pair.sent]
-    if len(sent) <= STRIPS:
+def shown_of(pairs: list[Timed], checked: bool, runs: int) -> list[Timed]:
+    """Answers the pairs that have a picture: those that sent, or of very many those nearest to their bounds. So many
+    runs share the room of a page."""
+    sent, strips = [pair for pair in pairs if pair.sent], STRIPS // runs
+    if len(sent) <= strips:
         return sent
-    nearest = sorted(sent, key=lambda pair: -((pair.share if checked else pair.greatest) or 0))[:STRIPS]
+    nearest = sorted(sent, key=lambda pair: -((pair.share if checked else pair.greatest) or 0))[:strips]
     chosen = {id(pair) for pair in nearest}
     return [pair for pair in sent if id(pair) in chosen]
+
+
+def parts_of(strips: int, runs: int) -> int:
+    """Answers into how many parts the time is cut in so many strips, where so many runs share the room of a page."""
+    least, most = STRIP_PARTS
+    return max(least, min(most, POINTS // runs // max(1, strips)))
 
 
 def drawn_of(pairs: list[Pair], shown: list[Pair], parts: int, span: int) -> Drawn:
@@ -61,13 +82,16 @@ def drawn_of(pairs: list[Pair], shown: list[Pair], parts: int, span: int) -> Dra
 def read(answers: Answers, table: Table, checked: bool, progress: Progress) -> Run:
     """Reads a run. KeyError or ValueError is raised if the answers are not of this table."""
     progress.say("reading")
-    fates = read_fates(answers.arrivals)
+    return run_of(answers, table, checked, read_fates(answers.arrivals))
+
+
+def run_of(answers: Answers, table: Table, checked: bool, fates: Fates, runs: int = 1) -> Run:
+    """Reads the rest of a run, one of so many on a page."""
     pairs = pairs_of(answers.measured, table, fates)
     if checked and any(pair.bound is None for pair in pairs):
         raise ValueError("no bound in the answers of a checked run")
-    shown = shown_of(pairs, checked)
-    least, most = STRIP_PARTS
-    parts = max(least, min(most, POINTS // max(1, len(shown) + len(fates.policed_links()))))
+    shown = shown_of(pairs, checked, runs)
+    parts = parts_of(len(shown) + len(fates.policed_links()), runs)
     policed = read_policed(answers.arrivals, table, fates, parts)
     drawn = drawn_of(pairs, shown, parts, fates.span())
     if fates.first is not None:

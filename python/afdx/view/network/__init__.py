@@ -1,0 +1,1 @@
+"""Makes one page of pictures of a run of a network."""

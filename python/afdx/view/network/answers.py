@@ -1,0 +1,133 @@
+"""Asks the program of a run of a network, and of each of its switches.
+
+What came in over a wire is what left at its start, the wire's delay later: so once the network has run, there are the
+captures of all ports of each switch, and of these `trace` and `measure` tell what became of each frame there.
+"""
+import os
+import tempfile
+from collections.abc import Iterator
+from contextlib import contextmanager
+from dataclasses import dataclass
+from pathlib import Path
+
+from afdx import toml
+from afdx.failure import INPUT, Failure, failing
+from afdx.program import Program
+from afdx.recordings.columns import SECOND, are_stamps, at_any
+from afdx.recordings.reading import Recording
+from afdx.recordings.walking import RECORD
+from afdx.view.answers import Answers
+from afdx.view.network.layout import Layout, Port, layout_of
+from afdx.view.table import Table, table_of
+
+
+@dataclass(frozen=True)
+class Asked:
+    """A network file that the program has read, with its tables, and what it printed of both."""
+    name: str
+    checked: bool
+    said: str  # by `check`; nothing if the network is refused
+    refused: list[str]  # the lines of the refusal
+    sizes: dict[str, str]  # what `size` printed, by switch
+    layout: Layout
+    tables: dict[str, Table]
+
+
+@dataclass(frozen=True)
+class NetworkAnswers:
+    """What `run` printed of a network, and of each switch what its table says, `trace` and `measure`."""
+    report: str
+    switches: dict[str, Answers]
+
+
+def sizes_of(said: str) -> dict[str, str]:
+    """Answers the lines of each switch, as `size` prints them of its table."""
+    sizes: dict[str, list[str]] = {}
+    for line in said.splitlines():
+        own, _, switch = line.rpartition(", switch ")
+        sizes.setdefault(switch, []).append(f"{own}\n")
+    return {switch: "".join(lines) for switch, lines in sizes.items()}
+
+
+def ask_size(program: Program, name: str, unchecked: bool) -> Asked:
+    """Has the program check a network. One that is refused ends the command, unless it is to run unchecked."""
+    if not unchecked:
+        said, refused = program.answer("network", "check", name), []
+    else:
+        answer = program.ask("network", "check", name)
+        said, refused = answer.said, answer.line.splitlines() if answer.status else []
+    sizes = sizes_of(program.answer("network", "size", name))
+    layout = layout_of(toml.read(program.progress.command, Path(name)), Path(name).parent)
+    tables = {switch: table_of(toml.read(program.progress.command, path)) for switch, path in layout.tables.items()}
+    return Asked(name, not unchecked, said, refused, {switch: sizes.get(switch, "") for switch in tables}, layout,
+                 tables)
+
+
+def capture(folder: Path | str, port: Port) -> str:
+    """Names the capture of a port of a network."""
+    return f"{folder}/{port.switch}/port-{port.number}.pcap"
+
+
+def given(asked: Asked, folder: str) -> list[str]:
+    """Names the captures of the ports of end systems."""
+    wired = asked.layout.into()
+    ports = [Port(switch, number) for switch, table in asked.tables.items() for number in table.ports]
+    return [capture(folder, port) for port in ports if port not in wired]
+
+
+def delay(command: str, start: Path, end: Path, nanoseconds: int) -> None:
+    """Writes a capture that the program has put once more, so much later."""
+    try:
+        with end.open("xb") as file:
+            file.write(start.open("rb").read(24))
+            for batch in Recording(start, start.name).batches():
+                if not len(batch.stamp):
+                    continue
+                stamps, at = batch.stamp + nanoseconds, batch.start - RECORD
+                if not are_stamps(stamps):
+                    raise Failure(INPUT, f"{command}: a frame goes over a wire in the last second that stamps have")
+                text = bytearray(batch.data)
+                words = at_any(memoryview(text), "<u4")
+                words[at], words[at + 4] = stamps // SECOND, stamps % SECOND
+                file.write(memoryview(text)[int(at[0]):int(batch.start[-1] + batch.captured[-1])])
+    except OSError as error:
+        raise failing(command, f"cannot write {end.name}", error) from error
+
+
+def gather(command: str, asked: Asked, switch: str, folder: str, room: Path) -> Path:
+    """Answers a folder with the captures of all ports of a switch, once the network has run into the room."""
+    came, wired = room / "in" / switch, asked.layout.into()
+    came.mkdir(parents=True)
+    for number in asked.tables[switch].ports:
+        end, port = came / f"port-{number}.pcap", Port(switch, number)
+        wire = wired.get(port)
+        if wire is None:
+            end.symlink_to(os.path.abspath(capture(folder, port)))
+        elif wire.delay == 0:
+            end.symlink_to(capture(room / "out", wire.start))
+        else:
+            delay(command, Path(capture(room / "out", wire.start)), end, wire.delay)
+    return came
+
+
+def ask_switch(program: Program, asked: Asked, switch: str, folder: str, room: Path) -> Answers:
+    """Has the program say what became of the frames at a switch."""
+    came = gather(program.progress.command, asked, switch, folder, room)
+    traced, table = room / "traced" / switch, asked.layout.tables[switch]
+    options = [] if asked.checked else ["--unchecked"]
+    traced.mkdir(parents=True)
+    program.answer("trace", table, came, traced, *options)
+    return Answers(asked.sizes[switch], program.answer("measure", table, came, *options), traced)
+
+
+@contextmanager
+def answered(program: Program, asked: Asked, folder: str) -> Iterator[NetworkAnswers]:
+    """Runs the program over a network and a folder of captures; the answers are there for the time of the context."""
+    options = [] if asked.checked else ["--unchecked"]
+    with tempfile.TemporaryDirectory(prefix=f"{program.progress.command}-") as name:
+        room = Path(name)
+        for switch in asked.tables:
+            (room / "out" / switch).mkdir(parents=True)
+        report = program.answer("network", "run", asked.name, folder, room / "out", *options)
+        yield NetworkAnswers(report, {switch: ask_switch(program, asked, switch, folder, room)
+                                      for switch in asked.tables})

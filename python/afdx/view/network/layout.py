@@ -1,0 +1,54 @@
+"""Keeps what the page needs to know of a network file."""
+from dataclasses import dataclass
+from pathlib import Path
+from typing import Any
+
+
+@dataclass(frozen=True, order=True)
+class Port:
+    switch: str
+    number: int
+
+    def __str__(self) -> str:
+        return f"{self.switch}.{self.number}"
+
+
+def port_of(text: str) -> Port:
+    """Answers the port of a text such as `A.3`."""
+    switch, _, number = text.partition(".")
+    return Port(switch, int(number))
+
+
+@dataclass(frozen=True)
+class Wire:
+    start: Port
+    end: Port
+    delay: int  # ns
+
+
+@dataclass(frozen=True)
+class Layout:
+    tables: dict[str, Path]  # of each switch the file of its table, in the order of the network file
+    wires: list[Wire]
+
+    def into(self) -> dict[Port, Wire]:
+        """Answers the wire to each ingress port that has one."""
+        return {wire.end: wire for wire in self.wires}
+
+    def out_of(self) -> dict[Port, Wire]:
+        """Answers the wire from each output port that has one."""
+        return {wire.start: wire for wire in self.wires}
+
+
+def is_network(content: dict[str, Any]) -> bool:
+    """Says whether a text is a network file and not a table: it alone has switches."""
+    return "switch" in content
+
+
+def layout_of(content: dict[str, Any], folder: Path) -> Layout:
+    """Answers the network of a text that the program has accepted as one, in a file of this folder; of another text
+    KeyError, TypeError, ValueError or AttributeError may be raised."""
+    tables = {str(row["name"]): folder / str(row["table"]) for row in content["switch"]}
+    wires = [Wire(port_of(row["from"]), port_of(row["to"]), int(row.get("delay_ns", 0)))
+             for row in content.get("wire", [])]
+    return Layout(tables, wires)

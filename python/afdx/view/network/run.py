@@ -1,0 +1,118 @@
+"""Puts together what the page shows of a run of a network."""
+from collections import Counter
+from dataclasses import dataclass
+
+from afdx import printed
+from afdx.program import Progress
+from afdx.view.arrivals import Fates, read_fates
+from afdx.view.network import following, ways
+from afdx.view.network.answers import Asked, NetworkAnswers
+from afdx.view.network.layout import Port, Wire
+from afdx.view.network.ways import DrawnWays, Way
+from afdx.view.run import Run, run_of
+
+
+@dataclass(frozen=True)
+class Load:
+    """What the links ask of an output port, and what it carried."""
+    port: Port
+    wire: Wire | None
+    rate: int  # parts of `limit`
+    limit: int
+    buffer: int  # bytes, as `has` and `held`
+    has: int
+    held: int  # the most in this run
+    sent: int
+
+    @property
+    def share(self) -> float:
+        return self.rate / self.limit
+
+
+@dataclass(frozen=True)
+class Totals:
+    """Counts over a whole network."""
+    frames: int  # from end systems
+    sent: int  # copies to end systems
+    lost: int  # at all switches
+    policed: int
+
+
+@dataclass(frozen=True)
+class NetworkRun:
+    """Instants are ns after the first frame's stamp."""
+    asked: Asked
+    totals: Totals
+    runs: dict[str, Run]
+    loads: list[Load]  # of all output ports to which links lead
+    ways: list[Way]
+    drawn: DrawnWays
+    first: int | None  # the first frame's stamp
+    span: int
+
+
+def totals_of(asked: Asked, report: str) -> Totals:
+    into, out_of = asked.layout.into(), asked.layout.out_of()
+    came, copies = printed.lines_of(printed.CAME, report), printed.lines_of(printed.COPIES, report)
+    frames = sum(int(line["seen"]) for line in came if Port(line["switch"], int(line["port"])) not in into)
+    sent = sum(int(line["sent"]) for line in copies if Port(line["switch"], int(line["port"])) not in out_of)
+    lost = sum(int(line["full"]) + int(line["aged"]) for line in copies)
+    policed = sum(int(line["policed"]) for line in printed.lines_of(printed.POLICED, report))
+    return Totals(frames, sent, lost, policed)
+
+
+def loads_of(asked: Asked, runs: dict[str, Run], report: str) -> list[Load]:
+    """Answers the loads of the ports that have links, in the order of the network file."""
+    sent: Counter[Port] = Counter()
+    for line in printed.lines_of(printed.COPIES, report):
+        sent[Port(line["switch"], int(line["port"]))] += int(line["sent"])
+    wired, loads = asked.layout.out_of(), []
+    for switch, run in runs.items():
+        held = {line["port"]: int(line["occupied"]) for line in run.occupied}
+        for need in run.needs:
+            port = Port(switch, int(need["port"]))
+            rate, limit, buffer, has = (int(need[name]) for name in ("rate", "rate_limit", "buffer", "buffer_limit"))
+            loads.append(Load(port, wired.get(port), rate, limit, buffer, has, held[need["port"]], sent[port]))
+    return loads
+
+
+def share_time(fates: dict[str, Fates]) -> tuple[int | None, int]:
+    """Has all switches count from the network's first frame to its last; answers its stamp, and the time between."""
+    own = [one for one in fates.values() if one.first is not None]
+    first = min((one.first for one in own if one.first is not None), default=None)
+    last = max((one.last for one in own if one.last is not None), default=None)
+    for one in own:
+        one.first, one.last = first, last
+    return first, own[0].span() if own else 1
+
+
+def count_policed(found: list[Way], report: str) -> None:
+    """Tells each way what became of its link's frames at the first switch."""
+    lines = {(line["switch"], int(line["link"])): line for line in printed.lines_of(printed.POLICED, report)}
+    for way in found:
+        line = lines[way.start.switch, way.link]
+        way.passed, way.policed = int(line["passed"]), int(line["policed"])
+
+
+def read(asked: Asked, answers: NetworkAnswers, progress: Progress) -> NetworkRun:
+    """Reads a run of a network. KeyError or ValueError is raised if the answers do not fit together."""
+    fates = {}
+    for switch, own in answers.switches.items():
+        progress.say(f"reading what came to {switch}")
+        fates[switch] = read_fates(own.arrivals)
+    (first, span), many = share_time(fates), len(fates) + 1
+    runs = {}
+    for switch, own in answers.switches.items():
+        progress.say(f"reading what left {switch}")
+        runs[switch] = run_of(own, asked.tables[switch], asked.checked, fates[switch], many)
+    progress.say("following frames")
+    frames = following.frames_of(answers)
+    origins = following.origins_of(answers, asked.layout, frames)
+    measured = ways.measured_of(following.delivered(answers, asked.layout, frames, origins))
+    found = ways.ways_of(asked, frames, measured)
+    count_policed(found, answers.report)
+    drawing = ways.Drawing(found, frames, asked.checked, first or 0, span, many)
+    for copies in following.delivered(answers, asked.layout, frames, origins):
+        drawing.add(copies)
+    return NetworkRun(asked, totals_of(asked, answers.report), runs, loads_of(asked, runs, answers.report), found,
+                      drawing.drawn, first, span)

@@ -1,0 +1,114 @@
+"""Answers of the program to a run of a network of two switches, written by hand.
+
+Link 10 comes in at A.1, and goes over the wire from A.2 to B.1 to B.2; A polices one of its frames. Link 11 comes in at
+B.3 and goes back, over the wire from B.1 to A.2, to A.1. Link 12 comes in at B.3 too and leaves at B.2.
+"""
+from pathlib import Path
+
+from afdx.program import Progress
+from afdx.view.answers import Answers
+from afdx.view.network import run
+from afdx.view.network.answers import Asked, NetworkAnswers
+from afdx.view.network.layout import Layout, Port, Wire
+from afdx.view.network.run import NetworkRun
+from afdx.view.table import Link, Table
+
+FIRST = 1_768_471_200_000_000_000
+WIRES = [Wire(Port("A", 2), Port("B", 1), 100), Wire(Port("B", 1), Port("A", 2), 0)]
+LAYOUT = Layout({"A": Path("a.toml"), "B": Path("b.toml")}, WIRES)
+TABLES = {"A": Table(0, [1, 2], {10: Link(1_000_000, "high"), 11: Link(2_000_000, "low")}),
+          "B": Table(0, [1, 2, 3], {10: Link(1_000_000, "low"), 11: Link(2_000_000, "low"),
+                                    12: Link(2_000_000, "high")})}
+CHECK = """switch A accepted
+switch B accepted
+link 10 from A.1 to B.2 ways A.2 B.2 least 200 most 1000 jitter 0 1
+link 11 from B.3 to A.1 ways B.1 A.1 least 200 most 500 jitter 0 2
+link 12 from B.3 to B.2 ways B.2 least 100 most 400 jitter 0
+greatest 1000 link 10 to B.2
+accepted
+"""
+SIZE = """port 1 rate 20 of 200 buffer 100 of 200 high - low 250 of 1000 fits, switch A
+port 2 rate 50 of 200 buffer 100 of 200 high 250 of 1000 low - fits, switch A
+port 1 rate 20 of 200 buffer 100 of 200 high - low 250 of 1000 fits, switch B
+port 2 rate 190 of 200 buffer 100 of 200 high 250 of 1000 low 900 of 1000 fits, switch B
+"""
+REPORT = """A in 1 seen 3 cut 0 short 0 long 0 foreign 0 no-link 0 wrong-port 0 too-big 0 clean 3
+A in 2 seen 1 cut 0 short 0 long 0 foreign 0 no-link 0 wrong-port 0 too-big 0 clean 1
+A link 10 passed 2 policed 1
+A link 11 passed 1 policed 0
+A out 1 high offered 0 full 0 aged 0 sent 0
+A out 1 low offered 1 full 0 aged 0 sent 1
+A out 2 high offered 2 full 0 aged 0 sent 2
+A out 2 low offered 0 full 0 aged 0 sent 0
+B in 1 seen 2 cut 0 short 0 long 0 foreign 0 no-link 0 wrong-port 0 too-big 0 clean 2
+B in 2 seen 0 cut 0 short 0 long 0 foreign 0 no-link 0 wrong-port 0 too-big 0 clean 0
+B in 3 seen 3 cut 0 short 0 long 0 foreign 1 no-link 0 wrong-port 0 too-big 0 clean 2
+B link 10 passed 2 policed 0
+B link 11 passed 1 policed 0
+B link 12 passed 1 policed 0
+B out 1 high offered 0 full 0 aged 0 sent 0
+B out 1 low offered 1 full 0 aged 0 sent 1
+B out 2 high offered 1 full 0 aged 0 sent 1
+B out 2 low offered 2 full 0 aged 0 sent 2
+B out 3 high offered 0 full 0 aged 0 sent 0
+B out 3 low offered 0 full 0 aged 0 sent 0
+"""
+Came = tuple[int, int, int, int | str, str, str]  # port, record, stamp, link, fate, early
+Left = tuple[int, int, int, int, str, int, int]  # port, record, frame, link, priority, came, left
+# of each switch what measure and trace say; stamps are given after FIRST
+MEASURED = {
+    "A": """link 10 out 2 sent 2 least 200 greatest 210 bound 250
+link 11 out 1 sent 1 least 100 greatest 100 bound 250
+out 1 occupied 64 of 200 at 1768471200000005200
+out 2 occupied 64 of 200 at 1768471200000000000
+""",
+    "B": """link 10 out 2 sent 2 least 300 greatest 310 bound 900
+link 11 out 1 sent 1 least 200 greatest 200 bound 250
+link 12 out 2 sent 1 least 100 greatest 100 bound 250
+out 1 occupied 64 of 200 at 1768471200000005000
+out 2 occupied 128 of 200 at 1768471200000000300
+"""}
+ARRIVALS: dict[str, list[Came]] = {
+    "A": [(1, 1, 0, 10, "passed", ""), (1, 2, 400, 10, "policed", "999600"), (2, 1, 5200, 11, "passed", ""),
+          (1, 3, 1_000_000, 10, "passed", "")],
+    "B": [(1, 1, 300, 10, "passed", ""), (3, 1, 400, 12, "passed", ""), (3, 2, 450, "", "foreign", ""),
+          (3, 3, 5000, 11, "passed", ""), (1, 2, 1_000_310, 10, "passed", "")]}
+DEPARTURES: dict[str, list[Left]] = {
+    "A": [(1, 1, 2, 11, "low", 5200, 5300), (2, 1, 0, 10, "high", 0, 200), (2, 2, 3, 10, "high", 1_000_000, 1_000_210)],
+    "B": [(1, 1, 3, 11, "low", 5000, 5200), (2, 1, 1, 12, "high", 400, 500), (2, 2, 0, 10, "low", 300, 610),
+          (2, 3, 4, 10, "low", 1_000_310, 1_000_610)]}
+
+
+def arrivals_of(switch: str) -> str:
+    rows = [f"{frame},{port},{record},{FIRST + at},64,{link},{fate},{early},"
+            for frame, (port, record, at, link, fate, early) in enumerate(ARRIVALS[switch])]
+    return "\n".join(["frame,port,record,stamp,size,link,fate,early,full", *rows, ""])
+
+
+def departures_of(switch: str) -> str:
+    rows = [f"{port},{record},{frame},{link},{priority},64,{FIRST + came},0,{FIRST + left},{left - came},sent"
+            for port, record, frame, link, priority, came, left in DEPARTURES[switch]]
+    return "\n".join(["port,record,frame,link,priority,size,came,start,left,delay,outcome", *rows, ""])
+
+
+def asked(checked: bool = True, said: str = CHECK, refused: tuple[str, ...] = ()) -> Asked:
+    sizes = {switch: "".join(line.removesuffix(f", switch {switch}") + "\n" for line in SIZE.splitlines()
+                             if line.endswith(f" {switch}")) for switch in TABLES}
+    return Asked("net.toml", checked, said, list(refused), sizes, LAYOUT, TABLES)
+
+
+def answers(folder: Path) -> NetworkAnswers:
+    """Puts the files of `trace` into the folder."""
+    switches = {}
+    for switch in TABLES:
+        own = folder / switch
+        own.mkdir()
+        (own / "arrivals.csv").write_text(arrivals_of(switch))
+        (own / "departures.csv").write_text(departures_of(switch))
+        switches[switch] = Answers(asked().sizes[switch], MEASURED[switch], own)
+    return NetworkAnswers(REPORT, switches)
+
+
+def read(folder: Path, what: Asked | None = None) -> NetworkRun:
+    """Reads the answers that are put into the folder."""
+    return run.read(what or asked(), answers(folder), Progress("test"))
