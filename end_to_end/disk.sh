@@ -118,6 +118,22 @@ limit_is_kept() {
     leaves 5 "$put_2" 0 bash -c 'ulimit -c 0 -f 8 && exec "$@"' -
 }
 
+# few_open_files: with so few files that may be open that a run ends for it, a line says which it lacked and nothing is replaced; with
+# one more all is.
+few_open_files() {
+    local files=5 status=5
+    while [ "$status" -ne 0 ] && [ "$files" -lt 40 ]; do
+        files=$((files + 1))
+        again && run_over in out bash -c "ulimit -n $files && exec \"\$@\"" -
+        status=$(cat status.txt)
+        echo "$files files: status $status"
+        [ "$status" -eq 0 ] && continue
+        grep -xE 'afdx: device (get (table\.toml|in/port-[12]\.pcap)|put out/port-[12]\.pcap)' said.txt && [ "$status" -eq 5 ] && are_there 0 ||
+            return 1
+    done
+    [ "$files" -gt 6 ] && said 0 "" && are_there 2
+}
+
 redirected() { # redirected REDIRECTION ARGUMENT..
     local redirection=$1
     shift
@@ -382,5 +398,6 @@ check "the program is ended at each call in turn" each_kill
 check "another run puts into OUT" another_puts
 check "another run has the new file" another_writes
 check "two runs at once" two_runs
+check "few open files" few_open_files
 check "a stack of 128 KiB" leaves 0 "" 2 bash -c 'ulimit -s 128 && exec "$@"' -
 finish
