@@ -9,7 +9,8 @@ import pytest
 
 from afdx import modules, program
 from afdx.failure import DEVICE, USAGE, Failure
-from afdx.view import answers, command, making, provenance
+from afdx.view import answers, command, making, page, provenance
+from afdx.view.table import Link, Table
 from tests import answered
 
 TABLE = """latency_us = 5
@@ -121,6 +122,23 @@ def test_a_page_of_no_frames(folder: Path) -> None:
     page = (folder / "page.html").read_text()
     assert "<b>No frame came in.</b>" in page
     assert "1970" not in page
+
+
+def test_very_many_spells(tmp_path: Path) -> None:
+    """Of twelve links that are policed each 200 ms, 60,000 times, what is drawn and listed does not grow with them."""
+    table = Table(0, [1], {link: Link(1_000_000, "low") for link in range(12)})
+    stamps = [(link, answered.FIRST + 200_000_000 * spell + link) for spell in range(5000) for link in range(12)]
+    rows = [f"{frame},1,{frame + 1},{stamp},64,{link},policed,100," for frame, (link, stamp) in enumerate(stamps)]
+    arrivals = "\n".join([answered.ARRIVALS.splitlines()[0], *rows, ""])
+    size = "port 1 rate 10 of 2048000000 buffer 100 of 200 high - low 500 of 1000 fits\n"
+    nothing_left = answered.DEPARTURES.splitlines()[0]
+    answered.put_answers(tmp_path, size, "out 1 occupied 0 of 200 at -\n", arrivals, nothing_left)
+    run = answered.read(tmp_path, table)
+    assert [run.policed.spells[link].count for link in range(12)] == [5000] * 12
+    nowhere = provenance.Provenance([], [], "", "", "")
+    text = page.page(run, "", nowhere, program.Progress("test"), "")
+    assert len(text) < 1_000_000
+    assert text.count(".. and 4,992 spells more") == 12
 
 
 def test_names_are_text_of_the_page(folder: Path) -> None:
