@@ -1,0 +1,5 @@
+pub mod Cutting
+pub mod Fitting
+pub mod Narrowing
+pub mod Spans
+pub mod Surplus
