@@ -22,7 +22,7 @@ use Rattle.afdx_core.specs.Merge.{Capture}
 use Rattle.afdx_session.specs.Headline.{own_records, records_for}
 use Rattle.afdx_grouping.specs.Scatter.{scattered}
 
--- what is known of a link's account where the recordings begin
+-- what is known of a link's account at the instant from which on its frames count
 abbrev pub levels_since : Terms → ℕ → Option ℕ → Levels
 levels_since terms tolerance None = at_rest terms tolerance
 levels_since terms tolerance (Some since) = unknown terms tolerance since
@@ -54,7 +54,7 @@ IsKeptAt w t read p out l fates =
 
 -- what was recorded at these ports of the table, where these captures came in
 pub record IsKeptWithin (w : Watch) (t : Content) (ports : List PortRow) (read : List Capture) (out : PortRow → List Record) : Type 0 where
-  -- what each link's account did with its frames, the same at all ports: one level where the recordings begin explains it
+  -- what each link's account did with its frames, the same at all ports: one level where its frames begin to count explains it
   pub fates : Link → List Bool
   pub are_allowed : (l : Link) → Contains t.links l → Allowed (terms_of l) w.tolerance (levels_of w l) (map frame_of (own_within w t l read)) (fates l)
   -- for a link that leads to a port what left is what its account passed, one by one, in order and within the bounds
