@@ -1,6 +1,6 @@
 //! A switch that lets go of what has left it, and notes on the way what is asked of its run.
 
-ghost use Rattle.std.specs.Prelude.{◌≡◌, ℕ, ◌<◌, ◌≤◌, true, false, slice_get, Some, None, IfOk, IfErr, OnOk, OnErr, IfSome, IsTrue, MatchOption};
+ghost use Rattle.std.specs.Prelude.{◌≡◌, ℕ, ◌-◌, ◌<◌, ◌≤◌, true, false, length, slice_get, Some, None, IfOk, IfErr, OnOk, OnErr, IfSome, IsTrue, MatchOption};
 ghost use Rattle.afdx_units.specs.Time.{last_second};
 ghost use Rattle.afdx_table.specs.declared.rows.PortRow.{PortRow};
 ghost use Rattle.afdx_table.specs.Link.{Link};
@@ -13,6 +13,7 @@ ghost use Rattle.afdx_core.specs.Isolation.{IsRun, IsIsolatedRun};
 ghost use Rattle.afdx_core.specs.Held.{held_count, Keeps, IsTaken, IsRefused, IsAppended};
 ghost use Rattle.afdx_measure.specs.Delays.{delays_of, summary_of};
 ghost use Rattle.afdx_measure.specs.Ports.{peak_at};
+ghost use Rattle.afdx_measure.specs.Policing.{spells_in, stamp_at};
 ghost use Rattle.afdx_measure.specs.Handed.{AllHandedOut};
 ghost use Rattle.afdx_measure.specs.Inner.Arriving.{HasArrived};
 ghost use Rattle.afdx_measure.specs.Inner.Gauged.{AgreesWith, IsOfPort};
@@ -28,6 +29,7 @@ use afdx_core::{CoreFault, Done, Relay, Relayed, Step};
 use afdx_load::Cleared;
 use afdx_pcap::Record;
 use afdx_port::Sent;
+use afdx_spells::Spell;
 use afdx_table::Table;
 use afdx_table::laws::ports_are_distinct;
 use afdx_units::{Stamp, size};
@@ -467,5 +469,42 @@ impl<'a, A: Allocator + Copy> Measures<'a, A> {
         ensures { (p : PortRow) → port_row self.now.run.table port ≡ Some p → result ≡ peak_at self.now.run p }
     {
         self.at(port)?.peak
+    }
+}
+
+impl<'a, A: Allocator + Copy> Survey<'a, A> {
+    /// What was noted at the ports. O(1).
+    pub fn measures(&self) -> &Measures<'a, A>
+        ensures { result.now ≡ self.now }
+    {
+        &self.measures
+    }
+
+    /// The spells in which the link at a place of the table was policed, in order. O(1).
+    pub fn spells_at(&self, place: usize) -> &[Spell]
+        ensures { (l : Link) → slice_get self.now.run.table.links place ≡ Some l → result.now ≡ spells_in self.now.run l }
+    {
+        self.policing.spells_at(place)
+    }
+
+    /// How many frames came. O(1).
+    pub fn frames(&self) -> usize
+        ensures { result ≡ length self.now.run.rows }
+    {
+        self.policing.span().count()
+    }
+
+    /// The stamp of the first of them, if there is one. O(1).
+    pub fn first(&self) -> Option<Stamp>
+        ensures { result ≡ stamp_at 0 self.now.run.rows }
+    {
+        self.policing.span().first()
+    }
+
+    /// That of the last. O(1).
+    pub fn last(&self) -> Option<Stamp>
+        ensures { result ≡ stamp_at (length self.now.run.rows - 1) self.now.run.rows }
+    {
+        self.policing.span().last()
     }
 }

@@ -1,12 +1,12 @@
 //! When links were policed, and when frames came at all.
 
-ghost use Rattle.std.specs.Prelude.{◌≡◌, ◌<◌, ◌≤◌, ◌++◌, length, flat_map, slice_get, Some, string_bytes, IfOk, OnOk};
+ghost use Rattle.std.specs.Prelude.{◌≡◌, ◌-◌, ◌<◌, ◌≤◌, ◌++◌, length, flat_map, slice_get, Some, string_bytes, IfOk, OnOk};
 ghost use Rattle.afdx_table.specs.Link.{Link};
 ghost use Rattle.afdx_table.specs.WellFormed.{IsWellFormed};
 ghost use Rattle.afdx_spells.specs.Lines.{spell_line};
 ghost use Rattle.afdx_core.specs.declared.step.Row.{Row as Arrived};
 ghost use Rattle.afdx_core.specs.State.{Run, fresh_run};
-ghost use Rattle.afdx_measure.specs.Policing.{spell_lines, span_line};
+ghost use Rattle.afdx_measure.specs.Policing.{spells_in, spell_lines, span_line, stamp_at};
 ghost use Rattle.afdx_measure.specs.Inner.Arriving.{HasArrived};
 ghost use Rattle.afdx_measure.specs.Inner.Policed.{HaveSpells, IsPoliced, IsNotedAt, EndsAre, with_arrival};
 
@@ -26,6 +26,33 @@ pub(crate) struct Span {
 }
 
 impl Span {
+    /// How many frames came.
+    pub(crate) fn count(self) -> usize
+        ensures { result ≡ self.count }
+    {
+        self.count
+    }
+
+    /// The stamp of the first.
+    pub(crate) fn first(self) -> Option<Stamp>
+        ensures { (r : Run) → EndsAre self.ends r → result ≡ stamp_at 0 r.rows }
+    {
+        match self.ends {
+            Some((first, _)) => Some(first),
+            None => None,
+        }
+    }
+
+    /// The stamp of the last.
+    pub(crate) fn last(self) -> Option<Stamp>
+        ensures { (r : Run) → EndsAre self.ends r → result ≡ stamp_at (length r.rows - 1) r.rows }
+    {
+        match self.ends {
+            Some((_, last)) => Some(last),
+            None => None,
+        }
+    }
+
     /// The same with one frame more, which came after so many others.
     ///
     /// An error says that there would be more than 2^64 - 1.
@@ -135,6 +162,17 @@ impl<A: Allocator + Copy> Policing<A> {
         self.span
     }
 
+    /// The spells of the link at a place.
+    pub(crate) fn spells_at(&self, place: usize) -> &[Spell]
+        ensures { (r : Run) (l : Link) → IsPoliced r self.now → slice_get r.table.links place ≡ Some l → result.now ≡ spells_in r l }
+    {
+        if place < self.spells.len() {
+            self.spells[place].as_slice()
+        } else {
+            &[]
+        }
+    }
+
     /// Appends the lines of the spells of the link at a place, which has this number.
     fn put_lines_at<B: Allocator + Copy>(
         &self,
@@ -145,10 +183,7 @@ impl<A: Allocator + Copy> Policing<A> {
         ensures { (r : Run) (l : Link) → IsPoliced r self.now → slice_get r.table.links place ≡ Some l → l.id ≡ link
             → OnOk result (string_bytes text.new ≡ string_bytes text.old ++ spell_lines r l) }
     {
-        if place < self.spells.len() {
-            put_spell_lines(text, link, self.spells[place].as_slice())?;
-        }
-        Ok(())
+        put_spell_lines(text, link, self.spells_at(place))
     }
 
     /// Appends the lines of all spells, of each link in the table's order.
