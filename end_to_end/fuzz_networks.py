@@ -44,6 +44,7 @@ DELAYS: list[Any] = [-1, 0, 1, 25, 999_999, 1_000_000, 1_000_001, 2**63 - 1, 2**
 EDGES: dict[str, list[Any]] = {
     "version": [0, 1, 2, "1", 1.0], "name": NAMES, "table": PATHS, "from": ENDS, "to": ENDS, "delay_ns": DELAYS,
     "least_latency_us": [-1, 0, 1, 10, 99, 100, 101, 2**63, 0.0, "1", True, []],
+    "down": [True, True, True, False, 0, 1, "true", "", [], {}],
     "switch": [[], {}, [1], "A"], "wire": [[], {}, [[]], 0]}
 STRANGE_KEYS = ["color", "delay", "Name", "id", "", "port", "link", "delay_us", "constant"]
 TERMS: list[tuple[str, list[Any]]] = [
@@ -120,6 +121,13 @@ def row_again(chance: Random, tree: Tree) -> None:
             copy[key] = drawn(chance, EDGES.get(key, [0]))
 
 
+def row_down(chance: Random, tree: Tree) -> None:
+    """Lets a switch or a wire be down, or says that it is not."""
+    found = rows(tree, chance.choice(["switch", "wire", "wire"]))
+    if found and isinstance(row := chance.choice(found), dict):
+        row["down"] = drawn(chance, EDGES["down"])
+
+
 def row_gone(chance: Random, tree: Tree) -> None:
     found = rows(tree, chance.choice(["switch", "wire"]))
     if found:
@@ -158,7 +166,7 @@ def many_switches(chance: Random, tree: Tree) -> None:
 
 OF_THE_NETWORK: Sequence[Mutation] = (
     to_an_edge, to_an_edge, wire_reversed, wire_to_itself, wire_elsewhere, wire_elsewhere, wire_back, row_again,
-    row_gone, rows_shuffled, other_tables, with_a_key, without_a_key, many_switches)
+    row_down, row_down, row_gone, rows_shuffled, other_tables, with_a_key, without_a_key, many_switches)
 
 
 # --- Mutations of a table ---

@@ -38,6 +38,11 @@ prints_jitters() {
         "$afdx" network jitter work/network.toml | cmp before.txt -
 }
 
+# outage_as_modelled EDIT: so it is in an outage, some of whose ends get nothing.
+outage_as_modelled() {
+    fresh && sed -i "$1" work/network.toml && as_modelled check && grep -q ' none$' lines.txt && as_modelled jitter && runs_as_modelled
+}
+
 # past: the lines of all rows, and then each that needs more than a table can have.
 past() {
     local status=0
@@ -159,6 +164,10 @@ check "the run of the example" runs_as_modelled
 check "README shows lines of it" readme_shows 3
 check "the camera disturbs no other link, two switches away" undisturbed
 check "a table elsewhere" absolute
+check "an outage of a cable" outage_as_modelled '/^delay_ns = 40/ a down = true'
+check "an outage of one direction" outage_as_modelled '/^to = "bay.1"/ a down = true'
+check "an outage of a switch" outage_as_modelled '/^name = "cockpit"/ a down = true'
+check "an outage of the switch between" outage_as_modelled '/^name = "bay"/ a down = true'
 
 refusal 3 "afdx: network G1 Toml" network.toml '$a ='
 refusal 3 "afdx: network G2 UnknownKey, wire 1" network.toml '0,/^delay_ns/ s/^delay_ns/delay/'

@@ -48,6 +48,7 @@ class Wire:
     start: End  # an output port
     end: End  # an ingress port
     delay: int
+    down: bool = False
 
 
 @dataclass
@@ -55,6 +56,7 @@ class Switch:
     name: str
     path: str  # of its table
     least: int = 0  # of its latencies; the table's is the most
+    down: bool = False
 
 
 def refuse(rule: str, *parts: str) -> NoReturn:
@@ -90,6 +92,12 @@ def number(place: str, key: str, members: Members, least: int, most: int) -> int
     return found
 
 
+def flag(place: str, key: str, members: Members) -> bool:
+    """An optional truth value."""
+    found: bool = value(place, key, members, bool) if key in members else False
+    return found
+
+
 def tables(key: str, top: Members) -> list[Members]:
     """An array of tables; none where it is missing."""
     found = top.get(key, [])
@@ -104,19 +112,21 @@ def end_of(place: str, key: str, members: Members) -> End:
 
 
 def switch_of(place: str, members: Members, before: list[Switch]) -> Switch:
-    known(place, ["name", "table", "least_latency_us"], members)
+    known(place, ["name", "table", "least_latency_us", "down"], members)
     name = matched(place, "name", members, r"[A-Za-z0-9_-]{1,16}")[0]
     path = matched(place, "table", members, r"(?s).+")[0]
     least = number(place, "least_latency_us", members, 0, MOST_LATENCY_US) if "least_latency_us" in members else 0
+    down = flag(place, "down", members)
     if any(switch.name == name for switch in before):
         refuse("G3 TwiceSwitch", place)
-    return Switch(name, path, least * MICROSECOND)
+    return Switch(name, path, least * MICROSECOND, down)
 
 
 def wire_of(place: str, members: Members, names: list[str], before: list[Wire]) -> Wire:
-    known(place, ["from", "to", "delay_ns"], members)
+    known(place, ["from", "to", "delay_ns", "down"], members)
     start, end = end_of(place, "from", members), end_of(place, "to", members)
     delay = number(place, "delay_ns", members, 0, MOST_DELAY) if "delay_ns" in members else 0
+    down = flag(place, "down", members)
     if start.switch not in names or end.switch not in names:
         refuse("G3 NoSuchSwitch", place)
     if any(wire.start == start for wire in before):
@@ -125,7 +135,7 @@ def wire_of(place: str, members: Members, names: list[str], before: list[Wire]) 
         refuse("G3 TwiceTo", place)
     if start == end:
         refuse("G3 OwnPort", place)
-    return Wire(place, start, end, delay)
+    return Wire(place, start, end, delay, down)
 
 
 def layout_of(data: bytes) -> tuple[list[Switch], list[Wire]]:
@@ -169,6 +179,7 @@ class Row:
 class Network:
     names: list[str]  # of the switches, in file order
     leasts: dict[str, int]  # of their latencies, by name
+    down: set[str]  # the names of those that are down
     tables: dict[str, model.Table]  # by name
     wires: list[Wire]
     rows: list[Row]  # of all tables, by switch and place
@@ -176,7 +187,9 @@ class Network:
 
 def network_of(switches: list[Switch], wires: list[Wire], tables_of: dict[str, model.Table]) -> Network:
     rows = [Row(switch.name, link) for switch in switches for link in tables_of[switch.name].links]
-    return Network([switch.name for switch in switches], {switch.name: switch.least for switch in switches}, tables_of, wires, rows)
+    leasts = {switch.name: switch.least for switch in switches}
+    down = {switch.name for switch in switches if switch.down}
+    return Network([switch.name for switch in switches], leasts, down, tables_of, wires, rows)
 
 
 def read(path: str | Path) -> Network:
@@ -200,6 +213,11 @@ def wire_to(net: Network, end: End) -> Wire | None:
 
 def wire_from(net: Network, start: End) -> Wire | None:
     return next((wire for wire in net.wires if wire.start == start), None)
+
+
+def is_up(net: Network, wire: Wire) -> bool:
+    """Whether what leaves at its start comes at its end."""
+    return not wire.down and not {wire.start.switch, wire.end.switch} & net.down
 
 
 def rows_on(net: Network, wire: Wire) -> list[Row]:
@@ -423,12 +441,19 @@ def way_line(net: Network, row: Row, port: int) -> tuple[str, int]:
     return f"link {row.link.id} from {source} to {last} ways {ports} least {whole.least} most {whole.most} jitter {needs}", whole.most
 
 
+def is_lost(net: Network, row: Row) -> bool:
+    """Whether something is down on the way to a row, or its own switch."""
+    rows, wires = whole_way(net, row)
+    return any(there.switch in net.down for there in rows) or not all(is_up(net, wire) for wire in wires)
+
+
 def check(net: Network) -> str:
     """The lines of an accepted network."""
     accept(net)
     lines = [f"switch {name} accepted" for name in net.names]
-    ends = [(row, port, *way_line(net, row, port)) for row, port in ends_of(net)]
+    ends = [(row, port, *way_line(net, row, port)) for row, port in ends_of(net) if not is_lost(net, row)]
     lines += [line for _, _, line, _ in ends]
+    lines += [f"link {row.link.id} to {End(row.switch, port)} none" for row, port in ends_of(net) if is_lost(net, row)]
     if ends:
         row, port, _, most = max(ends, key=lambda end: end[3])  # the first of the greatest
         lines.append(f"greatest {most} link {row.link.id} to {End(row.switch, port)}")
@@ -506,8 +531,10 @@ def written(text: bytes) -> list[model.Record]:
     return records
 
 
-def carried(wire: Wire, outcome: model.Outcome) -> bytes:
+def carried(net: Network, wire: Wire, outcome: model.Outcome) -> bytes:
     """The text at the end of a wire."""
+    if not is_up(net, wire):
+        return model.capture_of([])
     return model.capture_of([model.Record(record.stamp + wire.delay, record.original, record.data)
                              for record in written(outcome.captures[wire.start.port])])
 
@@ -520,7 +547,7 @@ def texts_at(net: Network, name: str, given: dict[End, bytes], wired: dict[End, 
 
 def brought(net: Network, name: str, outcomes: dict[str, model.Outcome]) -> dict[End, bytes]:
     """What the wires bring to a switch: nothing from one that has not run."""
-    return {wire.end: carried(wire, outcomes[wire.start.switch]) if wire.start.switch in outcomes else model.capture_of([])
+    return {wire.end: carried(net, wire, outcomes[wire.start.switch]) if wire.start.switch in outcomes else model.capture_of([])
             for wire in net.wires if wire.end.switch == name}
 
 
@@ -543,9 +570,10 @@ def run_in_rounds(net: Network, given: dict[End, bytes], order: list[str]) -> di
 def run(net: Network, given: dict[End, bytes]) -> dict[str, model.Outcome]:
     """What comes out of each switch, where these captures come in at the ports without a wire."""
     accept(net)
-    for end in open_ends(net):
-        of_switch(end.switch, model.records_of, given[end], end.port)
-    return run_in_rounds(net, given, order_of(net))
+    coming = {end: model.capture_of([]) if end.switch in net.down else given[end] for end in open_ends(net)}
+    for end, text in coming.items():
+        of_switch(end.switch, model.records_of, text, end.port)
+    return run_in_rounds(net, coming, order_of(net))
 
 
 def open_ends(net: Network) -> list[End]:

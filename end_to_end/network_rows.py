@@ -30,20 +30,23 @@ def table(*links: str, ports: int = 4, mbit: int | list[int] = 100, head: str = 
     return head + "".join(PORT.format(number, speed) for number, speed in enumerate(speeds, 1)) + "".join(links)
 
 
-def layout(names: Iterable[str], *wires: str, leasts: dict[str, int] | None = None) -> str:
-    """The network file: wires are words, `A.3 B.1` or `A.3 B.1 25`; the least latencies are in µs, by name."""
+def layout(names: Iterable[str], *wires: str, leasts: dict[str, int] | None = None, down: Iterable[str] = ()) -> str:
+    """The network file: wires are words, `A.3 B.1` or `A.3 B.1 25`; the least latencies are in µs, by name; down are switches, by name, and
+    wires, by their start."""
     text = "version = 1\n"
     for name in names:
         text += f'[[switch]]\nname = "{name}"\ntable = "{name}.toml"\n'
         text += f"least_latency_us = {leasts[name]}\n" if leasts and name in leasts else ""
+        text += "down = true\n" if name in down else ""
     for wire in wires:
         start, end, *delay = wire.split()
         text += f'[[wire]]\nfrom = "{start}"\nto = "{end}"\n' + "".join(f"delay_ns = {ns}\n" for ns in delay)
+        text += "down = true\n" if start in down else ""
     return text
 
 
-def network(tables: dict[str, str], *wires: str, leasts: dict[str, int] | None = None) -> network_model.Network:
-    switches, read = network_model.layout_of(layout(tables, *wires, leasts=leasts).encode())
+def network(tables: dict[str, str], *wires: str, leasts: dict[str, int] | None = None, down: Iterable[str] = ()) -> network_model.Network:
+    switches, read = network_model.layout_of(layout(tables, *wires, leasts=leasts, down=down).encode())
     return network_model.network_of(switches, read, {name: model.table_of(text) for name, text in tables.items()})
 
 
@@ -120,13 +123,16 @@ def jitter_enough() -> None:
           *(f"switch B link {number} jitter_us 14" for number in (1, 2, 3)))
 
 
+def row_of_three() -> dict[str, str]:
+    return {"A": table(link(1, 1, [3]), link(11, 2, [3])),
+            "B": table(link(1, 1, [3], 7), link(11, 1, [4], 7), link(12, 2, [3])),
+            "C": table(link(1, 1, [3], 14), link(12, 1, [4], 7), link(13, 2, [3]))}
+
+
 def three_in_a_row() -> None:
     """A link over three switches, at each of which a babbler comes in at port 2: each time a frame waits for one of the babbler's."""
     name = "three in a row"
-    tables = {"A": table(link(1, 1, [3]), link(11, 2, [3])),
-              "B": table(link(1, 1, [3], 7), link(11, 1, [4], 7), link(12, 2, [3])),
-              "C": table(link(1, 1, [3], 14), link(12, 1, [4], 7), link(13, 2, [3]))}
-    net = network(tables, "A.3 B.1", "B.3 C.1")
+    net = network(row_of_three(), "A.3 B.1", "B.3 C.1")
     says(name, net, "switch A accepted", "switch B accepted", "switch C accepted",
          "link 1 from A.1 to C.3 ways A.3 B.3 C.3 least 20160 most 40320 jitter 0 7 14",
          "link 11 from A.2 to B.4 ways A.3 B.4 least 13440 most 20160 jitter 0 7",
@@ -479,6 +485,44 @@ def a_hundred_lines() -> None:
     same("a hundred lines", refused and refused.line.splitlines(), lines + ["afdx: network J2 NoJitter, and 2 more"])
 
 
+def outages() -> None:
+    """The three switches in a row: what is left of their ways is as it is with nothing down, and the others bring nothing. A frame of each
+    link comes in at once, so that one of the two of a wire waits for the other, 6,720 ns; with the wire from A down none waits at B."""
+    name = "outages"
+    tables, wires = row_of_three(), ["A.3 B.1", "B.3 C.1"]
+    accepted = [f"switch {switch} accepted" for switch in "ABC"]
+    last = ["link 1 from A.1 to C.3 ways A.3 B.3 C.3 least 20160 most 40320 jitter 0 7 14",
+            "link 11 from A.2 to B.4 ways A.3 B.4 least 13440 most 20160 jitter 0 7",
+            "link 12 from B.2 to C.4 ways B.3 C.4 least 13440 most 20160 jitter 0 7",
+            "link 13 from C.2 to C.3 ways C.3 least 6720 most 13440 jitter 0"]
+    none = ["link 1 to C.3 none", "link 11 to B.4 none", "link 12 to C.4 none", "link 13 to C.3 none"]
+    greatest = ["greatest 40320 link 1 to C.3", "greatest 20160 link 11 to B.4", "greatest 20160 link 12 to C.4",
+                "greatest 13440 link 13 to C.3"]
+    cuts = ((["A.3"], [0, 1]), (["B.3"], [0, 2]), (["A"], [0, 1]), (["B"], [0, 1, 2]), (["C"], [0, 2, 3]), (["A.3", "C"], [0, 1, 2, 3]))
+    for down, lost in cuts:
+        up = [place for place in range(4) if place not in lost]
+        says(name, network(tables, *wires, down=down), *accepted, *(last[place] for place in up), *(none[place] for place in lost),
+             *(greatest[place] for place in up[:1]), "accepted")
+    sent = {"A1": capture((1, 0)), "A2": capture((11, 0)), "B2": capture((12, 0)), "C2": capture((13, 0))}
+    cut = run(network(tables, *wires, down=["A.3"]), **sent)
+    same(name, left(cut, "A", 3), [(1, 6_720), (11, 13_440)])
+    same(name, left(cut, "B", 3) + left(cut, "B", 4), [(12, 6_720)])
+    same(name, left(cut, "C", 3) + left(cut, "C", 4), [(13, 6_720), (12, 13_440)])
+    sees(name, cut, "B", "link 1 passed 0 policed 0", "link 12 passed 1 policed 0")
+    dark = run(network(tables, *wires, down=["B"]), **{**sent, "B2": b"no capture"})
+    same(name, [dark["B"].captures[port] for port in (1, 2, 3, 4)], [SILENCE] * 4)
+    same(name, left(dark, "A", 3) + left(dark, "C", 3) + left(dark, "C", 4), [(1, 6_720), (11, 13_440), (13, 6_720)])
+    sees(name, dark, "B", "link 12 passed 0 policed 0")
+    refuses(name, "afdx: network J1 Jitter, switch B, link 1, need 7, has 6", 4, network_model.check,
+            network({**tables, "B": tables["B"].replace("id = 1\nfrom = 1\nto = [3]\nbag_ms = 1\njitter_us = 7",
+                                                        "id = 1\nfrom = 1\nto = [3]\nbag_ms = 1\njitter_us = 6")}, *wires, down=["A.3"]))
+    for value in ("1", '"true"', "[]"):
+        refuses(name, "afdx: network G2 Kind, switch 1, down", 3, network_model.layout_of,
+                layout("AB", "A.1 B.1", down=["A"]).replace("= true", f"= {value}").encode())
+        refuses(name, "afdx: network G2 Kind, wire 1, down", 3, network_model.layout_of,
+                layout("AB", "A.1 B.1", down=["A.1"]).replace("= true", f"= {value}").encode())
+
+
 def captures_refused() -> None:
     name, net = "captures of a network", network(two_switches(14), "A.4 B.1")
     late = 4_294_967_295 * 10**9
@@ -490,7 +534,7 @@ def captures_refused() -> None:
 
 for part in (jitter_enough, three_in_a_row, ring, multicast, both_kinds_of_policing, gigabit_with_latency, latency_that_varies, overtaken,
              overtaken_by_all, wire_that_varies, least_latencies, rounded_once, bound_of_its_priority, speed_of_the_port_before, turns,
-             file_refusals, texts_refused, past_the_limit, short_at_two_switches, a_hundred_lines, captures_refused):
+             file_refusals, texts_refused, past_the_limit, short_at_two_switches, a_hundred_lines, outages, captures_refused):
     part()
 print("\n".join(differing) or "the model of networks gives every worked number")
 sys.exit(bool(differing))

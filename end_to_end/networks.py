@@ -5,7 +5,8 @@ They are the same ones each time, run by network_model.py and, if it is named, b
 of the model. Each third one is a ring in which frames come in, start and end on a grid of 5 us, so that many come in at one instant, at
 several ports and at several switches; what comes in begins in 1970 or in 2026. The tables have the jitters that `jitter` finds. Of each
 link the frames that its first account passes leave each of its end ports, in order, each between the least and the most that `check`
-prints for its size; no later account polices a frame. With less jitter in some rows the program names the same rows as the model.
+prints for its size; no later account polices a frame. With less jitter in some rows the program names the same rows as the model. In an
+outage of a switch or of wires the ways that use nothing of these deliver as before, and nothing leaves at the ends of the others.
 """
 import argparse
 import copy
@@ -291,8 +292,10 @@ def network_text(net: Network) -> str:
     for name in net.names:
         lines += ["[[switch]]", f'name = "{name}"', f'table = "{name}.toml"']
         lines += [f"least_latency_us = {net.leasts[name] // 1000}"] if net.leasts[name] else []
+        lines += ["down = true"] if name in net.down else []
     for wire in net.wires:
         lines += ["[[wire]]", f'from = "{wire.start}"', f'to = "{wire.end}"', f"delay_ns = {wire.delay}"]
+        lines += ["down = true"] if wire.down else []
     return "\n".join(lines) + "\n"
 
 
@@ -324,6 +327,16 @@ def with_less_jitter(chance: Random, net: Network) -> Network:
     return less
 
 
+def in_an_outage(chance: Random, net: Network) -> Network:
+    """The network with a switch down, or a few wires, or both."""
+    cut = copy.deepcopy(net)
+    if chance.random() < 0.5:
+        cut.down = {chance.choice(net.names)}
+    for wire in chance.sample(cut.wires, min(len(cut.wires), chance.choice([0, 1, 2]))):
+        wire.down = True
+    return cut
+
+
 def checked(net: Network) -> tuple[int, str, str]:
     """What `check` is to answer."""
     try:
@@ -338,6 +351,22 @@ def falls_short(afdx: str, chance: Random, room: Path, net: Network) -> Iterator
     lay_out(room, less, {})
     if answer(afdx, room, "check", "net.toml") != checked(less):
         yield "network check with less jitter"
+
+
+def wrong_in(cut: Network, net: Network, given: dict[End, bytes], outcomes: dict[str, model.Outcome]) -> Iterator[str]:
+    """What is wrong in an outage of a network: a way that is left is as it was and delivers, and nothing leaves at the end of another."""
+    ends = network_model.ends_of(cut)
+    lost = [(row, port) for row, port in ends if network_model.is_lost(cut, row)]
+    lines = network_model.check(cut).splitlines()
+    before = {line for line in network_model.check(net).splitlines() if " ways " in line}
+    if not {line for line in lines if " ways " in line} <= before or sum(line.endswith(" none") for line in lines) != len(lost):
+        yield "other ways in an outage"
+    for row, port in ends:
+        left = [record for record in network_model.written(outcomes[row.switch].captures[port])
+                if int.from_bytes(record.data[4:6], "big") == row.link.id]
+        wrong = ("frames of a lost link" if left else None) if (row, port) in lost else delivered(cut, given, outcomes, row, port)
+        if wrong:
+            yield f"link {row.link.id} to {row.switch}.{port} in an outage: {wrong}"
 
 
 def differs(afdx: str, room: Path, net: Network, given: dict[End, bytes], outcomes: dict[str, model.Outcome]) -> Iterator[str]:
@@ -373,6 +402,11 @@ def main() -> None:
         if given.afdx:
             wrong += differs(given.afdx, given.room / str(number), net, sent, outcomes)
             wrong += falls_short(given.afdx, chance, given.room / f"{number}-short", net)
+        cut = in_an_outage(chance, net)
+        after = network_model.run(cut, sent)
+        wrong += wrong_in(cut, net, sent, after)
+        if given.afdx:
+            wrong += differs(given.afdx, given.room / f"{number}-outage", cut, sent, after)
         for line in wrong:
             print(f"network {number}: {line}")
         faults += bool(wrong)

@@ -205,6 +205,13 @@ check "a network that is refused" ends_with 4 "$("$AFDX" network check short/net
 check "and unchecked" makes short.html short/network.toml short/in --unchecked
 check "is not accepted" says bad short.html '^Not accepted: afdx: network J1 Jitter, switch bay, link' 'so no bound is promised'
 check "its ways in a browser" opens_network short.html short/network.toml short/in --unchecked
+cp -r "$aircraft" cable && sed -i '/^delay_ns = 40/ a down = true' cable/network.toml
+check "an outage of a cable" makes cable.html cable/network.toml cable/in
+check "its ends without frames" says policed cable.html '^Accepted\. [1-9][0-9]* ends get nothing, as something is down\. '
+check "its page in a browser, and in print" opens_network cable.html cable/network.toml cable/in
+cp -r "$aircraft" outage && sed -i '/^name = "cockpit"/ a down = true' outage/network.toml
+check "an outage of a switch" makes outage.html outage/network.toml outage/in
+check "its page in a browser, and in print" opens_network outage.html outage/network.toml outage/in
 check "answers are of a table" ends_with 2 "afdx-view: --answers is for a table, and $aircraft/network.toml is of a network" \
     "$aircraft/network.toml" "$aircraft/in" made/page.html --answers earlier
 cp -r "$aircraft" linked && ln linked/bay.toml linked/bay.html

@@ -2,9 +2,10 @@
 """Opens a page of afdx-view of a network in chromium and compares it with what the program and the model say of the same run.
 
 Each way has its row: bounds and jitters are those of the model, and delays those of frames that are found by their bytes and their
-order, the n-th that the first switch's account passes being the n-th that leaves at the end. At 1280, 800 and 400 pixels all holds that
+order, the n-th that the first switch's account passes being the n-th that leaves at the end. So has each end that gets nothing in an
+outage. At 1280, 800 and 400 pixels all holds that
 holds of the page of one switch (view_page.py). The drawing has a box for each switch, which leads to its section, and a line for each
-wire, whose ends are at its boxes; each link within the page leads somewhere.
+wire, whose ends are at its boxes; both say what is down. Each link within the page leads somewhere.
 """
 import argparse
 import os
@@ -34,7 +35,8 @@ const at = (path, part) => {
     const point = path.getPointAtLength(part * path.getTotalLength()).matrixTransform(path.getScreenCTM());
     return [point.x, point.y];
 };
-return [[...svg.querySelectorAll("a")].map(link => [link.getAttribute("href"), place(link.querySelector("rect")), place(link)]),
+return [[...svg.querySelectorAll("a")].map(link => [link.getAttribute("href"), place(link.querySelector("rect")), place(link),
+                                                    link.querySelector(".name").textContent]),
         [...svg.querySelectorAll(".wire")].map(path => [path.querySelector("title").textContent, at(path, 0), at(path, 1)])];
 """
 STRIP = """
@@ -94,11 +96,20 @@ class Told:
         ports, floor, most, jitters = words.groups()
         return [*cells, grouped(most), grouped(floor), ports, jitters]
 
+    def ways(self) -> list[list[str]]:
+        """The rows of all ways: first of those with nothing down, then of the ends of the others; of a run that is unchecked those
+        that frames took."""
+        up, lost = ([pair for pair in network_model.ends_of(self.net) if network_model.is_lost(self.net, pair[0]) == is_lost]
+                    for is_lost in (False, True))
+        found = [way for way in (self.way(row, port) for row, port in up) if self.checked or way[5] != "0"]
+        if self.checked:
+            found += [[str(row.link.id), "-", f"{row.switch}.{port}", "-", "-", "none", *["-"] * 6] for row, port in lost]
+        return found
+
 
 def check_ways(page: Any, told: Told) -> int:
     """Each way has its row, and those that sent have a picture with their numbers."""
-    ends = network_model.ends_of(told.net)
-    wanted = [way for way in (told.way(row, port) for row, port in ends) if told.checked or way[5] != "0"]
+    wanted = told.ways()
     cells = page.execute_script(ROWS, "all")
     shown = [row[:9] + row[11:] if told.checked else row[:8] for row in cells]
     expect(f"rows of ways: {[pair for pair in zip(shown, wanted) if pair[0] != pair[1]][:2]}", shown == wanted and shown)
@@ -107,7 +118,7 @@ def check_ways(page: Any, told: Told) -> int:
         if told.checked and greatest != "-":
             expect(f"slack of {row}", int(slack.replace(",", "")) == int(bound.replace(",", "")) - int(greatest.replace(",", "")))
         strip = page.execute_script(STRIP, f"w{number}")
-        expect(f"a picture of {link} if it sent", (strip is None) == (sent == "0"))
+        expect(f"a picture of {link} if it sent", (strip is None) == (sent in ("0", "none")))
         if strip:
             numbers = [f"link {link}, {start} to {last}", f"{sent} sent", f"{least} to {greatest} ns"]
             for text in numbers + ([f"bound {bound}"] if told.checked else []):
@@ -145,9 +156,11 @@ def near(point: list[float], box: list[float]) -> bool:
 
 def check_drawing(page: Any, net: Network) -> None:
     boxes, wires = page.execute_script(DRAWN)
-    expect("a box for each switch, which leads to it", sorted(name for name, _, _ in boxes) == sorted(f"#at-{name}" for name in net.names))
-    places = {name.removeprefix("#at-"): place for name, place, _ in boxes}
-    for name, (left, top, right, bottom), whole in boxes:
+    expect("a box for each switch, which leads to it", sorted(name for name, *_ in boxes) == sorted(f"#at-{name}" for name in net.names))
+    places = {name.removeprefix("#at-"): place for name, place, *_ in boxes}
+    names = [f"{name}, down" if name in net.down else name for name in net.names]
+    expect("each says whether it is down", sorted(said for *_, said in boxes) == sorted(names))
+    for name, (left, top, right, bottom), whole, _ in boxes:
         is_within = left <= whole[0] + 1 and whole[2] <= right + 1 and top <= whole[1] + 1 and whole[3] <= bottom + 1
         expect(f"all of {name} is in its box", is_within)
         for other, (other_left, other_top, other_right, other_bottom) in places.items():
@@ -156,6 +169,7 @@ def check_drawing(page: Any, net: Network) -> None:
     expect(f"a line for each wire, not {len(wires)}", len(wires) == len(net.wires))
     for wire, (said, begin, last) in zip(net.wires, wires):
         expect(f"{wire.start} to {wire.end} is {said}", said.startswith(f"{wire.start} to {wire.end}: "))
+        expect(f"{said} if it is", said.endswith(": down") != network_model.is_up(net, wire))
         expect(f"{said} leads from box to box", near(begin, places[wire.start.switch]) and near(last, places[wire.end.switch]))
 
 

@@ -32,6 +32,8 @@ JITTER = re.compile(r"switch (?P<switch>\S+) link (?P<link>\d+) jitter_us (?P<ji
 # the way of a link to one of its ends, as `afdx network check` prints it
 WAY = re.compile(r"link (?P<link>\d+) from (?P<start>\S+) to (?P<end>\S+) ways (?P<ways>.+) "
                  r"least (?P<least>\d+) most (?P<most>\d+) jitter (?P<jitter>[\d ]+)")
+# an end that gets nothing in an outage, as `afdx network check` prints it
+LOST = re.compile(r"link (?P<link>\d+) to (?P<end>\S+) none")
 
 
 def lines_of(pattern: re.Pattern[str], text: str) -> list[dict[str, str]]:

@@ -3,7 +3,10 @@
 Link 10 comes in at A.1, and goes over the wire from A.2 to B.1 to B.2; A polices one of its frames. Link 11 comes in at
 B.3 and goes back, over the wire from B.1 to A.2, to A.1. Link 12 comes in at B.3 too and leaves at B.2.
 """
+from dataclasses import replace
 from pathlib import Path
+
+import pytest
 
 from afdx.program import Progress
 from afdx.view.answers import Answers
@@ -77,6 +80,31 @@ DEPARTURES: dict[str, list[Left]] = {
     "A": [(1, 1, 2, 11, "low", 5200, 5300), (2, 1, 0, 10, "high", 0, 200), (2, 2, 3, 10, "high", 1_000_000, 1_000_210)],
     "B": [(1, 1, 3, 11, "low", 5000, 5200), (2, 1, 1, 12, "high", 400, 500), (2, 2, 0, 10, "low", 300, 610),
           (2, 3, 4, 10, "low", 1_000_310, 1_000_610)]}
+
+
+# The same in an outage of the wire from A.2 to B.1: of link 10 nothing comes to B.
+CUT_LAYOUT = Layout(LAYOUT.tables, [replace(WIRES[0], down=True), WIRES[1]])
+CUT_CHECK = """switch A accepted
+switch B accepted
+link 11 from B.3 to A.1 ways B.1 A.1 least 200 most 500 jitter 0 2
+link 12 from B.3 to B.2 ways B.2 least 100 most 400 jitter 0
+link 10 to B.2 none
+greatest 500 link 11 to A.1
+accepted
+"""
+CUT_REPORT = REPORT.replace("B in 1 seen 2", "B in 1 seen 0").replace(
+    "B link 10 passed 2", "B link 10 passed 0").replace(
+    "B out 2 low offered 2 full 0 aged 0 sent 2", "B out 2 low offered 0 full 0 aged 0 sent 0")
+CUT_MEASURED = MEASURED | {"B": MEASURED["B"].replace("sent 2 least 300 greatest 310", "sent 0 least - greatest -")}
+CUT_ARRIVALS = ARRIVALS | {"B": [row for row in ARRIVALS["B"] if row[0] == 3]}
+CUT_DEPARTURES = DEPARTURES | {"B": [(1, 1, 2, 11, "low", 5000, 5200), (2, 1, 0, 12, "high", 400, 500)]}
+
+
+def cut(monkeypatch: pytest.MonkeyPatch) -> Asked:
+    """Has the answers be those of the outage."""
+    for name in ("LAYOUT", "CHECK", "REPORT", "MEASURED", "ARRIVALS", "DEPARTURES"):
+        monkeypatch.setitem(globals(), name, globals()[f"CUT_{name}"])
+    return asked(said=CUT_CHECK)
 
 
 def arrivals_of(switch: str) -> str:

@@ -145,7 +145,7 @@ def test_a_network_that_is_newly_refused(tmp_path: Path, capfdbinary: pytest.Cap
     said = [line for line in lines(old, new, capfdbinary) if "load" not in line or "refused" in line]
     assert said == [
         "wire A.4 changed: delay_ns 0 -> 5",
-        "wire B.4 added: to A.4, delay_ns 0",
+        "wire B.4 added: to A.4, delay_ns 0, down false",
         "B link 1 changed: jitter_us 14 -> 13",
         "B need 1 refused: lacks 0 -> 1",
         "check refused: verdict accepted -> afdx: network J1 Jitter, switch B, link 1, need 14, has 13"]

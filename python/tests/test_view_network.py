@@ -1,5 +1,6 @@
 """The numbers of a network's page, from answers of the program that were written by hand, and what is refused."""
 import re
+from dataclasses import replace
 from pathlib import Path
 
 import numpy
@@ -87,6 +88,45 @@ def test_a_way_that_is_none(tmp_path: Path) -> None:
         answered.read(tmp_path, answered.asked(said=said))
 
 
+def test_the_layout_of_an_outage() -> None:
+    """A wire is down if it says so, or a switch at one of its ends does; the other direction of a cable is not."""
+    content = {"switch": [{"name": "A", "table": "a.toml"}, {"name": "B", "table": "b.toml", "down": False},
+                          {"name": "C", "table": "c.toml", "down": True}],
+               "wire": [{"from": "A.1", "to": "B.1", "down": True}, {"from": "B.1", "to": "A.1", "down": False},
+                        {"from": "A.2", "to": "C.1"}, {"from": "C.1", "to": "A.2"}]}
+    found = layout.layout_of(content, Path("here"))
+    assert found.down == {"C"}
+    assert [wire.down for wire in found.wires] == [True, False, True, True]
+    assert list(found.going_on()) == [Port("B", 1)]
+
+
+def test_an_outage(tmp_path: Path, monkeypatch: pytest.MonkeyPatch) -> None:
+    """What left for the wire that is down went no further: it did not leave the network, and the end has none."""
+    found = answered.read(tmp_path, answered.cut(monkeypatch))
+    assert [(way.link, way.sent, way.least) for way in found.ways] == [(11, 1, 300), (12, 1, 100)]
+    assert [(end.link, str(end.end)) for end in found.lost] == [(10, "B.2")]
+    assert (found.totals.frames, found.totals.sent) == (6, 2)
+    text = " ".join(page(found, "", Provenance([], [], "", "", ""), Progress("test")).split())
+    assert "<b>Accepted.</b> <b>1 end gets nothing</b>, as something is down." in text
+    assert '<tr><td>10<td>-<td><a href="#at-B">B.2</a><td>-<td>-<td>none<td>-' in text
+
+
+def test_what_comes_in_in_an_outage(tmp_path: Path) -> None:
+    """Captures of no frames over a wire that is down, and at each port of a switch that is."""
+    cut = Layout(answered.LAYOUT.tables, [Wire(Port("A", 2), Port("B", 1), 100, True), answered.WIRES[1]])
+    asked, folder = replace(answered.asked(), layout=cut), tmp_path / "given"
+    for path in (tmp_path / "out", folder):
+        for switch, table in answered.TABLES.items():
+            (path / switch).mkdir(parents=True)
+            for number in table.ports:
+                (path / switch / f"port-{number}.pcap").write_bytes(pcap([Record(answered.FIRST, bytes(60))]))
+    came = answers.gather("test", asked, "B", str(folder), tmp_path)
+    assert [len(read_pcap((came / f"port-{number}.pcap").read_bytes())[0]) for number in (1, 2, 3)] == [0, 1, 1]
+    down = replace(asked, layout=replace(cut, down=frozenset("A")))
+    came = answers.gather("test", down, "A", str(folder), tmp_path)
+    assert [(came / f"port-{number}.pcap").read_bytes() for number in (1, 2)] == [pcap([])] * 2
+
+
 def test_what_is_drawn_of_ways(tmp_path: Path) -> None:
     found = answered.read(tmp_path)
     assert (found.first, found.span) == (answered.FIRST, 1_000_310)
@@ -146,12 +186,22 @@ def test_the_drawing(tmp_path: Path) -> None:
         first, second = drawing.boxes
         assert first.x + first.width < second.x or first.y + first.height < second.y
         assert all(box.x + box.width <= drawing.width and box.y + box.height <= drawing.height for box in drawing.boxes)
-        assert [(line.said, line.width, line.over) for line in drawing.lines] == [
-            ("A.2 to B.1: 25 %", 1.5 + 5.5 * 0.25, False), ("B.1 to A.2: 10 %", 1.5 + 5.5 * 0.1, False)]
+        assert [(line.said, line.width, line.over, line.down) for line in drawing.lines] == [
+            ("A.2 to B.1: 25 %", 1.5 + 5.5 * 0.25, False, False), ("B.1 to A.2: 10 %", 1.5 + 5.5 * 0.1, False, False)]
     a, b = wide.boxes
     forth, back = (tuple(map(float, re.findall(r"[\d.]+", line.path))) for line in wide.lines)
     assert (forth[0], forth[2], back[0], back[2]) == pytest.approx((a.x + a.width, b.x, b.x, a.x + a.width), abs=0.1)
     assert forth[1] == forth[3] != back[1] == back[3]
+
+
+def test_the_drawing_of_an_outage(tmp_path: Path, monkeypatch: pytest.MonkeyPatch) -> None:
+    asked = answered.cut(monkeypatch)
+    found = answered.read(tmp_path, replace(asked, layout=replace(asked.layout, down=frozenset("A"))))
+    for drawing in picture.drawings(found):
+        assert [(box.name, box.lines[0]) for box in drawing.boxes] == [("A, down", "port 2 → B.1: down"),
+                                                                       ("B", "port 1 → A.2: 10 %")]
+        assert [(line.said, line.width, line.down) for line in drawing.lines] == [
+            ("A.2 to B.1: down", 1.5, True), ("B.1 to A.2: 10 %", 1.5 + 5.5 * 0.1, False)]
 
 
 @pytest.mark.parametrize("nanoseconds", [1, 999_999_999])

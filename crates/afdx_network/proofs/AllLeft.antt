@@ -24,10 +24,10 @@ use Rattle.afdx_wiring.specs.declared.layout.End.{End}
 use Rattle.afdx_wiring.specs.declared.layout.Wire.{Wire}
 use Rattle.afdx_wiring.specs.Net.{Network, wire_to}
 use Rattle.afdx_network.specs.Way.{delayed}
-use Rattle.afdx_network.specs.Runs.{Given, Brings, IsGiven, AreOutcomes, IsUncheckedRunOf}
+use Rattle.afdx_network.specs.Runs.{Given, Brings, BringsNothing, IsGiven, AreOutcomes, IsUncheckedRunOf}
 use Rattle.afdx_network.specs.Inner.Sites.{Site, left_texts, lane_there, AtPorts, IsCame, IsSite, HasSent, IsCarried, AreCarried, HasLed}
 use Rattle.afdx_network.proofs.Carried.{AreWritten}
-use Rattle.afdx_network.proofs.Carrying.{rises_front}
+use Rattle.afdx_network.proofs.Carrying.{carried_up, carried_down, rises_front}
 use Rattle.afdx_network.proofs.Found.{contains_head, contains_tail, found_passes, of_all}
 use Rattle.afdx_network.proofs.Lanes.{of_port, at_lane, port_is}
 use Rattle.afdx_network.proofs.LaneTexts.{IsText, texts_for, texts_read, texts_ports, text_there, lane_of_text}
@@ -259,36 +259,21 @@ module _ (on : OutGoesOn) (order : OutIsInOrder) (written : AreWritten) (net : N
     (are : AreCarried net given sites) (one : All (λ w. wire_to net w.to ≡ Some w) net.layout.wires)
     (each : (k : ℕ) (s : Site) → slice_get sites k ≡ Some s → (texts : List Text) × (slice_get came k ≡ Some texts) × ((r : Results) × (slice_get left k ≡ Some r) × Ended net given k s r texts))
     (all : length came ≡ length sites) where
-  brings : (w : Wire) → Contains net.layout.wires w → Brings left came w
-  brings w among = record {
-    here = from.2.0;
-    there = to.0;
-    bytes = capture_text c.start.left;
-    records = c.start.left;
-    here_is = from.2.1;
-    there_is = to.1;
-    written = subst (λ (texts : List Text). Contains texts (w.from.port, capture_text c.start.left)) (sym (from.2.2.led.captures ∙ site_from.running.left))
-        (left_text_among start.site.paced.lanes w.from.port c.start start.lane_is);
-    read = written c.start.left again.0 again.1;
-    comes = subst (λ (text : Text). Contains to.0 text) (ap (λ n. (n, text.0.1)) (text.2.port ∙ number) ∙ ap (λ (bytes : List ℕ). (w.to.port, bytes)) (bytes ∙ ap capture_text c.same)) text.1;
-  } where
-    c : IsCarried sites w
-    c = All-contains (IsCarried sites) net.layout.wires w are.wires among
-
-    start : SiteThere sites w.from c.start
-    start = site_there sites w.from c.start c.start_is
-
+  -- at the end of a wire there comes what went over it
+  comes_there : (w : Wire) → Contains net.layout.wires w → (c : IsCarried sites w)
+      → (texts : List Text) × (slice_get came w.to.switch ≡ Some texts) × Contains texts (w.to.port, capture_text c.there.came) × AreReadable 0 c.there.came × All IsWithinLimit c.there.came
+  comes_there w among c = (
+    to.0,
+    to.1,
+    subst (λ (text : Text). Contains to.0 text) (ap (λ n. (n, text.0.1)) (text.2.port ∙ number) ∙ ap (λ (bytes : List ℕ). (w.to.port, bytes)) (text.2.brought w wired)) text.1,
+    readable.0,
+    readable.1,
+  ) where
     there : SiteThere sites w.to c.there
     there = site_there sites w.to c.there c.there_is
 
-    site_from : IsSite net given w.from.switch start.site
-    site_from = are.are.each w.from.switch start.site start.at
-
     site_to : IsSite net given w.to.switch there.site
     site_to = are.are.each w.to.switch there.site there.at
-
-    from : (texts : List Text) × (slice_get came w.from.switch ≡ Some texts) × ((r : Results) × (slice_get left w.from.switch ≡ Some r) × Ended net given w.from.switch start.site r texts)
-    from = each w.from.switch start.site start.at
 
     to : (texts : List Text) × (slice_get came w.to.switch ≡ Some texts) × ((r : Results) × (slice_get left w.to.switch ≡ Some r) × Ended net given w.to.switch there.site r texts)
     to = each w.to.switch there.site there.at
@@ -305,17 +290,58 @@ module _ (on : OutGoesOn) (order : OutIsInOrder) (written : AreWritten) (net : N
     wired : wire_to net (record { switch = w.to.switch; port = c.there.port }) ≡ Some w
     wired = ap (λ n. wire_to net (record { switch = w.to.switch; port = n })) number ∙ All-contains (λ (v : Wire). wire_to net v.to ≡ Some v) net.layout.wires w one among
 
-    bytes : text.0.1 ≡ capture_text c.there.came
-    bytes = text.2.brought w wired
-
     came_there : IsCame net w.to.switch site_to.own c.there
     came_there = at_lane (IsCame net w.to.switch site_to.own) there.site.paced.lanes w.to.port c.there site_to.came there.lane_is
 
+    readable : AreReadable 0 c.there.came × All IsWithinLimit c.there.came
+    readable = came_there.brought w wired
+
+  brings : (w : Wire) → Contains net.layout.wires w → w.down ≡ false → Brings left came w
+  brings w among up = record {
+    here = from.2.0;
+    there = to.0;
+    bytes = capture_text c.start.left;
+    records = c.start.left;
+    here_is = from.2.1;
+    there_is = to.1;
+    written = subst (λ (texts : List Text). Contains texts (w.from.port, capture_text c.start.left)) (sym (from.2.2.led.captures ∙ site_from.running.left))
+        (left_text_among start.site.paced.lanes w.from.port c.start start.lane_is);
+    read = written c.start.left again.0 again.1;
+    comes = subst (λ (records : List Record). Contains to.0 (w.to.port, capture_text records)) same to.2;
+  } where
+    c : IsCarried sites w
+    c = All-contains (IsCarried sites) net.layout.wires w are.wires among
+
+    same : c.there.came ≡ map (delayed w.delay) c.start.left
+    same = c.same ∙ carried_up w c.start.left up
+
+    start : SiteThere sites w.from c.start
+    start = site_there sites w.from c.start c.start_is
+
+    site_from : IsSite net given w.from.switch start.site
+    site_from = are.are.each w.from.switch start.site start.at
+
+    from : (texts : List Text) × (slice_get came w.from.switch ≡ Some texts) × ((r : Results) × (slice_get left w.from.switch ≡ Some r) × Ended net given w.from.switch start.site r texts)
+    from = each w.from.switch start.site start.at
+
+    to : (texts : List Text) × (slice_get came w.to.switch ≡ Some texts) × Contains texts (w.to.port, capture_text c.there.came) × AreReadable 0 c.there.came × All IsWithinLimit c.there.came
+    to = comes_there w among c
+
     again : AreReadable 0 c.start.left × All IsWithinLimit c.start.left
     again =
-        let b = came_there.brought w wired in
         start_readable on order net given w.from.switch w.from.port w.delay start.site c.start site_from start.lane_is
-        (subst (AreReadable 0) c.same b.0) (subst (All IsWithinLimit) c.same b.1)
+        (subst (AreReadable 0) same to.3) (subst (All IsWithinLimit) same to.4)
+
+  -- and nothing does where it is down
+  brings_nothing : (w : Wire) → Contains net.layout.wires w → w.down ≡ true → BringsNothing came w
+  brings_nothing w among down =
+      let c = All-contains (IsCarried sites) net.layout.wires w are.wires among in
+      let to = comes_there w among c in
+      record {
+        there = to.0;
+        there_is = to.1;
+        comes = subst (λ (records : List Record). Contains to.0 (w.to.port, capture_text records)) (c.same ∙ carried_down w c.start.left down) to.2;
+      }
 
   given_there : (e : End) (texts : List Text) (text : Text) → wire_to net e ≡ None → slice_get came e.switch ≡ Some texts → text.0 ≡ e.port → Contains texts text → IsGiven given e.switch text
   given_there e texts text unwired at number among =
@@ -339,6 +365,7 @@ is_unchecked_run on order written net given sites left are one sent led = (
     outcomes = outcomes;
     fed = record {
       wires = brings on order written net given sites left all.xs are one all.each all.long;
+      down = brings_nothing on order written net given sites left all.xs are one all.each all.long;
       others = given_there on order written net given sites left all.xs are one all.each all.long;
     };
   },

@@ -129,7 +129,7 @@ module _ (law : LaterRecordsChangeNothing) (on : OutGoesOn) (order : OutIsInOrde
   -- it can come at the wire's end
   can : (given : Given) (begin end : ℕ) → begin ≤ end → AreInWindow net given begin end old → CanCome sites u frame
   can given begin end le w =
-      can_come law on order net given begin end from frame k sites (c.ok given begin end le w).0 w.one_each le u at goes.0 goes.1 (c.late given begin end le w u among goes.0)
+      can_come law on order net given begin end from frame k sites (c.ok given begin end le w).0 w.one_each le u at goes.0 goes.1 goes.2 (c.late given begin end le w u among goes.0)
 
   pub way_goes_on : (new : List Site) → Going new → length new ≡ length sites → CameOver sites new u frame → OnItsWay net from place frame old (k + 1) new
   way_goes_on new going long came = record {
@@ -147,7 +147,7 @@ module _ (law : LaterRecordsChangeNothing) (on : OutGoesOn) (order : OutIsInOrde
     ok = λ given begin end le w.
         let is = c.ok given begin end le w in
         let late = c.late given begin end le w u among goes.0 in (
-          comes_over law on order net given begin end from frame k sites is.0 w.one_each le u at goes.0 goes.1 late new came,
+          comes_over law on order net given begin end from frame k sites is.0 w.one_each le u at goes.0 goes.1 goes.2 late new came,
           all_on end old sites new is.1 (over_on law end sites new u frame came late),
         );
     early = λ given begin end le w none accepted early.
@@ -176,7 +176,7 @@ way_passes net from place frame old k sites c u at none = record {
   late = c.late;
   soon = c.soon;
   ok = λ given begin end le w.
-      let is = c.ok given begin end le w in (passes_by net given begin end from frame k sites is.0 w.one_each u at (λ own first. none (own, first)), is.1);
+      let is = c.ok given begin end le w in (passes_by net given begin end from frame k sites is.0 w.one_each u at (λ own first up. none (own, first, up)), is.1);
   early = c.early;
 }
 

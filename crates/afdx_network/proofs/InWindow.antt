@@ -1,5 +1,5 @@
 -- What leaves a switch within a window comes in at the next one after the window's end.
-use Rattle.std.proofs.Common.{◌≡◌, ◌≤◌, ◌+◌, ℕ, List, [], ◌∷◌, ◌++◌, length, slice_get, Some, None, refl, ap, sym, ◌∙◌, arith, inl, inr, subst}
+use Rattle.std.proofs.Common.{◌≡◌, ◌≤◌, ◌+◌, ℕ, List, [], ◌∷◌, ◌++◌, map, false, length, slice_get, Some, None, refl, ap, sym, ◌∙◌, arith, inl, inr, subst}
 use Rattle.std.specs.Prelude.{All, Contains, slice_set, ◌⊎◌}
 use Rattle.std.proofs.lemmas.List.{length-set}
 use Rattle.std.proofs.lemmas.List.Elements.{All-contains, All-set, All-weaker, All-contains_itself}
@@ -18,7 +18,7 @@ use Rattle.afdx_network.specs.Runs.{Given}
 use Rattle.afdx_network.specs.Inner.Sites.{Site, lane_there, IsSite, IsCarried, IsPending, wire_place, AreSites, IsIn, IsWithin, AreInWindow, AreInCarry}
 use Rattle.afdx_network.specs.Inner.Sites.{after_putting, HandsOut, CanCome, CameOver}
 use Rattle.afdx_network.proofs.AllLeft.{row_there, SiteThere, site_there}
-use Rattle.afdx_network.proofs.Carrying.{one_each, begins, goes_over, goes_by, ends, rises_last, rises_front, rises_delayed}
+use Rattle.afdx_network.proofs.Carrying.{one_each, carried_up, begins, goes_over, goes_by, ends, rises_last, rises_front, rises_delayed}
 use Rattle.afdx_network.proofs.Lanes.{ChangesAt, changes_at}
 use Rattle.afdx_network.proofs.Outs.{not_refused}
 use Rattle.afdx_network.proofs.Places.{got_set}
@@ -111,7 +111,7 @@ module _ (law : NothingLeavesBefore) (on : OutGoesOn) (one : AppendsOne) (net : 
 
 module _ (law : LaterRecordsChangeNothing) (on : OutGoesOn) (order : OutIsInOrder) (net : Network) (given : Given) (begin end : ℕ) (from : End) (frame : Record) (k : ℕ) (sites : List Site)
     (c : AreInCarry net given begin end from frame k sites) (one : All (λ w. wire_to net w.to ≡ Some w) net.layout.wires) (within : begin ≤ end) (u : Wire)
-    (at : slice_get net.layout.wires k ≡ Some u) (own : u.from ≡ from) (place : wire_place net.layout.wires u ≡ k) (late : end ≤ frame.stamp + u.delay) where
+    (at : slice_get net.layout.wires k ≡ Some u) (own : u.from ≡ from) (place : wire_place net.layout.wires u ≡ k) (up : u.down ≡ false) (late : end ≤ frame.stamp + u.delay) where
   among : Contains net.layout.wires u
   among = (k, slice_get_within net.layout.wires k u at, get_or_from_slice_get net.layout.wires k u u at)
 
@@ -120,6 +120,11 @@ module _ (law : LaterRecordsChangeNothing) (on : OutGoesOn) (order : OutIsInOrde
 
   there : SiteThere sites u.to pending.there
   there = site_there sites u.to pending.there pending.there_is
+
+  next : pending.there.came ++ delayed u.delay frame ∷ [] ≡ map (delayed u.delay) pending.start.left
+  next =
+      ap (λ (rs : List Record). pending.there.came ++ rs) (sym (carried_up u (frame ∷ []) up)) ∙ pending.waits own (omega (arith, place))
+      ∙ carried_up u pending.start.left up
 
   pub can_come : CanCome sites u frame
   can_come = record {
@@ -130,7 +135,7 @@ module _ (law : LaterRecordsChangeNothing) (on : OutGoesOn) (order : OutIsInOrde
       lane_is = there.lane_is;
       from = let reached = (at_site (IsIn begin end) sites u.to.switch there.site c.inside there.at).reached in omega (arith, reached, late);
       last = rises_last 0 pending.there.came (delayed u.delay frame) (omega arith)
-          (subst Rises (sym (pending.waits own (omega (arith, place)))) (rises_delayed u.delay pending.start.left (left_rises on order net given sites u.from pending.start c.are pending.start_is)));
+          (subst Rises (sym next) (rises_delayed u.delay pending.start.left (left_rises on order net given sites u.from pending.start c.are pending.start_is)));
     });
   }
 
@@ -140,7 +145,7 @@ module _ (law : LaterRecordsChangeNothing) (on : OutGoesOn) (order : OutIsInOrde
     inside = All-set (IsIn begin end) sites u.to.switch now
         (record { reached = inside.reached; sent = puts_sent law came.site u.to.port begin (delayed u.delay frame) (omega (arith, within, late)) inside.sent }) c.inside;
     wires = All-weaker (λ w. Contains net.layout.wires w × IsPending sites from frame net.layout.wires k w) (IsPending after_it from frame net.layout.wires (k + 1))
-        (λ w h. goes_over sites after_it from frame net.layout.wires k u w at place own changes
+        (λ w h. goes_over sites after_it from frame net.layout.wires k u w at place own up changes
         (one_each net w (All-contains (λ v. wire_to net v.to ≡ Some v) net.layout.wires w one h.0)) h.1) net.layout.wires
         (λ i d lt. (All-contains_itself net.layout.wires i d lt, c.wires i d lt));
   }) where
@@ -161,7 +166,7 @@ module _ (law : LaterRecordsChangeNothing) (on : OutGoesOn) (order : OutIsInOrde
     changes = changes_at sites u.to.switch u.to.port came.site now (came_in (delayed u.delay frame)) (λ l. refl) came.at refl
 
 pub passes_by : (net : Network) (given : Given) (begin end : ℕ) (from : End) (frame : Record) (k : ℕ) (sites : List Site) → AreInCarry net given begin end from frame k sites
-    → All (λ w. wire_to net w.to ≡ Some w) net.layout.wires → (u : Wire) → slice_get net.layout.wires k ≡ Some u → (u.from ≡ from → wire_place net.layout.wires u ≡ k → ⊥)
+    → All (λ w. wire_to net w.to ≡ Some w) net.layout.wires → (u : Wire) → slice_get net.layout.wires k ≡ Some u → (u.from ≡ from → wire_place net.layout.wires u ≡ k → u.down ≡ false → ⊥)
     → AreInCarry net given begin end from frame (k + 1) sites
 passes_by net given begin end from frame k sites c one u at none = record {
   are = c.are;

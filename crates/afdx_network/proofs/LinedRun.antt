@@ -1,5 +1,5 @@
 -- Ports with a wire keep to their lines.
-use Rattle.std.proofs.Common.{◌≡◌, ℕ, true, false, List, map, slice_get, Option, Some, None, is_some, option_and_then, refl, ap, sym, ◌∙◌, subst}
+use Rattle.std.proofs.Common.{◌≡◌, ℕ, Bool, true, false, List, [], map, slice_get, Option, Some, None, is_some, option_and_then, refl, ap, sym, ◌∙◌, arith, subst}
 use Rattle.std.specs.Prelude.{Contains}
 use Rattle.std.proofs.lemmas.Bool.{both_ways}
 use Rattle.std.proofs.lemmas.List.Elements.{All-contains}
@@ -23,14 +23,14 @@ use Rattle.afdx_network.specs.LinedRun.{WiredPortsKeepToLines}
 use Rattle.afdx_network.specs.Inner.Sites.{end_at}
 use Rattle.afdx_network.proofs.Found.{ports_are_found}
 use Rattle.afdx_network.proofs.Rows.{wire_goes_there}
-use Rattle.afdx_network.proofs.Agreement.{Ground, table_at, formed_at, behind}
+use Rattle.afdx_network.proofs.Agreement.{Ground, table_at, formed_at, behind, none_comes}
 
 module _ (g : Ground) (wires : WiresKeepToLines) (net : Network) (given : Given) (runs : List SwitchRun) (acc : IsFittingRun net given runs) (n : ℕ) (run : SwitchRun)
     (run_is : slice_get runs n ≡ Some run) (q : PortRow) (at : Contains run.table.ports q) where
-  over : (w : Wire) → wire_to net (end_at n q.id) ≡ Some w → RecordsKeepToLine q.speed (records_of run.outcome.read q.id)
-  over w is =
+  over : (w : Wire) → wire_to net (end_at n q.id) ≡ Some w → w.down ≡ false → RecordsKeepToLine q.speed (records_of run.outcome.read q.id)
+  over w is up =
       let there = wire_goes_there net (end_at n q.id) w is in
-      let b = behind g net given runs acc w run there.1 (ap (λ (e : End). slice_get runs e.switch) there.0 ∙ run_is) in
+      let b = behind g net given runs acc w run there.1 up (ap (λ (e : End). slice_get runs e.switch) there.0 ∙ run_is) in
       let joins = All-contains (Joins net) net.layout.wires w acc.accepted.fits.wires there.1 in
       let start_there : port_at net w.from ≡ Some b.port
       = ap (option_and_then (λ (t : Content). port_row t w.from.port)) (table_at g net given runs acc w.from.switch b.here b.here_is)
@@ -47,11 +47,23 @@ module _ (g : Ground) (wires : WiresKeepToLines) (net : Network) (given : Given)
       subst (λ (s : Speed). RecordsKeepToLine s (records_of run.outcome.read q.id)) speed
       (subst (λ (rs : List Record). RecordsKeepToLine b.port.speed rs) (sym records) (wires b.here.table (merged b.here.outcome.read) b.port w.delay))
 
+  -- over a wire that is down there comes nothing
+  nothing : (w : Wire) → wire_to net (end_at n q.id) ≡ Some w → w.down ≡ true → RecordsKeepToLine q.speed (records_of run.outcome.read q.id)
+  nothing w is down =
+      let there = wire_goes_there net (end_at n q.id) w is in
+      let records : records_of run.outcome.read q.id ≡ []
+      = ap (λ (read : List Capture). records_of read q.id) (sym run.plain.0) ∙ ap (λ (e : End). records_of run.isolated.read e.port) (sym there.0)
+      ∙ none_comes g net given runs acc w run there.1 down (ap (λ (e : End). slice_get runs e.switch) there.0 ∙ run_is) in
+      subst (λ (rs : List Record). RecordsKeepToLine q.speed rs) (sym records) (λ i j d less within. absurd (omega (arith, within)))
+
   keeps : is_wired net n q.id ≡ true → RecordsKeepToLine q.speed (records_of run.outcome.read q.id)
   keeps on = by (wire_to net (end_at n q.id)) refl on where
     by : (o : Option Wire) → wire_to net (end_at n q.id) ≡ o → is_some o ≡ true → RecordsKeepToLine q.speed (records_of run.outcome.read q.id)
     by None is on = absurd (both_ways false refl on)
-    by (Some w) is on = over w is
+    by (Some w) is on = at_wire w.down refl where
+      at_wire : (b : Bool) → w.down ≡ b → RecordsKeepToLine q.speed (records_of run.outcome.read q.id)
+      at_wire false up = over w is up
+      at_wire true down = nothing w is down
 
 pub wired_ports_keep : Ground → WiresKeepToLines → WiredPortsKeepToLines
 wired_ports_keep g wires net given runs acc n run run_is = λ q at on. keeps g wires net given runs acc n run run_is q at on

@@ -21,6 +21,7 @@ use Rattle.afdx_wiring.specs.declared.ways.Way.{Way}
 use Rattle.afdx_wiring.specs.Net.{least_at, Network, Row, Back, port_at, row_at, bound_at, IsWayBack, source_of, AreDelays}
 use Rattle.afdx_wiring.specs.Order.{leading, row_before}
 use Rattle.afdx_wiring.specs.Ways.{line_of, IsWayOver, IsWayAlong, IsWayOut}
+use Rattle.afdx_wiring.specs.Outage.{is_cut, is_lost, up_of}
 use Rattle.afdx_network.specs.Way.{Stage, IsStage, Leg, last_stage, span_least, span_most, passed_at, leave, IsInTime, IsDelivered}
 use Rattle.afdx_network.specs.Runs.{SwitchRun, Given}
 use Rattle.afdx_network.specs.Ways.{node_of, IsStageAt, GoesOver, IsWayFrom, IsWayIn}
@@ -30,6 +31,7 @@ use Rattle.afdx_network.specs.Inner.Sites.{end_at}
 use Rattle.afdx_network.proofs.Found.{found_passes}
 use Rattle.afdx_network.proofs.Clean.{IsOf, passed_clean}
 use Rattle.afdx_network.proofs.Lengths.{found_row}
+use Rattle.afdx_network.proofs.Outages.{none_of, all_up_of, no_wire_down}
 use Rattle.afdx_network.proofs.Ways as ways
 use Rattle.afdx_network.proofs.Agreement.{Ground, stage_by, fitting, first_stage}
 
@@ -53,6 +55,11 @@ zip_where P R S (x ∷ xs) (y ∷ ys) each all zip = (each x y all.0 zip.0, zip_
 -- one more at the front is one more at the end
 reversed : {X : Type 0} (x : X) (xs ys : List X) → reverse (x ∷ xs) ++ ys ≡ reverse xs ++ x ∷ ys
 reversed {X = X} x xs ys = ap (λ (all : List X). all ++ ys) (reverse-append (x ∷ []) xs) ∙ append_assoc (reverse xs) (x ∷ []) ys
+
+-- what holds of each of a list in reverse, and of those after it
+all_reversed : {X : Type 0} (P : X → Type 0) (xs ys : List X) → AllByRecursion P (reverse xs ++ ys) → AllByRecursion P xs × AllByRecursion P ys
+all_reversed P [] ys all = (tt, all)
+all_reversed P (x ∷ xs) ys all = let rest = all_reversed P xs (x ∷ ys) (subst (AllByRecursion P) (reversed x xs ys) all) in ((rest.1.0, rest.0), rest.1.1)
 
 -- ---- rows and costs
 
@@ -155,9 +162,10 @@ module _ (g : Ground) (net : Network) (given : Given) (runs : List SwitchRun) (a
     pub least : (size : ℕ) → 64 ≤ size → d.least + span_least size x legs ≤ span_least size first all
     pub most : span_most first all ≤ d.most + span_most x legs
 
-  reached : (id : ℕ) (backs : List Back) (r : Row) (d : Delays) (x : Stage) (legs : List Leg) (ends : List End) → r.link.id ≡ id → IsWayBack net r backs → AreDelays net backs d
+  reached : (id : ℕ) (backs : List Back) (r : Row) (d : Delays) (x : Stage) (legs : List Leg) (ends : List End) → r.link.id ≡ id → IsWayBack net r backs
+      → AllByRecursion (λ (b : Back). b.wire.down ≡ false) backs → AreDelays net backs d
       → IsWayFrom net runs r x legs → AllZip (IsAtPort runs id) (stages_of x legs) ends → Reached id r backs d x legs ends
-  reached id [] r d x legs ends number source are way ports =
+  reached id [] r d x legs ends number source up are way ports =
       let least : d.least ≡ 0 = ap (λ (e : Delays). e.least) are in
       record {
         first = x;
@@ -170,7 +178,7 @@ module _ (g : Ground) (net : Network) (given : Given) (runs : List SwitchRun) (a
         least = λ size long. omega (arith, least);
         most = omega arith;
       }
-  reached id (b ∷ backs) r d x legs ends number back are way ports =
+  reached id (b ∷ backs) r d x legs ends number back up are way ports =
       let t : Content = are.0 in
       let p : PortRow = are.1 in
       let bound : ℕ = are.2 in
@@ -183,11 +191,12 @@ module _ (g : Ground) (net : Network) (given : Given) (runs : List SwitchRun) (a
       let over : GoesOver net b.row stage r leg = record {
         wire = b.wire;
         wire_is = back.0;
+        up = up.0;
         start = ap (λ (n : ℕ). end_at n b.wire.from.port) (sym h.switch_is) ∙ ap (end_at b.row.switch) (sym y.at_port.port);
         cable = refl;
         number = sym h.number;
       } in
-      let rest = reached id backs b.row before stage (leg ∷ legs) (b.wire.from ∷ ends) (h.number ∙ number) back.3 are.7 (y.at, r, over, way) (y.at_port, ports) in
+      let rest = reached id backs b.row before stage (leg ∷ legs) (b.wire.from ∷ ends) (h.number ∙ number) back.3 up.1 are.7 (y.at, r, over, way) (y.at_port, ports) in
       let d_least : d.least ≡ before.least + (least_at net b.row.switch t + cost_of p.speed least_size + b.wire.delay) = ap (λ (e : Delays). e.least) are.8 in
       let d_most : d.most ≡ before.most + (bound + b.wire.delay) = ap (λ (e : Delays). e.most) are.8 in
       record {
@@ -220,8 +229,9 @@ module _ (g : Ground) (net : Network) (given : Given) (runs : List SwitchRun) (a
       record { least = omega (arith, sooner, within); most = omega (arith, later, most) })
       (passed_clean g.exact g.verdicts g.links first is) delivered.in_time
 
-  keeps_reported : AgreementIsWired → NetworkRunsDeliver → (id : ℕ) (line : Wire) (w : Way) → line.delay ≡ 0 → IsWayAlong net id line w → KeepsReported net runs w
-  keeps_reported wired deliver id line w no_delay along =
+  keeps_reported : AgreementIsWired → NetworkRunsDeliver → (id : ℕ) (line : Wire) (w : Way) → line.delay ≡ 0 → IsWayAlong net id line w → is_lost net.layout w ≡ false
+      → KeepsReported net runs w
+  keeps_reported wired deliver id line w no_delay along found =
       let r : Row = along.0 in
       let backs : List Back = along.1 in
       let is : IsWayOver net (source_of r backs) (record { wire = line; row = r } ∷ backs) w = along.4 in
@@ -233,14 +243,17 @@ module _ (g : Ground) (net : Network) (given : Given) (runs : List SwitchRun) (a
       let before : Delays = are.3 in
       let number = (found_row g.links net line.from.switch id r on.row_is).number in
       let y = stage_there id r line t p bound on (record { table_is = are.4; port_is = are.5; bound_is = are.6 }) in
+      let ports : w.ports.items ≡ reverse (map (λ (b : Back). b.wire.from) backs) ++ line.from ∷ []
+      = is.ports ∙ reverse-append (line.from ∷ []) (map (λ (b : Back). b.wire.from) backs) in
+      let not_cut : AllByRecursion (λ (e : End). is_cut net.layout e ≡ false) (reverse (map (λ (b : Back). b.wire.from) backs) ++ line.from ∷ [])
+      = subst (AllByRecursion (λ (e : End). is_cut net.layout e ≡ false)) ports (none_of (is_cut net.layout) w.ports.items found) in
+      let up = no_wire_down net backs r along.3 (all_reversed (λ (e : End). is_cut net.layout e ≡ false) (map (λ (b : Back). b.wire.from) backs) (line.from ∷ []) not_cut).0 in
       let x : Stage = stage_by p (least_at net r.switch t) bound (node_of y.run) r.link in
-      let h = reached id backs r before x [] (line.from ∷ []) number along.3 are.7 y.at (y.at_port, tt) in
+      let h = reached id backs r before x [] (line.from ∷ []) number along.3 up are.7 y.at (y.at_port, tt) in
       let delivered = deliver net given runs acc h.first h.all h.way in
       let d_least : w.delays.least ≡ before.least + (least_at net r.switch t + cost_of p.speed least_size + line.delay) = ap (λ (e : Delays). e.least) are.8 in
       let d_most : w.delays.most ≡ before.most + (bound + line.delay) = ap (λ (e : Delays). e.most) are.8 in
       let number_is : w.link ≡ id = is.link ∙ h.number in
-      let ports : w.ports.items ≡ reverse (map (λ (b : Back). b.wire.from) backs) ++ line.from ∷ []
-      = is.ports ∙ reverse-append (line.from ∷ []) (map (λ (b : Back). b.wire.from) backs) in
       record {
         stage = h.first;
         legs = h.all;
@@ -265,5 +278,7 @@ module _ (g : Ground) (net : Network) (given : Given) (runs : List SwitchRun) (a
 
 pub printed_delays_are_kept : Ground → AgreementIsWired → NetworkRunsDeliver → PrintedDelaysAreKept
 printed_delays_are_kept g wired deliver net given runs acc reported are =
-    All-from_recursion (KeepsReported net runs) reported
-    (zip_right (IsWayOut net) (KeepsReported net runs) are.0 reported (λ x w out. keeps_reported g net given runs acc wired deliver x.link (line_of x) w refl out) are.3)
+    All-from_recursion (KeepsReported net runs) (up_of net.layout reported)
+    (all_up_of net.layout (KeepsReported net runs) reported
+    (zip_right (IsWayOut net) (λ w. is_lost net.layout w ≡ false → KeepsReported net runs w) are.0 reported
+    (λ x w out. keeps_reported g net given runs acc wired deliver x.link (line_of x) w refl out) are.3))

@@ -28,12 +28,12 @@ use Rattle.afdx_wiring.specs.declared.layout.Wire.{Wire}
 use Rattle.afdx_wiring.specs.Refusal.{◌>>=◌, unless}
 use Rattle.afdx_wiring.specs.Net.{Network, wire_to}
 use Rattle.afdx_wiring.specs.Order.{is_port, has_ports, by_wires, lost_port}
-use Rattle.afdx_network.specs.Inner.Sites.{Site, end_at, left_texts, IsCame, IsRunning, IsSite, HasSent, HasCome, IsCarried, HasRead, IsFresh, after_putting, after_all, after_reads}
-use Rattle.afdx_network.specs.Way.{delayed}
+use Rattle.afdx_network.specs.Inner.Sites.{Site, end_at, left_texts, IsCame, IsRunning, IsSite, HasSent, HasCome, carried, IsCarried, HasRead, IsFresh, after_putting, after_all, after_reads}
 use Rattle.afdx_network.specs.Runs.{Given}
 use Rattle.afdx_network.specs.Given.{is_open, AreOpen}
 use Rattle.afdx_network.proofs.Found.{contains_head, contains_tail, of_all}
 use Rattle.afdx_network.proofs.Lists.{all_map, all_unmap, all_kept}
+use Rattle.afdx_network.proofs.Carrying.{carried_none}
 use Rattle.afdx_network.proofs.Lanes.{KeepsPort, of_port, at_lane, map_changed, port_is}
 use Rattle.afdx_network.proofs.Texts.{NumbersRise, read_at}
 use Rattle.afdx_network.proofs.SiteCalls.{running_puts, puts_sent}
@@ -455,7 +455,7 @@ has_started law on net given switch t own s table own_is formed opened h = recor
 pub none_carried : (net : Network) (given : Given) (sites : List Site) → lost_port net.tables net.layout.wires ≡ Ok tt → All (λ w. wire_to net w.to ≡ Some w) net.layout.wires
     → length sites ≡ length net.tables → ((n : ℕ) (s : Site) → slice_get sites n ≡ Some s → HasStarted net given n s) → All (IsCarried sites) net.layout.wires
 none_carried net given sites ends one all each =
-    All-weaker (λ w. Contains net.layout.wires w) (IsCarried sites) (λ w among. carried w among) net.layout.wires (All-contains_itself net.layout.wires) where
+    All-weaker (λ w. Contains net.layout.wires w) (IsCarried sites) (λ w among. nothing_over w among) net.layout.wires (All-contains_itself net.layout.wires) where
       there : (e : End) → is_port net.tables e ≡ true → (s : Site) × (l : Lane) × (slice_get sites e.switch ≡ Some s) × (lane_at s.paced e.port ≡ Some l)
       there e is =
           let p = port_there net e is in
@@ -465,8 +465,8 @@ none_carried net given sites ends one all each =
           let lane = lane_of_row site.0.paced.table.ports site.0.paced.lanes e.port p.port started.site.running.ports (ap (λ (c : Content). port_row c e.port) (sym table) ∙ p.row_is) in
           (site.0, lane.0, site.1, lane.1)
 
-      carried : (w : Wire) → Contains net.layout.wires w → IsCarried sites w
-      carried w among =
+      nothing_over : (w : Wire) → Contains net.layout.wires w → IsCarried sites w
+      nothing_over w among =
           let both = of_all (HasEnds net.tables) net.layout.wires w (all_ends net.tables net.layout.wires ends) among in
           let from = there w.from both.from_is in
           let to = there w.to both.to_is in
@@ -481,5 +481,5 @@ none_carried net given sites ends one all each =
             there = to.1;
             start_is = ap (option_and_then (λ (s : Site). lane_at s.paced w.from.port)) from.2 ∙ from.3;
             there_is = ap (option_and_then (λ (s : Site). lane_at s.paced w.to.port)) to.2 ∙ to.3;
-            same = silent ∙ ap (map (delayed w.delay)) (sym none);
+            same = silent ∙ sym (carried_none w) ∙ ap (carried w) (sym none);
           }

@@ -8,6 +8,7 @@ use Rattle.afdx_wiring.specs.declared.layout.End.{End}
 use Rattle.afdx_wiring.specs.declared.ways.Way.{Way}
 use Rattle.afdx_wiring.specs.Net.{Network}
 use Rattle.afdx_wiring.specs.Ways.{AreWaysOf}
+use Rattle.afdx_wiring.specs.Outage.{up_of}
 use Rattle.afdx_network.specs.Way.{Stage, Leg, last_stage, passed_at, leave, IsDelivered}
 use Rattle.afdx_network.specs.Runs.{SwitchRun, Given}
 use Rattle.afdx_network.specs.Ways.{node_of, IsWayIn}
@@ -48,7 +49,7 @@ pub record KeepsReported (net : Network) (runs : List SwitchRun) (w : Way) : Typ
   pub delivered : IsDelivered stage legs
   pub in_time : AllZip (IsWithin w.delays) (passed_at stage) (leave (last_stage stage legs))
 
--- whatever the end systems send
+-- whatever the end systems send, on the ways that use nothing that is down
 abbrev pub PrintedDelaysAreKept : Type 0
 PrintedDelaysAreKept = (net : Network) (given : Given) (runs : List SwitchRun) → IsAcceptedRun net given runs → (ways : List Way) → AreWaysOf net ways
-    → All (KeepsReported net runs) ways
+    → All (KeepsReported net runs) (up_of net.layout ways)

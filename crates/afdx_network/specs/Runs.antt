@@ -1,5 +1,5 @@
 -- A run of a network: each switch's run over captures that agree with the wires.
-use Rattle.std.specs.Prelude.{◌≡◌, ℕ, List, [], ◌∷◌, map, slice_get, Contains, Some, None}
+use Rattle.std.specs.Prelude.{◌≡◌, ℕ, true, false, List, [], ◌∷◌, map, slice_get, Contains, Some, None}
 use Rattle.afdx_pcap.specs.Record.{Record}
 use Rattle.afdx_pcap.specs.Text.{capture_text}
 use Rattle.afdx_pcap.specs.Capture.{IsCapture}
@@ -39,6 +39,12 @@ pub record Brings (left : List Results) (came : List (List Text)) (w : Wire) : T
   pub read : IsCapture bytes records
   pub comes : Contains there (w.to.port, capture_text (map (delayed w.delay) records))
 
+-- over a wire that is down there comes nothing: a capture of no frames
+pub record BringsNothing (came : List (List Text)) (w : Wire) : Type 0 where
+  pub there : List Text
+  pub there_is : slice_get came w.to.switch ≡ Some there
+  pub comes : Contains there (w.to.port, capture_text [])
+
 -- the captures that were given for the ports without a wire, by switch
 abbrev pub Given : Type 0
 Given = List (List Text)
@@ -49,9 +55,11 @@ pub record IsGiven (given : Given) (switch : ℕ) (text : Text) : Type 0 where
   pub texts_is : slice_get given switch ≡ Some texts
   pub has : Contains texts text
 
--- these texts come in at the switches where they have left these: over wires what left, elsewhere what was given
+-- these texts come in at the switches where they have left these: over wires what left, over those that are down nothing, elsewhere what was
+-- given
 pub record IsFedBy (net : Network) (given : Given) (left : List Results) (came : List (List Text)) : Type 0 where
-  pub wires : (w : Wire) → Contains net.layout.wires w → Brings left came w
+  pub wires : (w : Wire) → Contains net.layout.wires w → w.down ≡ false → Brings left came w
+  pub down : (w : Wire) → Contains net.layout.wires w → w.down ≡ true → BringsNothing came w
   pub others : (e : End) (texts : List Text) (text : Text) → wire_to net e ≡ None → slice_get came e.switch ≡ Some texts
       → text.0 ≡ e.port → Contains texts text → IsGiven given e.switch text
 

@@ -1,5 +1,5 @@
 -- The ways in a network's run: each begins at a row that an end system's port feeds, and goes on over the wires of the file.
-use Rattle.std.specs.Prelude.{◌≡◌, true, List, [], ◌∷◌, slice_get, Some, Contains}
+use Rattle.std.specs.Prelude.{◌≡◌, true, false, List, [], ◌∷◌, slice_get, Some, Contains}
 use Rattle.afdx_table.specs.Link.{leads_to}
 use Rattle.afdx_wiring.specs.declared.layout.Wire.{Wire}
 use Rattle.afdx_wiring.specs.Net.{Network, Row, ingress, wire_to, IsSource, least_at, bound_at}
@@ -22,10 +22,11 @@ pub record IsStageAt (net : Network) (runs : List SwitchRun) (r : Row) (x : Stag
   pub least_is : x.least ≡ least_at net r.switch run.table
   pub bound_is : bound_at net r x.port ≡ Some x.bound
 
--- from that port over a wire to the next switch's row of the link
+-- from that port over a wire, which is not down, to the next switch's row of the link
 pub record GoesOver (net : Network) (r : Row) (x : Stage) (next : Row) (leg : Leg) : Type 0 where
   pub wire : Wire
   pub wire_is : wire_to net (ingress next) ≡ Some wire
+  pub up : wire.down ≡ false
   pub start : wire.from ≡ record { switch = r.switch; port = x.port.id }
   pub cable : leg.cable ≡ wire.delay
   pub number : next.link.id ≡ r.link.id

@@ -11,11 +11,13 @@
 mod fault;
 mod given;
 pub mod laws;
+mod outage;
 mod running;
 mod site;
 mod windows;
 
 pub use fault::NetworkRunFault;
 pub use given::is_open;
+pub use outage::given_up;
 pub use running::{run, run_unchecked};
 pub use site::Texts;

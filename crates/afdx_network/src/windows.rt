@@ -195,15 +195,16 @@ fn is_first(wires: &[Wire], index: usize) -> bool
     }
 }
 
-/// Whether what leaves a port goes over the wire at a place: it begins there, and no wire before it goes to the same port. O(wires).
+/// Whether what leaves a port goes over the wire at a place: it begins there, no wire before it goes to the same port, and it is
+/// not down. O(wires).
 fn goes_over(wires: &[Wire], index: usize, from: End) -> bool
     requires { index < length wires.now }
     ensures { (w : Cable) → slice_get wires.now index ≡ Some w → (IsTrue result ↔ GoesOver wires.now index from w) }
 {
-    is_end(wires[index].from, from) && is_first(wires, index)
+    is_end(wires[index].from, from) && is_first(wires, index) && !wires[index].down
 }
 
-/// The next record that left a port goes to the port's capture, and over its wires. Whether there was one.
+/// The next record that left a port goes to the port's capture, and over its wires that are not down. Whether there was one.
 fn carry<'a>(
     alloc: Global,
     network: &Network,

@@ -49,11 +49,15 @@ greatest_of ways = find (λ w. w.delays.most == longest ways) ways
 abbrev pub greatest_text : Names → Way → List ℕ
 greatest_text names w = codes "greatest " ++ decimal w.delays.most ++ codes " link " ++ decimal w.link ++ codes " to " ++ end_text names (last_end w)
 
--- what is reported of an accepted network of these ways
-abbrev pub accepted_text : Names → List Way → List ℕ
-accepted_text names ways =
+-- nothing comes to the end of this way
+abbrev pub lost_text : Names → Way → List ℕ
+lost_text names w = codes "link " ++ decimal w.link ++ codes " to " ++ end_text names (last_end w) ++ codes " none"
+
+-- what is reported of an accepted network of these ways, and of those over which nothing comes
+abbrev pub accepted_text : Names → (ways lost : List Way) → List ℕ
+accepted_text names ways lost =
     flat_map (λ name. as_line (codes "switch " ++ name ++ codes " accepted")) names ++ flat_map (λ w. as_line (way_text names w)) ways
-    ++ option_map_or (λ w. as_line (greatest_text names w)) (greatest_of ways) [] ++ as_line (codes "accepted")
+    ++ flat_map (λ w. as_line (lost_text names w)) lost ++ option_map_or (λ w. as_line (greatest_text names w)) (greatest_of ways) [] ++ as_line (codes "accepted")
 
 -- ---- jitters
 

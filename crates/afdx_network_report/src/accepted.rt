@@ -2,7 +2,7 @@
 
 ghost use Rattle.std.specs.Prelude.{◌≡◌, ◌++◌, codes, map, flat_map, option_copied, string_bytes, IfOk, OnOk};
 ghost use Rattle.afdx_wiring.specs.Lines.{as_line};
-ghost use Rattle.afdx_network_report.specs.Lines.{last_end, numbers_text, way_text, longest, greatest_of, greatest_text, accepted_text};
+ghost use Rattle.afdx_network_report.specs.Lines.{last_end, numbers_text, way_text, lost_text, longest, greatest_of, greatest_text, accepted_text};
 
 use crate::ends::{put_end, put_ends};
 use afdx_wiring::{End, Way};
@@ -55,6 +55,26 @@ fn put_ways(text: &mut String, names: &[String], ways: &[Way]) -> Result<(), All
     Ok(())
 }
 
+/// Appends the line of a way over which nothing comes.
+fn put_lost(text: &mut String, names: &[String], way: &Way) -> Result<(), AllocError>
+    ensures { OnOk result (string_bytes text.new ≡ string_bytes text.old ++ as_line (lost_text (map string_bytes names.now) way.now)) }
+{
+    write!(text, "link {} to ", way.link)?;
+    put_end(text, names, last_end(way))?;
+    text.push_str(" none\n")
+}
+
+/// Appends the lines of ways over which nothing comes.
+fn put_all_lost(text: &mut String, names: &[String], ways: &[Way]) -> Result<(), AllocError>
+    ensures { OnOk result (string_bytes text.new
+        ≡ string_bytes text.old ++ flat_map (λ w. as_line (lost_text (map string_bytes names.now) w)) ways.now) }
+{
+    for way in ways {
+        put_lost(text, names, way)?;
+    }
+    Ok(())
+}
+
 /// Appends a line for each switch.
 fn put_switches(text: &mut String, names: &[String]) -> Result<(), AllocError>
     ensures { OnOk result (string_bytes text.new
@@ -98,15 +118,22 @@ fn put_greatest(text: &mut String, names: &[String], way: &Way) -> Result<(), Al
 }
 
 /// What is reported of an accepted network, of switches of these names and of these ways: a line for each switch, one for each
-/// way, the first way that may take as long as any, where there is one, and that the network is accepted.
+/// way, one for each way over which nothing comes, the first of the others that may take as long as any, where there is one, and
+/// that the network is accepted.
 ///
 /// An error says that memory ran out. O(text).
-pub fn accepted_text(alloc: Global, names: &[String], ways: &[Way]) -> Result<String, AllocError>
-    ensures { IfOk result (λ text. string_bytes text ≡ accepted_text (map string_bytes names.now) ways.now) }
+pub fn accepted_text(
+    alloc: Global,
+    names: &[String],
+    ways: &[Way],
+    lost: &[Way],
+) -> Result<String, AllocError>
+    ensures { IfOk result (λ text. string_bytes text ≡ accepted_text (map string_bytes names.now) ways.now lost.now) }
 {
     let mut text = String::new(alloc);
     put_switches(&mut text, names)?;
     put_ways(&mut text, names, ways)?;
+    put_all_lost(&mut text, names, lost)?;
     if let Some(way) = greatest_of(ways) {
         put_greatest(&mut text, names, way)?;
     }

@@ -194,12 +194,13 @@ Remedy: as `C2`
     (
         "G2",
         "G2 UnknownKey: a key that does not belong here
-Remedy: a wire has `from`, `to`, `delay_ns`; a switch has `name`, `table`,
-`least_latency_us`
-G2 MissingKey: a key of a switch or of a wire is missing; only `delay_ns` and
-`least_latency_us` may be left out
+Remedy: a wire has `from`, `to`, `delay_ns`, `down`; a switch has `name`,
+`table`, `least_latency_us`, `down`
+G2 MissingKey: a key of a switch or of a wire is missing; only `delay_ns`,
+`least_latency_us` and `down` may be left out
 Remedy: write it
-G2 Kind: a number for a text, or the other way round; `[wire]` for `[[wire]]`
+G2 Kind: a number for a text, or the other way round; `[wire]` for `[[wire]]`; a
+`down` that is neither `true` nor `false`
 Remedy: `from = \"A.3\"`
 G2 Range: a name that is empty, of more than 16 letters, digits, `-` and `_`, or
 with other characters; an empty `table`; an end that is not NAME, a dot and a

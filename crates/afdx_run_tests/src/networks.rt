@@ -48,6 +48,7 @@ fn a_file_is_read(rt: HostRuntime) -> Result<(), Fail> {
             },
             to: End { switch: 1, port: 1 },
             delay: 1_000_000,
+            down: false,
         },
         Wire {
             from: End { switch: 1, port: 9 },
@@ -56,6 +57,7 @@ fn a_file_is_read(rt: HostRuntime) -> Result<(), Fail> {
                 port: 10,
             },
             delay: 0,
+            down: false,
         },
     ];
     let switches = [
@@ -64,6 +66,50 @@ fn a_file_is_read(rt: HostRuntime) -> Result<(), Fail> {
     ];
     let layout = layout(rt.alloc(), &names, &written)?;
     assert!(rt; has(&layout, switches, &wires));
+    Ok(())
+}
+
+/// A ring of three switches, of which C is down, and the wire from A says that it is.
+const IN_AN_OUTAGE: &str = "
+[[switch]]
+name = \"A\"
+table = \"A.toml\"
+down = false
+[[switch]]
+name = \"B\"
+table = \"B.toml\"
+[[switch]]
+name = \"C\"
+table = \"C.toml\"
+down = true
+[[wire]]
+from = \"A.1\"
+to = \"B.1\"
+down = true
+[[wire]]
+from = \"B.2\"
+to = \"A.2\"
+[[wire]]
+from = \"B.3\"
+to = \"C.1\"
+[[wire]]
+from = \"C.2\"
+to = \"A.3\"
+";
+
+/// A wire is down if it says so, or if a switch at one of its ends does.
+#[test]
+fn outages_are_read(rt: HostRuntime) -> Result<(), Fail> {
+    let layout = afdx_wiring::read(rt.alloc(), IN_AN_OUTAGE.as_bytes())
+        .ok()
+        .ok_or("a network file")?;
+    for (switch, down) in [(0, false), (1, false), (2, true), (3, false)] {
+        assert_eq!(rt; layout.is_down(switch), down, "switch {switch}");
+    }
+    for (wire, down) in [(0, true), (1, false), (2, true), (3, true)] {
+        let found = layout.wires.get(wire).map(|wire| wire.down);
+        assert_eq!(rt; found, Some(down), "wire {wire}");
+    }
     Ok(())
 }
 

@@ -15,6 +15,7 @@ use Rattle.afdx_wiring.specs.Inner.Limits.{LayoutsAreWithinLimits, NoPortHasTwoW
 use Rattle.afdx_wiring.specs.Rules.{IsAcceptedNetwork}
 use Rattle.afdx_network.specs.Runs.{Given, AreOutcomes, IsRunOf, IsUncheckedRunOf}
 use Rattle.afdx_network.specs.Given.{AreGiven, NoneShareAPort}
+use Rattle.afdx_network.specs.Outage.{given_up}
 use Rattle.afdx_network.specs.Laws.{IsOfFile, NetworkRunsDeliver}
 use Rattle.afdx_network_report.specs.Lines.{Names, name_of, report_of}
 use Rattle.afdx_arguments.specs.declared.request.NetworkPaths.{NetworkPaths}
@@ -140,7 +141,7 @@ has_given_before a b path names given keeps = ShowsAll-before a b (names_at path
 -- the files lead to it
 leads_network : NetworkRunsDeliver → (paths : NetworkPaths) (files : Option Files) (net : Network) (given : Given) (came : List (List Text)) (left : List Results) → IsOfFile net
     → HasNetwork files paths.network.now net → (paths.unchecked ≡ false → IsAcceptedNetwork net) → HasGiven files paths.input.now (names_of net.layout.switches) given → AreGiven net given
-    → IsUncheckedRunOf net given came left → (paths.unchecked ≡ false → IsRunOf net given came left) → LeadsToNetwork paths files net left
+    → IsUncheckedRunOf net (given_up net.layout given) came left → (paths.unchecked ≡ false → IsRunOf net (given_up net.layout given) came left) → LeadsToNetwork paths files net left
 leads_network deliver paths files net given came left of has accepted has_given are is run = record {
   given = given;
   came = came;
@@ -151,7 +152,7 @@ leads_network deliver paths files net given came left of has accepted has_given 
   promised = λ checked. record {
     accepted = accepted checked;
     is_run = run checked;
-    delivered = deliver net given (run checked).runs (record { of_file = of; accepted = accepted checked; run = (run checked).run });
+    delivered = deliver net (given_up net.layout given) (run checked).runs (record { of_file = of; accepted = accepted checked; run = (run checked).run });
   };
 }
 
@@ -164,21 +165,21 @@ pub record IsLed (paths : NetworkPaths) (files : Option Files) (net : Network) (
 pub is_led : TablesAreWellFormed → LayoutsAreWithinLimits → NetworkRunsDeliver → (paths : NetworkPaths) (a b : Option Files) (net : Network) (plan : NetworkPlan) (seen : Network) (given : Given)
     (left : List Results) (names : Names)
     → HasNetwork a paths.network.now net → network_in plan ≡ net → is_accepted plan ≡ not paths.unchecked → seen ≡ network_in plan → (paths.unchecked ≡ false → IsAcceptedNetwork net)
-    → KeepsFiles a b → HasGiven b paths.input.now (names_of seen.layout.switches) given → AreGiven seen given → HasRun plan given left → names ≡ names_of net.layout.switches
+    → KeepsFiles a b → HasGiven b paths.input.now (names_of seen.layout.switches) given → AreGiven seen given → HasRun plan (given_up (network_in plan).layout given) left → names ≡ names_of net.layout.switches
     → IsLed paths a net names left
 is_led formed limits deliver paths a b net plan seen given left names has same checked met accepted keeps got are ran named = record {
   leads = leads_network deliver paths a net given ran.0 left of has accepted (has_given_before a b paths.input.now (names_of net.layout.switches) given keeps here) there is run;
   named = named;
-  count = ap (λ (l : Names). length l) named ∙ run_count net given ran.0 left of is;
+  count = ap (λ (l : Names). length l) named ∙ run_count net (given_up net.layout given) ran.0 left of is;
 } where
   of : IsOfFile net
   of = of_file formed limits a paths.network.now net has
 
-  is : IsUncheckedRunOf net given ran.0 left
-  is = subst (λ (n : Network). IsUncheckedRunOf n given ran.0 left) same ran.1
+  is : IsUncheckedRunOf net (given_up net.layout given) ran.0 left
+  is = subst (λ (n : Network). IsUncheckedRunOf n (given_up n.layout given) ran.0 left) same ran.1
 
-  run : paths.unchecked ≡ false → IsRunOf net given ran.0 left
-  run is_checked = subst (λ (n : Network). IsRunOf n given ran.0 left) same (ran.2 (checked ∙ ap not is_checked))
+  run : paths.unchecked ≡ false → IsRunOf net (given_up net.layout given) ran.0 left
+  run is_checked = subst (λ (n : Network). IsRunOf n (given_up n.layout given) ran.0 left) same (ran.2 (checked ∙ ap not is_checked))
 
   here : HasGiven b paths.input.now (names_of net.layout.switches) given
   here = subst (λ (n : Network). HasGiven b paths.input.now (names_of n.layout.switches) given) (met ∙ same) got
@@ -222,7 +223,7 @@ not_given_before failure.Write a b path net before after keeps h = absurd h
 -- what was got leads to nothing
 led_to_none : (f : Failure) (files : Option Files) (path : List ℕ) (net : Network) (given : Given) (before after : DeviceLog) → HasGiven files path (names_of net.layout.switches) given → after
     ≡ before
-    → FailsToLeadGiven f net given → FailsToGetGiven f files path net before after
+    → FailsToLeadGiven f net (given_up net.layout given) → FailsToGetGiven f files path net before after
 led_to_none (failure.Network (network.Capture port why name)) files path net given before after has same h = ((given, h.0, has, h.1, h.2), same)
 led_to_none (failure.Network (network.Rows rule shorts names)) files path net given before after has same h = absurd h
 led_to_none (failure.Network (network.Refused r name)) files path net given before after has same h = absurd h
@@ -292,10 +293,10 @@ not_given f paths a b c net cleared seen first before after has same met accepte
 pub not_led : (f : Failure) (paths : NetworkPaths) (a b c : Option Files) (net cleared seen : Network) (given : Given) (first before after : DeviceLog) → HasNetwork a paths.network.now net → cleared
     ≡ net
     → seen ≡ cleared → (paths.unchecked ≡ false → IsAcceptedNetwork net) → KeepsFiles a b → KeepsFiles b c → before ≡ first → after ≡ before → (w v : Option (List ℕ)) → Keeps w v
-    → HasGiven b paths.input.now (names_of seen.layout.switches) given → FailsToLeadGiven f cleared given → FailsToRunNetwork f paths (world w a first) (world v c after)
+    → HasGiven b paths.input.now (names_of seen.layout.switches) given → FailsToLeadGiven f cleared (given_up cleared.layout given) → FailsToRunNetwork f paths (world w a first) (world v c after)
 not_led f paths a b c net cleared seen given first before after has same met accepted keeps further log last w v none got h =
     let here = subst (λ (n : Network). HasGiven b paths.input.now (names_of n.layout.switches) given) (met ∙ same) got in
-    let fails = subst (λ (n : Network). FailsToLeadGiven f n given) same h in
+    let fails = subst (λ (n : Network). FailsToLeadGiven f n (given_up n.layout given)) same h in
     no_run f paths a c first after (KeepsFiles-trans a b c keeps further) w v none
     (inr (net, has, inr (accepted, led_to_none f a paths.input.now net given first after (has_given_before a b paths.input.now (names_of net.layout.switches) given keeps here) (last ∙ log) fails)))
 

@@ -7,6 +7,7 @@ use Rattle.afdx_wiring.specs.Net.{Network}
 use Rattle.afdx_wiring.specs.Rules.{IsAcceptedNetwork}
 use Rattle.afdx_network.specs.Runs.{Given, IsRunOf, IsUncheckedRunOf}
 use Rattle.afdx_network.specs.Given.{is_open, AreGiven, IsUncheckedRefusal}
+use Rattle.afdx_network.specs.Outage.{given_up}
 use Rattle.afdx_network.specs.Way.{Stage, Leg, IsDelivered}
 use Rattle.afdx_network.specs.Ways.{IsWayIn}
 use Rattle.afdx_network.specs.declared.fault.NetworkRunFault.TheVariants as run
@@ -53,15 +54,16 @@ pub record IsPromised (net : Network) (given : Given) (came : List (List Text)) 
   pub is_run : IsRunOf net given came left
   pub delivered : (x : Stage) (legs : List Leg) → IsWayIn net is_run.runs x legs → IsDelivered x legs
 
--- the files hold a network, accepted unless the run is unchecked, and captures, which lead to this
+-- the files hold a network, accepted unless the run is unchecked, and captures, which lead to this; those of a switch that is down do not
+-- come in
 pub record LeadsToNetwork (paths : NetworkPaths) (files : Option Files) (net : Network) (left : List Results) : Type 0 where
   pub given : Given
   pub came : List (List Text)
   pub has_network : HasNetwork files paths.network.now net
   pub has_given : HasGiven files paths.input.now (names_of net.layout.switches) given
   pub are_given : AreGiven net given
-  pub led : IsUncheckedRunOf net given came left
-  pub promised : paths.unchecked ≡ false → IsPromised net given came left
+  pub led : IsUncheckedRunOf net (given_up net.layout given) came left
+  pub promised : paths.unchecked ≡ false → IsPromised net (given_up net.layout given) came left
 
 -- ---- why they lead to nothing, and the failures before and after
 
@@ -83,7 +85,7 @@ abbrev pub FailsToGetGiven : Failure → Option Files → List ℕ → Network �
 FailsToGetGiven (failure.Get name) files path net before after = GetsGiven (string_bytes name) files path net × (after ≡ one_more (string_bytes name) before)
 FailsToGetGiven failure.Memory files path net before after = Unit {0}
 FailsToGetGiven (failure.Network (network.Capture port why name)) files path net before after =
-    ((given : Given) × (switch : ℕ) × HasGiven files path (names_of net.layout.switches) given × IsUncheckedRefusal net given (run.Capture switch port why)
+    ((given : Given) × (switch : ℕ) × HasGiven files path (names_of net.layout.switches) given × IsUncheckedRefusal net (given_up net.layout given) (run.Capture switch port why)
     × (string_bytes name ≡ name_of (names_of net.layout.switches) switch)) × (after ≡ before)
 FailsToGetGiven _ files path net before after = ⊥
 

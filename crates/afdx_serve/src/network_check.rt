@@ -70,11 +70,12 @@ fn ways_text(
     requires { map string_bytes names.now ≡ names_of cleared.now.layout.switches }
     ensures { IfOk result (λ text. IsNetworkCheck cleared.now (string_bytes text)) }
 {
-    match cleared.ways(alloc) {
-        Ok(ways) => accepted_text(alloc, names, &ways),
+    let Ok(ways) = cleared.ways(alloc) else {
         // An accepted network has all its ways, so that this is `Memory`.
-        Err(_) => Err(AllocError),
-    }
+        return Err(AllocError);
+    };
+    let ways = cleared.network().layout().part_ways(alloc, ways)?;
+    accepted_text(alloc, names, &ways.up, &ways.lost)
 }
 
 /// What is written of a network, where it is accepted.
@@ -89,7 +90,8 @@ fn network_text(alloc: Global, network: Network) -> Result<String, Failure>
     Ok(text)
 }
 
-/// Checks the network of a file, and writes a line for each switch, one for each way of a link, and that it is accepted.
+/// Checks the network of a file, and writes a line for each switch, one for each way of a link, one for each end
+/// to which nothing comes in an outage, and that it is accepted.
 ///
 /// # Errors
 ///

@@ -3,6 +3,7 @@
 ghost use Rattle.std.specs.Prelude.{◌≡◌, ◌≢◌, ◌++◌, List, length, map, filter, string_bytes, IfOk, IfErr, OnOk, MatchResult};
 ghost use Rattle.afdx_session.specs.Texts.{Text, texts_of};
 ghost use Rattle.afdx_network.specs.Given.{given_of, is_open, AreGiven, IsUncheckedRefusal, NoneShareAPort};
+ghost use Rattle.afdx_network.specs.Outage.{given_up};
 ghost use Rattle.afdx_folder.specs.Files.{KeepsFiles};
 ghost use Rattle.afdx_serve.specs.Runs.{capture_name, bytes_of_captures};
 ghost use Rattle.afdx_serve.specs.Networks.{names_of};
@@ -20,7 +21,7 @@ use afdx_arguments::NetworkPaths;
 use afdx_folder::{Folder, write_bytes};
 use afdx_messages::{Failure, NetworkFailure};
 use afdx_network::laws::{network_runs_deliver, runs_are_unchecked};
-use afdx_network::{NetworkRunFault, Texts, is_open};
+use afdx_network::{NetworkRunFault, Texts, given_up, is_open};
 use afdx_network_report::{name_of, push_report};
 use afdx_session::Outcome;
 use afdx_table::Table;
@@ -126,7 +127,7 @@ fn outcomes_of(
     }
 }
 
-/// What the captures lead to at each switch.
+/// What the captures lead to at each switch, without those of switches that are down.
 fn lead(
     alloc: Global,
     names: &[String],
@@ -137,10 +138,11 @@ fn lead(
     requires given { AreGiven (network_in plan.now) (given_of given.items) }
     requires one_each { NoneShareAPort (network_in plan.now) }
     ensures { MatchResult result
-        (λ outcomes. HasRun plan.now (given_of given.items) outcomes.items)
-        (λ f. FailsToLeadGiven f (network_in plan.now) (given_of given.items)) }
+        (λ outcomes. HasRun plan.now (given_up (network_in plan.now).layout (given_of given.items)) outcomes.items)
+        (λ f. FailsToLeadGiven f (network_in plan.now) (given_up (network_in plan.now).layout (given_of given.items))) }
 {
-    match outcomes_of(alloc, plan, given) {
+    let up = given_up(alloc, plan.network(), given)?;
+    match outcomes_of(alloc, plan, up) {
         Ok(outcomes) => Ok(outcomes),
         Err(fault) => Err(run_failure(alloc, names, fault)),
     }
@@ -209,8 +211,9 @@ fn output_texts(alloc: Global, outcomes: Vec<Outcome<Global>>) -> Result<Vec<Vec
 ///
 /// IN/A has the captures of the ports of switch A to which no wire goes; those of all its ports are put into OUT/A, which has
 /// to be there. The network is accepted before a capture is got, unless the run is unchecked, and all captures are got before the
-/// first switch runs. All names and reports are made before the first put, and the device has all files by then: where it fails to
-/// take one, none is put. After a put that failed the files before it are there, and no later one is put.
+/// first switch runs. Nothing comes in at a switch that is down: its captures are got, and what they hold is not looked at. All
+/// names and reports are made before the first put, and the device has all files by then: where it fails to take one, none is
+/// put. After a put that failed the files before it are there, and no later one is put.
 ///
 /// # Errors
 ///

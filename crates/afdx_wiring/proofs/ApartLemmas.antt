@@ -12,8 +12,8 @@ use Rattle.afdx_wiring.specs.declared.fault.NetworkFault.TheVariants.{TwiceFrom,
 use Rattle.afdx_wiring.specs.declared.layout.End.{End}
 use Rattle.afdx_wiring.specs.declared.layout.Wire.{Wire}
 use Rattle.afdx_wiring.specs.Refusal.{unless}
-use Rattle.afdx_wiring.specs.Fields.{known_at, optional_number_at}
-use Rattle.afdx_wiring.specs.File.{Switch, Layout, switches_from, end_at, found, is_end, comes_from, goes_to, fitting, wire_at, wires_from, top_at, layout_in, tree_of, layout_of}
+use Rattle.afdx_wiring.specs.Fields.{known_at, optional_number_at, flag_at}
+use Rattle.afdx_wiring.specs.File.{Switch, Layout, is_down, switches_from, end_at, found, is_end, comes_from, goes_to, fitting, wire_at, wires_from, top_at, layout_in, tree_of, layout_of}
 use Rattle.afdx_wiring.proofs.LimitLemmas.{ok_same, stepped, passes, same_wire, all_push}
 
 -- each wire goes to another port than those after it
@@ -45,13 +45,19 @@ fits_apart at before w v is =
 wire_apart : (at : At) (switches : List Switch) (before : List Wire) (ms : Members) (w : Wire) → wire_at at switches before ms ≡ Ok w → goes_to before w.to ≡ false
 unfolding wire_at
 wire_apart at switches before ms w is =
-    let known = stepped (known_at at (key.From ∷ key.To ∷ key.Delay ∷ []) ms) _ w is in
+    let known = stepped (known_at at (key.From ∷ key.To ∷ key.Delay ∷ key.Down ∷ []) ms) _ w is in
     let from_text = stepped (end_at at key.From ms) _ w known.rest in
     let to_text = stepped (end_at at key.To ms) _ w from_text.rest in
     let delay = stepped (optional_number_at at key.Delay 1000000 0 ms) _ w to_text.rest in
-    let from = stepped (found at switches from_text.first) _ w delay.rest in
+    let down = stepped (flag_at at key.Down ms) _ w delay.rest in
+    let from = stepped (found at switches from_text.first) _ w down.rest in
     let to = stepped (found at switches to_text.first) _ w from.rest in
-    fits_apart at before (record { from = from.first; to = to.first; delay = delay.first }) w to.rest
+    fits_apart at before (record {
+      from = from.first;
+      to = to.first;
+      delay = delay.first;
+      down = down.first || is_down switches from.first.switch || is_down switches to.first.switch;
+    }) w to.rest
 
 wires_apart : (n : ℕ) (switches : List Switch) (before : List Wire) (tables : List Members) (ws : List Wire) → GoApart before → wires_from n switches before tables ≡ Ok ws → GoApart ws
 unfolding wires_from

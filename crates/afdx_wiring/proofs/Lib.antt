@@ -17,6 +17,7 @@ pub mod Loaded
 pub mod LoadOrder
 pub mod NeedLemmas
 pub mod OnceLemmas
+pub mod Outages
 pub mod Reaching
 pub mod RowByRow
 pub mod Shorts

@@ -1,5 +1,5 @@
 -- A layout that is read is within the limits of the file.
-use Rattle.std.proofs.Common.{◌≡◌, ℕ, ◌+◌, ◌≤◌, ◌==◌, Bool, true, false, cond, nat_le, nat_lt, List, [], ◌∷◌, ◌++◌, length, Option, Some, None, Result, Ok, Err, refl, ap, arith, subst, length-append}
+use Rattle.std.proofs.Common.{◌≡◌, ℕ, ◌+◌, ◌≤◌, ◌==◌, ◌||◌, Bool, true, false, cond, nat_le, nat_lt, List, [], ◌∷◌, ◌++◌, length, Option, Some, None, Result, Ok, Err, refl, ap, arith, subst, length-append}
 use Rattle.std.specs.Prelude.{All}
 use Rattle.std.specs.List.{AllByRecursion}
 use Rattle.std.proofs.lemmas.Bool.Decides.{nat_tests}
@@ -15,8 +15,8 @@ use Rattle.afdx_wiring.specs.declared.fault.NetworkFault.TheVariants.{Kind, Rang
 use Rattle.afdx_wiring.specs.declared.layout.Wire.{Wire}
 use Rattle.afdx_wiring.specs.Refusal.{◌>>=◌, or_refuse, unless}
 use Rattle.afdx_wiring.specs.Names.{key_text}
-use Rattle.afdx_wiring.specs.Fields.{known_at, number_in, number_from, optional_number_at, tables_at}
-use Rattle.afdx_wiring.specs.File.{Switch, Layout, Top, switch_at, switches_from, end_at, found, is_end, comes_from, goes_to, fitting, wire_at, wires_from, top_at, layout_in, tree_of, layout_of}
+use Rattle.afdx_wiring.specs.Fields.{known_at, number_in, number_from, optional_number_at, flag_at, tables_at}
+use Rattle.afdx_wiring.specs.File.{Switch, Layout, Top, is_down, switch_at, switches_from, end_at, found, is_end, comes_from, goes_to, fitting, wire_at, wires_from, top_at, layout_in, tree_of, layout_of}
 
 -- ---- first refusals
 
@@ -73,14 +73,20 @@ same_wire at before w v is =
 wire_short : (at : At) (switches : List Switch) (before : List Wire) (ms : Members) (w : Wire) → wire_at at switches before ms ≡ Ok w → w.delay ≤ 1000000
 unfolding wire_at
 wire_short at switches before ms w is =
-    let known = stepped (known_at at (key.From ∷ key.To ∷ key.Delay ∷ []) ms) _ w is in
+    let known = stepped (known_at at (key.From ∷ key.To ∷ key.Delay ∷ key.Down ∷ []) ms) _ w is in
     let from_text = stepped (end_at at key.From ms) _ w known.rest in
     let to_text = stepped (end_at at key.To ms) _ w from_text.rest in
     let delay = stepped (optional_number_at at key.Delay 1000000 0 ms) _ w to_text.rest in
-    let from = stepped (found at switches from_text.first) _ w delay.rest in
+    let down = stepped (flag_at at key.Down ms) _ w delay.rest in
+    let from = stepped (found at switches from_text.first) _ w down.rest in
     let to = stepped (found at switches to_text.first) _ w from.rest in
     subst (λ (v : Wire). v.delay ≤ 1000000)
-    (same_wire at before (record { from = from.first; to = to.first; delay = delay.first }) w to.rest)
+    (same_wire at before (record {
+      from = from.first;
+      to = to.first;
+      delay = delay.first;
+      down = down.first || is_down switches from.first.switch || is_down switches to.first.switch;
+    }) w to.rest)
     (optional_within at key.Delay 1000000 0 ms delay.first (omega arith) delay.first_is)
 
 pub all_push : (P : Wire → Type 0) (ws : List Wire) (w : Wire) → AllByRecursion P ws → P w → AllByRecursion P (ws ++ w ∷ [])

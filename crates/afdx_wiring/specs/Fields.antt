@@ -1,8 +1,8 @@
 -- The fields of one TOML table, each read with its first refusal: the key is missing, its value is of another kind, or out of its range.
-use Rattle.std.specs.Prelude.{ℕ, Bool, true, not, ◌&&◌, if◌then◌else◌, nat_le, List, [], Option, Some, None, option_and_then, Result, Ok, Err}
+use Rattle.std.specs.Prelude.{ℕ, Bool, true, false, not, ◌&&◌, if◌then◌else◌, nat_le, List, [], Option, Some, None, option_and_then, Result, Ok, Err}
 use Rattle.std.specs.List.{list_any}
 use Rattle.std.specs.Str.{bytes_eq}
-use Rattle.toml.specs.Data.{Data, Members, no_members, member, get_member, as_integer, as_str, as_array, as_table}
+use Rattle.toml.specs.Data.{Data, Members, no_members, member, get_member, as_integer, as_bool, as_str, as_array, as_table}
 use Rattle.afdx_table.specs.Fields.{natural_of, all_of}
 use Rattle.afdx_wiring.specs.declared.fault.At.{At}
 use Rattle.afdx_wiring.specs.declared.fault.Key.{Key}
@@ -37,6 +37,14 @@ number_from at k greatest missing (Some d) = number_in at k greatest d
 
 unfoldable pub optional_number_at : At → Key → ℕ → (missing : ℕ) → Members → Result ℕ NetworkFault
 optional_number_at at k greatest missing ms = number_from at k greatest missing (get_member (key_text k) ms)
+
+-- an optional truth value: false where it is missing
+abbrev pub flag_from : At → Key → Option Data → Result Bool NetworkFault
+flag_from at k None = Ok false
+flag_from at k (Some d) = or_refuse (Kind at k) (as_bool d)
+
+unfoldable pub flag_at : At → Key → Members → Result Bool NetworkFault
+flag_at at k ms = flag_from at k (get_member (key_text k) ms)
 
 -- a required text
 unfoldable pub text_at : At → Key → Members → Result (List ℕ) NetworkFault

@@ -1,9 +1,10 @@
 -- The network of a text, or the first refusal (profile): the text, the top, each switch after those before it, each wire after the
 -- switches and the wires before it.
-use Rattle.std.specs.Prelude.{ℕ, ◌+◌, ◌*◌, ◌==◌, ◌&&◌, Bool, nat_lt, if◌then◌else◌, List, [], ◌∷◌, ◌++◌, length, position}
+use Rattle.std.specs.Prelude.{ℕ, ◌+◌, ◌*◌, ◌==◌, ◌&&◌, ◌||◌, Bool, false, nat_lt, if◌then◌else◌, List, [], ◌∷◌, ◌++◌, length, position, slice_get}
 use Rattle.std.specs.Prelude.{option_map, Result, Ok, Err}
 use Rattle.std.specs.Prelude.{not}
 use Rattle.std.specs.List.{list_any}
+use Rattle.std.specs.Option.{option_map_or}
 use Rattle.std.specs.Str.{bytes_eq, is_utf8}
 use Rattle.toml.specs.Data.{Members}
 use Rattle.toml.specs.Parse.{parse_document}
@@ -17,7 +18,7 @@ use Rattle.afdx_wiring.specs.declared.layout.End.{End}
 use Rattle.afdx_wiring.specs.declared.layout.Wire.{Wire}
 use Rattle.afdx_wiring.specs.Names.{is_name, end_in}
 use Rattle.afdx_wiring.specs.Refusal.{◌>>=◌, or_refuse, unless}
-use Rattle.afdx_wiring.specs.Fields.{known_at, optional_number_at, text_at, tables_at}
+use Rattle.afdx_wiring.specs.Fields.{known_at, optional_number_at, flag_at, text_at, tables_at}
 
 -- ---- what a file says
 
@@ -27,10 +28,18 @@ pub record Switch : Type 0 where
   pub path : List ℕ
   -- nanoseconds that it takes for each frame, at least
   pub least : ℕ
+  -- an outage: nothing comes in there
+  pub down : Bool
 
 pub record Layout : Type 0 where
   pub switches : List Switch
   pub wires : List Wire
+
+-- ---- outages
+
+-- the switch at this place is down
+abbrev pub is_down : List Switch → ℕ → Bool
+is_down switches place = option_map_or (λ s. s.down) (slice_get switches place) false
 
 -- ---- switches
 
@@ -41,14 +50,15 @@ has_switch switches name = list_any (λ s. bytes_eq s.name name) switches
 -- where it is not stated
 unfoldable pub switch_at : At → List Switch → Members → Result Switch NetworkFault
 switch_at at before ms = do
-  known ← known_at at (key.Name ∷ key.Table ∷ key.LeastLatency ∷ []) ms
+  known ← known_at at (key.Name ∷ key.Table ∷ key.LeastLatency ∷ key.Down ∷ []) ms
   name ← text_at at key.Name ms
   is_one ← unless (not (is_name name)) (Range at key.Name)
   path ← text_at at key.Table ms
   is_path ← unless (length path == 0) (Range at key.Table)
   least ← optional_number_at at key.LeastLatency 100 0 ms
+  down ← flag_at at key.Down ms
   once ← unless (has_switch before name) (TwiceSwitch at)
-  Ok (record { name = name; path = path; least = least * 1000 })
+  Ok (record { name = name; path = path; least = least * 1000; down = down })
 
 unfoldable pub switches_from : ℕ → List Switch → List Members → Result (List Switch) NetworkFault
 switches_from n before [] = Ok before
@@ -85,16 +95,18 @@ fitting at before w = do
   others ← unless (is_end w.from w.to) (OwnPort at)
   Ok w
 
--- the wire of these fields, after the switches and the wires before it; a millisecond at most, 5 ns for each metre
+-- the wire of these fields, after the switches and the wires before it; a millisecond at most, 5 ns for each metre. It is down where it is
+-- said to be, and where a switch at one of its ends is
 unfoldable pub wire_at : At → List Switch → List Wire → Members → Result Wire NetworkFault
 wire_at at switches before ms = do
-  known ← known_at at (key.From ∷ key.To ∷ key.Delay ∷ []) ms
+  known ← known_at at (key.From ∷ key.To ∷ key.Delay ∷ key.Down ∷ []) ms
   from_text ← end_at at key.From ms
   to_text ← end_at at key.To ms
   delay ← optional_number_at at key.Delay 1000000 0 ms
+  down ← flag_at at key.Down ms
   from ← found at switches from_text
   to ← found at switches to_text
-  fitting at before (record { from = from; to = to; delay = delay })
+  fitting at before (record { from = from; to = to; delay = delay; down = down || is_down switches from.switch || is_down switches to.switch })
 
 unfoldable pub wires_from : ℕ → List Switch → List Wire → List Members → Result (List Wire) NetworkFault
 wires_from n switches before [] = Ok before

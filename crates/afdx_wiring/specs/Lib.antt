@@ -6,6 +6,7 @@ pub mod Names
 pub mod Needs
 pub mod Net
 pub mod Order
+pub mod Outage
 pub mod Refusal
 pub mod Rules
 pub mod Ways

@@ -17,6 +17,7 @@ key_text key.LeastLatency = codes "least_latency_us"
 key_text key.From = codes "from"
 key_text key.To = codes "to"
 key_text key.Delay = codes "delay_ns"
+key_text key.Down = codes "down"
 
 abbrev pub place_text : At → List ℕ
 place_text place.Top = codes "top"

@@ -1,5 +1,5 @@
 -- The ways of a network's links, from their sources to the ports at which they lead out of it (profile).
-use Rattle.std.specs.Prelude.{◌≡◌, ℕ, not, Bool, Option, is_some, find, List, [], ◌∷◌, ◌++◌, map, filter, flat_map, reverse, Some}
+use Rattle.std.specs.Prelude.{◌≡◌, ℕ, not, Bool, false, Option, is_some, find, List, [], ◌∷◌, ◌++◌, map, filter, flat_map, reverse, Some}
 use Rattle.std.specs.List.{AllZip}
 use Rattle.std.specs.List.Sorted.{IsPermutation, IsSorted}
 use Rattle.std.specs.Ordering.{nat_cmp, ordering_then}
@@ -39,7 +39,7 @@ by_link x y = ordering_then (nat_cmp x.link y.link) (ordering_then (nat_cmp x.sw
 
 -- the line behind an exit, which is no wire of the network: its delay is not counted
 abbrev pub line_of : Exit → Wire
-line_of x = record { from = end_of x; to = end_of x; delay = 0 }
+line_of x = record { from = end_of x; to = end_of x; delay = 0; down = false }
 
 -- ---- ways
 

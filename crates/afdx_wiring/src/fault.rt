@@ -29,6 +29,7 @@ pub enum Key {
     From,
     To,
     Delay,
+    Down,
 }
 
 /// Why a network is refused. A wire is named by its place in the file, counted from 1; a switch by its place, counted from 0,
@@ -116,6 +117,7 @@ impl Key {
             Key::From => "from",
             Key::To => "to",
             Key::Delay => "delay_ns",
+            Key::Down => "down",
         }
     }
 }

@@ -8,7 +8,7 @@ ghost use Rattle.toml.specs.View.{view, table_view};
 ghost use Rattle.afdx_table.specs.Fields.{natural_of};
 ghost use Rattle.afdx_wiring.specs.Names.{key_text};
 ghost use Rattle.afdx_wiring.specs.Refusal.{Gives};
-ghost use Rattle.afdx_wiring.specs.Fields.{is_one_of, are_known, known_at, number_in, optional_number_at, text_at, tables_at};
+ghost use Rattle.afdx_wiring.specs.Fields.{is_one_of, are_known, known_at, number_in, optional_number_at, flag_at, text_at, tables_at};
 
 use crate::arrays::tables_of;
 use crate::fault::{At, Key, NetworkFault};
@@ -100,6 +100,17 @@ impl<'a> Fields<'a> {
         match self.find(key) {
             Some(value) => number_in(self.at, key, greatest, value),
             None => Ok(missing),
+        }
+    }
+
+    /// An optional truth value, false where it is missing.
+    #[tactic(auto, unfolding(crate::specs::Fields::flag_at))]
+    pub(crate) fn flag(&self, key: Key) -> Result<bool, NetworkFault>
+        ensures { result ≡ flag_at self.now.at key (table_view self.now.table.now) }
+    {
+        match self.find(key) {
+            Some(value) => value.as_bool().ok_or(NetworkFault::Kind(self.at, key)),
+            None => Ok(false),
         }
     }
 

@@ -3,6 +3,7 @@
 ghost use Rattle.afdx_wiring.specs.Inner.Limits.{LayoutsAreWithinLimits, NoPortHasTwoWires};
 ghost use Rattle.afdx_wiring.specs.Inner.Staying.{WholeJittersAreEnough};
 ghost use Rattle.afdx_wiring.specs.Inner.Tabled.{RowsAreOfTables};
+ghost use Rattle.afdx_wiring.specs.Outage.{OutagesChangeNoWay};
 
 use afdx_grouping::laws::bounds_are_no_more;
 
@@ -29,3 +30,8 @@ pub fn whole_jitters_are_enough()
 {
     bounds_are_no_more();
 }
+
+/// An outage changes no way: those that use nothing that is down are as they were, with the same delays and jitters.
+pub fn outages_change_no_way()
+    ensures { OutagesChangeNoWay }
+{}

@@ -13,6 +13,8 @@ pub struct Switch {
     pub path: String,
     /// The least that it takes for a frame, in nanoseconds, at most 100,000; 0 where that is not known.
     pub least: u64,
+    /// Whether it is down: nothing comes in there, and so nothing leaves.
+    pub down: bool,
 }
 
 impl Model for Switch {
@@ -21,7 +23,7 @@ impl Model for Switch {
 
     ghost Value = { Seen };
 
-    ghost view = { λ s. record { name = string_bytes s.name; path = string_bytes s.path; least = s.least } };
+    ghost view = { λ s. record { name = string_bytes s.name; path = string_bytes s.path; least = s.least; down = s.down } };
 }
 
 /// A port of a switch.
@@ -42,6 +44,8 @@ pub struct Wire {
     pub to: End,
     /// Its delay in nanoseconds, at most 1,000,000.
     pub delay: u32,
+    /// Whether nothing comes over it: it is said to be down, or the switch at one of its ends is.
+    pub down: bool,
 }
 
 /// What a network file says.

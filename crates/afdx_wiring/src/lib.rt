@@ -2,7 +2,7 @@
 //!
 //! [`read`] is the one way to make a [`Layout`] of a text. With the tables of its switches it is a [`Network`]: `fit` says
 //! whether these fit together, `clear` checks their loads, `jitters` finds jitters; `check` and `ways` of a
-//! [`ClearedNetwork`] judge them and give each link's ways.
+//! [`ClearedNetwork`] judge them and give each link's ways, of which [`Layout::part_ways`] says which an outage takes.
 #![tactic(auto)]
 
 mod arrays;
@@ -19,6 +19,7 @@ pub mod laws;
 mod layout;
 mod names;
 mod network;
+mod outage;
 mod row;
 mod shared;
 mod sources;
@@ -32,6 +33,7 @@ pub use fault::{At, Key, NetworkFault, Short};
 pub use jitters::{Needs, RowNeed, all_past};
 pub use layout::{End, Layout, Switch, Wire};
 pub use network::Network;
+pub use outage::OutageWays;
 pub use row::Row;
 pub use top::read;
 pub use ways::Way;

@@ -4,7 +4,7 @@ ghost use Rattle.std.specs.Prelude.{◌≡◌, [], map, position};
 ghost use Rattle.std.specs.Str.{bytes_eq};
 ghost use Rattle.toml.specs.View.{table_view};
 ghost use Rattle.afdx_wiring.specs.Refusal.{Gives};
-ghost use Rattle.afdx_wiring.specs.File.{has_switch, switch_at, switches_from};
+ghost use Rattle.afdx_wiring.specs.File.{has_switch, is_down, switch_at, switches_from};
 
 use crate::fault::{At, Key, NetworkFault};
 use crate::fields::Fields;
@@ -33,6 +33,16 @@ pub(crate) fn place_of(switches: &[Switch], name: &[u8]) -> Option<usize>
         .position(|switch| switch.name.as_bytes() == name)
 }
 
+/// Whether the switch at a place is down.
+pub(crate) fn is_down(switches: &[Switch], place: usize) -> bool
+    ensures { result ≡ is_down switches.now place }
+{
+    match switches.get(place) {
+        Some(switch) => switch.down,
+        None => false,
+    }
+}
+
 /// A switch, after the switches before it.
 #[tactic(auto, unfolding(crate::specs::File::switch_at))]
 fn read_switch(
@@ -42,7 +52,7 @@ fn read_switch(
 ) -> Result<Switch, NetworkFault>
     ensures { Gives (λ s. s) result (switch_at fields.now.at before.now (table_view fields.now.table.now)) }
 {
-    fields.known(&[Key::Name, Key::Table, Key::LeastLatency])?;
+    fields.known(&[Key::Name, Key::Table, Key::LeastLatency, Key::Down])?;
     let name = fields.text(Key::Name)?;
     if !is_name(name.as_bytes()) {
         return Err(NetworkFault::Range(fields.at, Key::Name));
@@ -52,6 +62,7 @@ fn read_switch(
         return Err(NetworkFault::Range(fields.at, Key::Table));
     }
     let least_us = fields.optional_number(Key::LeastLatency, MAX_LATENCY_US, 0)?;
+    let down = fields.flag(Key::Down)?;
     if has_switch(before, name.as_bytes()) {
         return Err(NetworkFault::TwiceSwitch(fields.at));
     }
@@ -59,6 +70,7 @@ fn read_switch(
         name: String::from_str(alloc, name)?,
         path: String::from_str(alloc, path)?,
         least: least_us * MICROSECOND,
+        down,
     })
 }
 

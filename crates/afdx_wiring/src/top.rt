@@ -82,9 +82,9 @@ fn read_text(alloc: Global, bytes: &[u8]) -> Result<Tree, NetworkFault>
 /// 2. At the top: `UnknownKey`; of `version` `Kind`, `Range`; of `switch`, then of `wire`, `Kind`; of `switch` `Range`,
 ///    where there are more than 64.
 /// 3. At each switch in array order: `UnknownKey`; of `name` `MissingKey`, `Kind`, `Range`; of `table` the same;
-///    `TwiceSwitch`.
+///    of `least_latency_us` `Kind`, `Range`; of `down` `Kind`; `TwiceSwitch`.
 /// 4. At each wire in array order: `UnknownKey`; of `from`, then of `to`, `MissingKey`, `Kind`, `Range`; of `delay_ns`
-///    `Kind`, `Range`; `NoSuchSwitch`; `TwiceFrom`, `TwiceTo`, `OwnPort`.
+///    `Kind`, `Range`; of `down` `Kind`; `NoSuchSwitch`; `TwiceFrom`, `TwiceTo`, `OwnPort`.
 ///
 /// O(n + w (s + w)) time in the length n of the text and the numbers s of switches, at most 64, and w of wires that are
 /// read, at most 1537; O(n) memory.

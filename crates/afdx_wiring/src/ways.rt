@@ -104,6 +104,7 @@ impl<'a> Hops<'a> {
             from: end,
             to: end,
             delay: 0,
+            down: false,
         };
         self.way_along(alloc, MOST_ROWS, exit.link, &line)
     }

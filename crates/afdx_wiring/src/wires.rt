@@ -9,7 +9,7 @@ use crate::fault::{At, Key, NetworkFault};
 use crate::fields::Fields;
 use crate::layout::{End, Switch, Wire};
 use crate::names::end_in;
-use crate::switches::place_of;
+use crate::switches::{is_down, place_of};
 use std::alloc::Global;
 use toml::Table;
 
@@ -83,13 +83,21 @@ fn read_wire(
 ) -> Result<Wire, NetworkFault>
     ensures { Gives (λ w. w) result (wire_at fields.now.at switches.now before.now (table_view fields.now.table.now)) }
 {
-    fields.known(&[Key::From, Key::To, Key::Delay])?;
+    fields.known(&[Key::From, Key::To, Key::Delay, Key::Down])?;
     let (from_name, from_port) = end_at(fields, Key::From)?;
     let (to_name, to_port) = end_at(fields, Key::To)?;
     let delay = fields.optional_number(Key::Delay, MAX_DELAY, 0)? as u32;
+    let said = fields.flag(Key::Down)?;
     let from = found(fields.at, switches, from_name, from_port)?;
     let to = found(fields.at, switches, to_name, to_port)?;
-    fit(fields.at, before, Wire { from, to, delay })
+    let down = said || is_down(switches, from.switch) || is_down(switches, to.switch);
+    let wire = Wire {
+        from,
+        to,
+        delay,
+        down,
+    };
+    fit(fields.at, before, wire)
 }
 
 /// The wires, in file order.

@@ -24,10 +24,18 @@ def table_facts(table: dict[str, Any], switch: str = "") -> Facts:
     return facts
 
 
+def down_of(row: dict[str, Any]) -> str:
+    """Answers whether a switch or a wire is down."""
+    return "true" if row.get("down") else "false"
+
+
 def network_facts(network: dict[str, Any]) -> Facts:
     """Answers the switches and wires of a network file. Where its tables lie is no fact."""
-    facts: Facts = {Place("", "switch", switch["name"]): {"least_latency_us": str(switch.get("least_latency_us", 0))}
-                    for switch in network.get("switch", [])}
+    facts: Facts = {}
+    for switch in network.get("switch", []):
+        facts[Place("", "switch", switch["name"])] = {"least_latency_us": str(switch.get("least_latency_us", 0)),
+                                                      "down": down_of(switch)}
     for wire in network.get("wire", []):
-        facts[Place("", "wire", wire["from"])] = {"to": wire["to"], "delay_ns": str(wire.get("delay_ns", 0))}
+        facts[Place("", "wire", wire["from"])] = {"to": wire["to"], "delay_ns": str(wire.get("delay_ns", 0)),
+                                                  "down": down_of(wire)}
     return facts

@@ -1,5 +1,5 @@
 -- A network in the course of a run: what came in at each switch so far, and what left it.
-use Rattle.std.specs.Prelude.{◌≡◌, ◌+◌, ◌-◌, ◌*◌, ◌<◌, ◌≤◌, ◌∷◌, ◌++◌, nat_lt, Bool, false, min, ℕ, List, [], length, map, filter, set, slice_get, slice_set, Option, Some, None}
+use Rattle.std.specs.Prelude.{◌≡◌, ◌+◌, ◌-◌, ◌*◌, ◌<◌, ◌≤◌, ◌∷◌, ◌++◌, nat_lt, Bool, false, if◌then◌else◌, min, ℕ, List, [], length, map, filter, set, slice_get, slice_set, Option, Some, None}
 use Rattle.std.specs.Prelude.{option_and_then, All, Contains}
 use Rattle.std.specs.Prelude.{Result, MatchResult}
 use Rattle.std.specs.List.{AllByRecursion, position_or_len}
@@ -99,21 +99,25 @@ behind v (Some p) (Some l) = length (out_up_to v (Some v.reached) p) - length l.
 
 -- ---- all switches
 
--- what came in at the end of a wire is what left at its start, so much later
+-- what comes at the end of a wire of what left at its start
+abbrev pub carried : Wire → List Record → List Record
+carried w left = if w.down then [] else map (delayed w.delay) left
+
+-- what came in at the end of a wire is what left at its start, so much later; nothing where the wire is down
 pub record IsCarried (sites : List Site) (w : Wire) : Type 0 where
   pub start : Lane
   pub there : Lane
   pub start_is : lane_there sites w.from ≡ Some start
   pub there_is : lane_there sites w.to ≡ Some there
-  pub same : there.came ≡ map (delayed w.delay) start.left
+  pub same : there.came ≡ carried w start.left
 
 -- the place of the first wire that goes to the same port
 abbrev pub wire_place : List Wire → Wire → ℕ
 wire_place wires w = position_or_len (λ v. is_end v.to w.to) wires
 
--- what leaves a port goes over the wire at this place: it begins there, and is the first to its port
+-- what leaves a port goes over the wire at this place: it begins there, is the first to its port, and is not down
 abbrev pub GoesOver : List Wire → (place : ℕ) → End → Wire → Type 0
-GoesOver wires place from w = (w.from ≡ from) × (wire_place wires w ≡ place)
+GoesOver wires place from w = (w.from ≡ from) × (wire_place wires w ≡ place) × (w.down ≡ false)
 
 -- in the course of it: a record that left a port has gone over the port's wires up to a place, and waits at the others
 pub record IsPending (sites : List Site) (from : End) (frame : Record) (wires : List Wire) (k : ℕ) (w : Wire) : Type 0 where
@@ -121,8 +125,8 @@ pub record IsPending (sites : List Site) (from : End) (frame : Record) (wires : 
   pub there : Lane
   pub start_is : lane_there sites w.from ≡ Some start
   pub there_is : lane_there sites w.to ≡ Some there
-  pub done : (w.from ≡ from → wire_place wires w < k) → there.came ≡ map (delayed w.delay) start.left
-  pub waits : w.from ≡ from → k ≤ wire_place wires w → there.came ++ delayed w.delay frame ∷ [] ≡ map (delayed w.delay) start.left
+  pub done : (w.from ≡ from → wire_place wires w < k) → there.came ≡ carried w start.left
+  pub waits : w.from ≡ from → k ≤ wire_place wires w → there.came ++ carried w (frame ∷ []) ≡ carried w start.left
 
 -- each switch of the network has its site
 pub record AreSites (net : Network) (given : Given) (sites : List Site) : Type 0 where

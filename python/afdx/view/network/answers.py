@@ -14,6 +14,7 @@ from afdx import toml
 from afdx.failure import INPUT, Failure, failing
 from afdx.program import Program
 from afdx.recordings.columns import SECOND, are_stamps, at_any
+from afdx.recordings.pcap import HEADER
 from afdx.recordings.reading import Recording
 from afdx.recordings.walking import RECORD
 from afdx.view.answers import Answers
@@ -79,7 +80,7 @@ def delay(command: str, start: Path, end: Path, nanoseconds: int) -> None:
     """Writes a capture that the program has put once more, so much later."""
     try:
         with end.open("xb") as file:
-            file.write(start.open("rb").read(24))
+            file.write(start.open("rb").read(HEADER))
             for batch in Recording(start, start.name).batches():
                 if not len(batch.stamp):
                     continue
@@ -94,6 +95,15 @@ def delay(command: str, start: Path, end: Path, nanoseconds: int) -> None:
         raise failing(command, f"cannot write {end.name}", error) from error
 
 
+def silence(command: str, put: Path, end: Path) -> None:
+    """Writes a capture of no frames, with the header of one that the program has put."""
+    try:
+        with end.open("xb") as file, put.open("rb") as begin:
+            file.write(begin.read(HEADER))
+    except OSError as error:
+        raise failing(command, f"cannot write {end.name}", error) from error
+
+
 def gather(command: str, asked: Asked, switch: str, folder: str, room: Path) -> Path:
     """Answers a folder with the captures of all ports of a switch, once the network has run into the room."""
     came, wired = room / "in" / switch, asked.layout.into()
@@ -101,7 +111,9 @@ def gather(command: str, asked: Asked, switch: str, folder: str, room: Path) -> 
     for number in asked.tables[switch].ports:
         end, port = came / f"port-{number}.pcap", Port(switch, number)
         wire = wired.get(port)
-        if wire is None:
+        if switch in asked.layout.down or (wire and wire.down):
+            silence(command, Path(capture(room / "out", port)), end)
+        elif wire is None:
             end.symlink_to(os.path.abspath(capture(folder, port)))
         elif wire.delay == 0:
             end.symlink_to(capture(room / "out", wire.start))

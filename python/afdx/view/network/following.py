@@ -61,8 +61,8 @@ def sent(answers: NetworkAnswers, switch: str) -> Iterator[Any]:
 
 
 def over_wires(answers: NetworkAnswers, layout: Layout, frames: Frames) -> Iterator[tuple[Port, Ints]]:
-    """Answers of each output port with a wire the frames whose copies it sent, in their order."""
-    wired = layout.out_of()
+    """Answers of each output port with a wire that is not down the frames whose copies it sent, in their order."""
+    wired = layout.going_on()
     for switch in frames.switches:
         found: dict[Port, list[Ints]] = {port: [] for port in wired if port.switch == switch}
         for rows in sent(answers, switch):
@@ -83,7 +83,7 @@ def came_at(frames: Frames, port: Port) -> Ints:
 def origins_of(answers: NetworkAnswers, layout: Layout, frames: Frames) -> Ints:
     """Answers of each frame that which an end system sent. ValueError is raised if the switches' answers do not fit
     together."""
-    wired = layout.out_of()
+    wired = layout.going_on()
     before = numpy.arange(len(frames.stamps))
     for port, left in over_wires(answers, layout, frames):
         came = came_at(frames, wired[port].end)

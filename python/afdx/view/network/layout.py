@@ -24,12 +24,14 @@ class Wire:
     start: Port
     end: Port
     delay: int  # ns
+    down: bool = False  # nothing comes over it, as it or a switch at one of its ends is down
 
 
 @dataclass(frozen=True)
 class Layout:
     tables: dict[str, Path]  # of each switch the file of its table, in the order of the network file
     wires: list[Wire]
+    down: frozenset[str] = frozenset()  # the switches at which nothing comes in
 
     def into(self) -> dict[Port, Wire]:
         """Answers the wire to each ingress port that has one."""
@@ -39,16 +41,27 @@ class Layout:
         """Answers the wire from each output port that has one."""
         return {wire.start: wire for wire in self.wires}
 
+    def going_on(self) -> dict[Port, Wire]:
+        """Answers the wire from each output port that has one which is not down."""
+        return {wire.start: wire for wire in self.wires if not wire.down}
+
 
 def is_network(content: dict[str, Any]) -> bool:
     """Says whether a text is a network file and not a table: it alone has switches."""
     return "switch" in content
 
 
+def wire_of(row: dict[str, Any], down: frozenset[str]) -> Wire:
+    """Answers a wire, which is down if a switch at one of its ends is."""
+    start, end = port_of(row["from"]), port_of(row["to"])
+    said = bool(row.get("down", False))
+    return Wire(start, end, int(row.get("delay_ns", 0)), said or not down.isdisjoint((start.switch, end.switch)))
+
+
 def layout_of(content: dict[str, Any], folder: Path) -> Layout:
     """Answers the network of a text that the program has accepted as one, in a file of this folder; of another text
     KeyError, TypeError, ValueError or AttributeError may be raised."""
     tables = {str(row["name"]): folder / str(row["table"]) for row in content["switch"]}
-    wires = [Wire(port_of(row["from"]), port_of(row["to"]), int(row.get("delay_ns", 0)))
-             for row in content.get("wire", [])]
-    return Layout(tables, wires)
+    down = frozenset(str(row["name"]) for row in content["switch"] if row.get("down", False))
+    wires = [wire_of(row, down) for row in content.get("wire", [])]
+    return Layout(tables, wires, down)

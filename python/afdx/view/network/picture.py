@@ -3,7 +3,7 @@ from collections import Counter
 from dataclasses import dataclass, field
 
 from afdx.pages.words import count, percent
-from afdx.view.network.layout import Layout
+from afdx.view.network.layout import Layout, Wire
 from afdx.view.network.run import Load, NetworkRun
 
 LETTER, LINE, HEAD, MARGIN = 7.4, 17, 27, 12  # pixels: width of a letter, height of a line, of a name, room around
@@ -21,6 +21,11 @@ class Box:
     x: float
     y: float
     width: float
+    down: bool = False
+
+    @property
+    def name(self) -> str:
+        return name_of(self.switch, self.down)
 
     @property
     def height(self) -> float:
@@ -38,6 +43,7 @@ class Line:
     path: str
     width: float
     over: bool  # more is asked of it than there is
+    down: bool
 
 
 @dataclass
@@ -86,9 +92,19 @@ def columns_of(layout: Layout) -> list[list[str]]:
     return columns
 
 
+def name_of(switch: str, down: bool) -> str:
+    return f"{switch}, down" if down else switch
+
+
+def load_of(wire: Wire, share: float) -> str:
+    """Writes how much of a wire is taken, or that it is down."""
+    return "down" if wire.down else percent(share)
+
+
 def lines_of(loads: list[Load]) -> list[str]:
     """Writes the load of each wired port of a switch, and the greatest of those that lead to end systems."""
-    wired = [f"port {load.port.number} → {load.wire.end}: {percent(load.share)}" for load in loads if load.wire]
+    wired = [f"port {load.port.number} → {load.wire.end}: {load_of(load.wire, load.share)}"
+             for load in loads if load.wire]
     others = [load.share for load in loads if not load.wire]
     greatest = [f"{count(len(others), 'port')} to end systems: {percent(max(others))}"] if others else []
     return wired + greatest
@@ -98,16 +114,16 @@ def box_lines(run: NetworkRun) -> dict[str, list[str]]:
     return {switch: lines_of([load for load in run.loads if load.port.switch == switch]) for switch in run.runs}
 
 
-def placed(columns: list[list[str]], said: dict[str, list[str]]) -> Drawing:
+def placed(columns: list[list[str]], said: dict[str, list[str]], down: frozenset[str]) -> Drawing:
     """Places the boxes, each column in the middle of the height."""
-    longest = max(len(text) for switch, lines in said.items() for text in (switch, *lines))
+    longest = max(len(text) for switch, lines in said.items() for text in (name_of(switch, switch in down), *lines))
     width, drawing = longest * LETTER + 2 * MARGIN, Drawing()
     heights = {switch: Box(switch, lines, 0, 0, width).height for switch, lines in said.items()}
     tall = [sum(heights[switch] for switch in column) + BETWEEN * (len(column) - 1) for column in columns]
     for place, column in enumerate(columns):
         x, y = MARGIN + place * (width + GAP), MARGIN + (max(tall) - tall[place]) / 2
         for switch in column:
-            drawing.boxes.append(Box(switch, said[switch], x, y, width))
+            drawing.boxes.append(Box(switch, said[switch], x, y, width, switch in down))
             y += heights[switch] + BETWEEN
     drawing.width = 2 * MARGIN + len(columns) * (width + GAP) - GAP
     drawing.height = 2 * MARGIN + max(tall)
@@ -157,7 +173,7 @@ def path_of(drawing: Drawing, start: Box, end: Box, aside: float) -> str:
 
 
 def wired(run: NetworkRun, drawing: Drawing) -> Drawing:
-    """Draws the wires, each as broad as much of it is taken."""
+    """Draws the wires, each as broad as much of it is taken; one that is down as if nothing were."""
     boxes, loads = {box.switch: box for box in drawing.boxes}, {load.port: load for load in run.loads}
     before: Counter[tuple[str, str]] = Counter()
     least, most = WIDTHS
@@ -168,12 +184,15 @@ def wired(run: NetworkRun, drawing: Drawing) -> Drawing:
         before[pair] += 1
         load = loads.get(wire.start)
         share = load.share if load else 0.0
-        drawing.lines.append(Line(f"{wire.start} to {wire.end}: {percent(share)}", path,
-                                  least + (most - least) * min(share, 1), share > 1))
+        broad = least if wire.down else least + (most - least) * min(share, 1)
+        drawing.lines.append(Line(f"{wire.start} to {wire.end}: {load_of(wire, share)}", path, broad, share > 1,
+                                  wire.down))
     return drawing
 
 
 def drawings(run: NetworkRun) -> list[Drawing]:
     """Draws the network for wide and for narrow places: by columns, and all in one."""
     columns, said = columns_of(run.asked.layout), box_lines(run)
-    return [wired(run, placed(form, said)) for form in (columns, [[switch for own in columns for switch in own]])]
+    down = run.asked.layout.down
+    return [wired(run, placed(form, said, down))
+            for form in (columns, [[switch for own in columns for switch in own]])]

@@ -8,7 +8,7 @@ from afdx.view.arrivals import Fates, read_fates
 from afdx.view.network import following, ways
 from afdx.view.network.answers import Asked, NetworkAnswers
 from afdx.view.network.layout import Port, Wire
-from afdx.view.network.ways import DrawnWays, Way
+from afdx.view.network.ways import DrawnWays, LostEnd, Way
 from afdx.view.run import Run, run_of
 
 
@@ -46,6 +46,7 @@ class NetworkRun:
     runs: dict[str, Run]
     loads: list[Load]  # of all output ports to which links lead
     ways: list[Way]
+    lost: list[LostEnd]
     drawn: DrawnWays
     first: int | None  # the first frame's stamp
     span: int
@@ -115,4 +116,4 @@ def read(asked: Asked, answers: NetworkAnswers, progress: Progress) -> NetworkRu
     for copies in following.delivered(answers, asked.layout, frames, origins):
         drawing.add(copies)
     return NetworkRun(asked, totals_of(asked, answers.report), runs, loads_of(asked, runs, answers.report), found,
-                      drawing.drawn, first, span)
+                      ways.lost_ends(asked), drawing.drawn, first, span)

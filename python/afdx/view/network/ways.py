@@ -42,6 +42,13 @@ class Way:
         return None if self.bound is None or self.greatest is None else self.greatest / self.bound
 
 
+@dataclass(frozen=True)
+class LostEnd:
+    """An end of a link that gets nothing, as something on the way to it is down."""
+    link: int
+    end: Port
+
+
 class Measured:
     """Counts the frames of each way, by its number, and keeps their least and their greatest delay."""
 
@@ -80,6 +87,11 @@ def checked_ways(asked: Asked) -> list[Way]:
                         [port_of(port) for port in line["ways"].split()],
                         [int(jitter) for jitter in line["jitter"].split()], floor, bound))
     return ways
+
+
+def lost_ends(asked: Asked) -> list[LostEnd]:
+    """Answers the ends that get nothing, as `check` printed them."""
+    return [LostEnd(int(line["link"]), port_of(line["end"])) for line in printed.lines_of(printed.LOST, asked.said)]
 
 
 def seen_ways(asked: Asked, frames: Frames, measured: Measured) -> list[Way]:

@@ -1,4 +1,4 @@
-use Rattle.std.proofs.Common.{◌≡◌, ◌≤◌, ◌+◌, List, Some, refl, sym, ◌∙◌, ap, get_or, length, slice_get, arith, subst}
+use Rattle.std.proofs.Common.{◌≡◌, ◌≤◌, ◌+◌, List, Some, refl, sym, ◌∙◌, ap, get_or, length, slice_get, arith, subst, false}
 use Rattle.std.specs.Prelude.{All, slice_set}
 use Rattle.std.proofs.lemmas.Option.{slice_get-get_or, slice_get_within, get_or_from_slice_get}
 use Rattle.afdx_pcap.specs.Bytes.{plain_bytes}
@@ -92,10 +92,10 @@ pub bring-requires-clause-within : goal.bring-requires-clause-within
 bring-requires-clause-within c =
     let wires = c.as_slice-wires.result.now in
     let k = c.loop-index.index in
-    let u : Wire = get_or wires k (record { from = record { switch = 0; port = 0 }; to = record { switch = 0; port = 0 }; delay = 0 }) in
+    let u : Wire = get_or wires k (record { from = record { switch = 0; port = 0 }; to = record { switch = 0; port = 0 }; delay = 0; down = false }) in
     let is = c.as_slice-wires.ensures.value ∙ ap (λ (l : Layout). l.wires) (c.behind-network.view_is ∙ c.layout.ensures.layout) in
     let at = subst (λ (ws : List Wire). slice_get ws k ≡ Some u) is
-    (slice_get-get_or wires k (record { from = record { switch = 0; port = 0 }; to = record { switch = 0; port = 0 }; delay = 0 }) c.loop-index-test.true) in
+    (slice_get-get_or wires k (record { from = record { switch = 0; port = 0 }; to = record { switch = 0; port = 0 }; delay = 0; down = false }) c.loop-index-test.true) in
     let lt = wire_within c.args.network.now k u c.layout.ensures.ports at in
     let all = c.loop-index.invariant.all in
     omega (arith, lt, all)
@@ -108,7 +108,7 @@ loop-index-preserved c =
     let k = c.loop-index.index in
     let old = c.args.sites.now in
     let sites = c.loop-index.sites in
-    let none : Wire = record { from = record { switch = 0; port = 0 }; to = record { switch = 0; port = 0 }; delay = 0 } in
+    let none : Wire = record { from = record { switch = 0; port = 0 }; to = record { switch = 0; port = 0 }; delay = 0; down = false } in
     let u : Wire = get_or wires k none in
     let is = c.as_slice-wires.ensures.value ∙ ap (λ (l : Layout). l.wires) (c.behind-network.view_is ∙ c.layout.ensures.layout) in
     let here = slice_get-get_or wires k none c.loop-index-test.true in
@@ -135,7 +135,7 @@ returns-in_err-bring-clause-err c =
     let from = c.args.from in
     let wires = c.as_slice-wires.result.now in
     let k = c.loop-index.index in
-    let none : Wire = record { from = record { switch = 0; port = 0 }; to = record { switch = 0; port = 0 }; delay = 0 } in
+    let none : Wire = record { from = record { switch = 0; port = 0 }; to = record { switch = 0; port = 0 }; delay = 0; down = false } in
     let u : Wire = get_or wires k none in
     let is = c.as_slice-wires.ensures.value ∙ ap (λ (l : Layout). l.wires) (c.behind-network.view_is ∙ c.layout.ensures.layout) in
     let here = slice_get-get_or wires k none c.loop-index-test.true in
@@ -156,7 +156,7 @@ returns-in_err-bring-clause-early c =
     let from = c.args.from in
     let wires = c.as_slice-wires.result.now in
     let k = c.loop-index.index in
-    let none : Wire = record { from = record { switch = 0; port = 0 }; to = record { switch = 0; port = 0 }; delay = 0 } in
+    let none : Wire = record { from = record { switch = 0; port = 0 }; to = record { switch = 0; port = 0 }; delay = 0; down = false } in
     let u : Wire = get_or wires k none in
     let is = c.as_slice-wires.ensures.value ∙ ap (λ (l : Layout). l.wires) (c.behind-network.view_is ∙ c.layout.ensures.layout) in
     let here = slice_get-get_or wires k none c.loop-index-test.true in

@@ -1,0 +1,70 @@
+//! What an outage takes from a network's ways.
+
+ghost use Rattle.std.specs.Prelude.{◌≡◌, ◌&&◌, IfOk};
+ghost use Rattle.std.specs.List.{list_any};
+ghost use Rattle.afdx_wiring.specs.File.{is_down, is_end};
+ghost use Rattle.afdx_wiring.specs.Outage.{is_cut, is_lost, up_of, lost_of};
+
+use crate::layout::{End, Layout, Wire};
+use crate::switches;
+use crate::ways::Way;
+use crate::wires::is_end;
+use std::alloc::{AllocError, Global};
+
+/// Whether a wire that comes from this port is down.
+fn is_wire_down(wires: &[Wire], end: End) -> bool
+    ensures { result ≡ list_any (λ w. is_end w.from end && w.down) wires.now }
+{
+    wires.iter().any(|wire| is_end(wire.from, end) && wire.down)
+}
+
+/// The ways of a network's links in an outage.
+#[derive(Drop)]
+pub struct OutageWays {
+    /// Those that use nothing that is down, in their order.
+    pub up: Vec<Way>,
+    /// Those over which nothing comes, in their order.
+    pub lost: Vec<Way>,
+}
+
+impl Layout {
+    /// Whether the switch at a place is down; false where there is none. O(1).
+    pub fn is_down(&self, switch: usize) -> bool
+        ensures { result ≡ is_down self.now.switches switch }
+    {
+        switches::is_down(&self.switches, switch)
+    }
+
+    /// Whether a link's frames go no further at an output port.
+    fn is_cut(&self, end: End) -> bool
+        ensures { result ≡ is_cut self.now end }
+    {
+        self.is_down(end.switch) || is_wire_down(&self.wires, end)
+    }
+
+    /// Whether a way uses something that is down.
+    fn is_lost(&self, way: &Way) -> bool
+        ensures { result ≡ is_lost self.now way.now }
+    {
+        way.ports.iter().any(|end| self.is_cut(*end))
+    }
+
+    /// Which of these ways use nothing that is down, and which do.
+    ///
+    /// An error says that memory ran out. O(p w) for p ports of the ways and w wires.
+    pub fn part_ways(&self, alloc: Global, ways: Vec<Way>) -> Result<OutageWays, AllocError>
+        ensures up { IfOk result (λ parts. parts.up.items ≡ up_of self.now ways.items) }
+        ensures lost { IfOk result (λ parts. parts.lost.items ≡ lost_of self.now ways.items) }
+    {
+        let mut up = Vec::new(alloc);
+        let mut lost = Vec::new(alloc);
+        for way in ways {
+            if self.is_lost(&way) {
+                lost.push(way)?;
+            } else {
+                up.push(way)?;
+            }
+        }
+        Ok(OutageWays { up, lost })
+    }
+}
