@@ -3,8 +3,7 @@ import random
 
 import pytest
 
-from afdx.recordings import walking
-from afdx.recordings.walking import RECORD, in_lanes, of_one_length, one_by_one, records_of
+from afdx.recordings.walking import LEAST_LANES, RECORD, guesses, in_lanes, of_one_length, one_by_one, records_of
 from captures import words
 
 
@@ -29,7 +28,7 @@ def test_lanes(order: str, misleading: bool) -> None:
         assert (places.tolist(), after) == one_by_one(data, order, 0)
         in_a_lane, end = in_lanes(data, order)
         assert in_a_lane.tolist() == places.tolist()[:len(in_a_lane)]
-        assert misleading or end > len(data) - 2 * walking.LANE
+        assert misleading or end > len(data) * 7 // 8
 
 
 @pytest.mark.parametrize("order", "<>")
@@ -51,3 +50,15 @@ def test_records_of_one_length(order: str, count: int, other: int | None, cut: i
 def test_few_bytes(size: int) -> None:
     data = (words(7, 0, 60, 60) + bytes(61))[:size]
     assert (records_of(data, "<")[0].tolist(), records_of(data, "<")[1]) == one_by_one(data, "<", 0)
+
+
+@pytest.mark.parametrize("order", "<>")
+def test_lanes_of_very_many_records(order: str) -> None:
+    """Long records, and then empty ones: so many in a lane that lanes are given up, and all are answered one by one."""
+    second = 1_790_000_000
+    long = words(second, 0, 1514, 1514, order).ljust(RECORD + 1514, b"\x07")
+    other, empty = words(second // 2, 0, 0, 0, order), words(second, 0, 0, 0, order)
+    data = long * 600 + other * 30_000 + (long + empty) * 600
+    assert len(guesses(data, order)) >= LEAST_LANES and len(in_lanes(data, order)[0]) == 0
+    places, after = records_of(data, order)
+    assert (places.tolist(), after) == one_by_one(data, order, 0)

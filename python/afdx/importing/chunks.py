@@ -1,6 +1,5 @@
 """Holds records of a port as a capture has them, cuts them apart and puts them in order."""
-from dataclasses import dataclass
-from functools import cached_property
+from dataclasses import dataclass, replace
 
 import numpy as np
 
@@ -13,7 +12,12 @@ from afdx.recordings.faults import Place
 class Seen:
     """Is a record that others are compared with."""
     stamp: int
-    place: Place
+    origin: Origin
+    where: int
+
+    @property
+    def place(self) -> Place:
+        return self.origin.place_of(self.where)
 
 
 @dataclass
@@ -24,6 +28,7 @@ class Chunk:
     stamp: Column
     where: Column  # in the recording
     origin: Origin
+    is_sorted: bool  # by the stamps
     is_shared: bool = False  # whether the text is a part of one that others have too
     waited: int = 0  # steps
 
@@ -35,38 +40,35 @@ class Chunk:
     def last(self) -> int:
         return int(self.stamp[-1])
 
-    @cached_property
-    def is_sorted(self) -> bool:
-        return bool((self.stamp[1:] >= self.stamp[:-1]).all())
-
-    @cached_property
+    @property
     def least(self) -> int:
         return self.first if self.is_sorted else int(self.stamp.min())
 
-    @cached_property
+    @property
     def greatest(self) -> int:
         return self.last if self.is_sorted else int(self.stamp.max())
 
     def seen(self, index: int) -> Seen:
-        return Seen(int(self.stamp[index]), self.origin.place_of(int(self.where[index])))
+        return Seen(int(self.stamp[index]), self.origin, int(self.where[index]))
 
-    def part(self, begin: int, end: int) -> "Chunk":
-        """Answers some of the records, which lie in this chunk's memory."""
+    def part(self, begin: int, end: int, is_sorted: bool) -> "Chunk":
+        """Answers some of the records, which lie in this chunk's memory; whether they are sorted has to be told."""
         if end - begin == len(self.stamp):
-            return self
+            return replace(self, is_sorted=is_sorted)
         at = self.at[begin:end + 1]
         return Chunk(self.text[at[0]:at[-1]], at - at[0], self.stamp[begin:end], self.where[begin:end], self.origin,
-                     is_shared=True, waited=self.waited)
+                     is_sorted, is_shared=True, waited=self.waited)
 
     def apart(self) -> "Chunk":
         """Answers the records in memory of their own: as long as they wait, no others are kept."""
-        return Chunk(memoryview(bytes(self.text)), self.at, self.stamp.copy(), self.where.copy(), self.origin)
+        return Chunk(memoryview(bytes(self.text)), self.at.copy(), self.stamp.copy(), self.where.copy(), self.origin,
+                     self.is_sorted)
 
     def sorted(self) -> "Chunk":
         """Answers the records in the order of their stamps, equal ones in the order that they have."""
         order = np.argsort(self.stamp, kind="stable")
         text, at = arranged(self.text, np.diff(self.at), order)
-        return Chunk(text, at, self.stamp[order], self.where[order], self.origin)
+        return Chunk(text, at, self.stamp[order], self.where[order], self.origin, is_sorted=True)
 
     def before(self, instant: int) -> int:
         """Answers how many of sorted records are before an instant."""

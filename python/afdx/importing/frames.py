@@ -5,7 +5,7 @@ from dataclasses import dataclass
 import numpy as np
 import numpy.typing as npt
 
-from afdx.recordings.columns import Batch, Column, at_any
+from afdx.recordings.columns import Batch, Column
 
 Numbers = npt.NDArray[np.int32]
 Octets = npt.NDArray[np.uint8]
@@ -25,10 +25,8 @@ class Senders:
 
 def senders(batch: Batch) -> Senders:
     """Answers the senders of a batch's frames."""
-    start = np.minimum(batch.start, len(batch.data) - ADDRESSES)
-    last = at_any(batch.data, "<u4", ADDRESSES - 4)[start]
-    end_system = (last >> 8).astype(np.uint16).byteswap().astype(np.int32)
-    network = (last >> 24).astype(np.uint8)
+    end_system = (batch.sender >> 8).astype(np.uint16).byteswap().astype(np.int32)
+    network = (batch.sender >> 24).astype(np.uint8)
     short = batch.captured < ADDRESSES
     if short.any():
         end_system[short] = NONE

@@ -90,8 +90,8 @@ class Ordering:
         for index, chunk in enumerate(self.waiting):
             size = len(chunk.stamp)
             count = size if index < whole else chunk.before(until)
-            ready += [chunk.part(0, count)] if count else []
-            waiting += [chunk.part(count, size)] if count < size else []
+            ready += [chunk.part(0, count, True)] if count else []
+            waiting += [chunk.part(count, size, True)] if count < size else []
         self.waiting = waiting
         if ready:
             self.put(ready)
@@ -100,4 +100,4 @@ class Ordering:
         for text in merged(ready):
             self.write(text)
             self.size -= len(text)
-        self.written = max((chunk.seen(-1) for chunk in ready), key=lambda seen: seen.stamp)
+        self.written = max(ready, key=lambda chunk: chunk.last).seen(-1)

@@ -101,9 +101,11 @@ class Import:
         except RecordingFault as fault:
             self.faults.append(fault)
             reading.ended = True
-        for port in dict.fromkeys(port for taker in reading.takers for port in taker.names):
-            self.ports[port].ordering.settle({taker.number: other.progress(taker) for other, taker in self.takers
-                                              if not other.ended and port in taker.names})
+        ports = dict.fromkeys(port for taker in reading.takers for port in taker.names)
+        progress = [(taker, other.progress(taker)) for other, taker in self.takers
+                    if not other.ended and not ports.keys().isdisjoint(taker.names)]
+        for port in ports:
+            self.ports[port].ordering.settle({taker.number: far for taker, far in progress if port in taker.names})
 
     def key(self, reading: Reading) -> int:
         return min((reading.progress(taker) for taker in reading.takers), default=LONG_AGO)

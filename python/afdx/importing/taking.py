@@ -10,7 +10,8 @@ from afdx.importing.copying import copied, permuted, places_of
 from afdx.importing.frames import CHECK_SEQUENCE, CheckSequences, Octets, Senders, without_check_sequence
 from afdx.importing.ordering import Ordering
 from afdx.importing.rules import NETWORKS, Source
-from afdx.recordings.columns import END_OF_STAMPS, ROOM, SECOND, Batch, Column, Interface, are_stamps, at_any, picked
+from afdx.recordings.columns import (END_OF_STAMPS, ROOM, SECOND, Batch, Column, Interface, are_in_order, are_stamps,
+                                     at_any, picked)
 from afdx.recordings.faults import Place, RecordingFault
 from afdx.recordings.pcap import headers
 from afdx.recordings.reading import Recording
@@ -91,11 +92,15 @@ class Frames:
 
     def chunk(self, batch: Batch, place: Column | None, is_written: bool) -> Chunk:
         """Copies their records out of the batch, each to its place among them, or as they lie; with headers as afdx
-        writes them, if these are not there."""
+        writes them, if these are not there. Records in one run that are wanted so stay where they are."""
         length, stamp, where = self.captured + ROOM, self.stamp, picked(batch.where, self.record)
         begin = picked(batch.start, self.record) - ROOM
+        is_sorted = place is None and are_in_order(stamp)
         if place is None:
             at = places_of(length)
+            if is_written and int(at[-1]) == begin[-1] + length[-1] - begin[0]:
+                text = memoryview(batch.data)[begin[0]:begin[0] + at[-1]]
+                return Chunk(text, at, stamp, where, batch.origin, is_sorted, is_shared=True)
             to = at[:-1]
         else:
             at = places_of(permuted(length, place))
@@ -103,7 +108,7 @@ class Frames:
         text = copied(batch.data, begin, length, to)
         if not is_written:
             at_any(text, f"V{ROOM}")[to] = headers(self.stamp, self.captured, self.original)
-        return Chunk(text, at, stamp, where, batch.origin)
+        return Chunk(text, at, stamp, where, batch.origin, is_sorted)
 
 
 def corrected(stamp: Column, source: Source, anchor: int) -> Column:
@@ -162,11 +167,12 @@ class Taker:
         if len(frames):
             place = permuted(np.arange(len(frames)), np.argsort(port_of, kind="stable"))
             chunk = frames.chunk(batch, place, is_written)
-            end = 0
+            all_sorted, end = are_in_order(frames.stamp), 0
             for port, counts in zip(self.ports, frames.counts(port_of)[1:]):
                 if counts.frames:
                     begin, end = end, end + counts.frames
-                    port.add(self.number, chunk.part(begin, end), counts)
+                    is_sorted = all_sorted or are_in_order(chunk.stamp[begin:end])
+                    port.add(self.number, chunk.part(begin, end, is_sorted), counts)
         return frames.record
 
     def chosen(self, batch: Batch) -> Column:

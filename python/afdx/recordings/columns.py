@@ -9,12 +9,14 @@ import numpy.typing as npt
 from afdx.recordings.faults import Place
 
 Column = npt.NDArray[np.int64]
+Words = npt.NDArray[np.uint32]
 Number = TypeVar("Number", bound=np.generic)
 
 SECOND = 1_000_000_000
 END_OF_STAMPS = 4_294_967_295 * SECOND  # afdx reads no stamp from here on
 ROOM = 16  # bytes before each frame's first one: enough for a record's header
 HALF = 32  # bits
+SENDER = 8  # the place in a frame of the last four bytes of its source address
 
 
 @dataclass(frozen=True)
@@ -47,6 +49,7 @@ class Batch:
     original: Column  # at least captured
     stamp: Column  # ns
     interface: Column  # its place among the reader's interfaces
+    sender: Words  # the last four bytes of the source address, the first one lowest; any if these were not captured
     is_written: bool = False  # whether the records, from ROOM before each frame on, are as afdx writes them
 
 
@@ -63,15 +66,26 @@ def at_any(data: bytes | memoryview, kind: str, begin: int = 0) -> npt.NDArray[A
     return found
 
 
-def words(data: bytes, at: Column, count: int, order: str) -> npt.NDArray[np.uint32]:
-    """Answers the words of 4 bytes from each of these places on, a row for each."""
-    picked = at_any(data, f"V{4 * count}")[at]
-    return picked.view(f"{order}u4").reshape(len(at), count).astype(np.uint32, copy=False)
+def words(data: bytes, at: Column, count: int, order: str) -> Words:
+    """Answers the words of 4 bytes from each of these places on, which ascend, a row for each; zeros past the end."""
+    size = 4 * count
+    within = int(np.searchsorted(at, len(data) - size, "right"))
+    picked = at_any(data, f"V{size}")[at[:within]]
+    if within < len(at):
+        last = data[at[within]:] + bytes(size)
+        picked = np.concatenate((picked, at_any(last, f"V{size}")[at[within:] - at[within]]))
+    found: Words = picked.view(f"{order}u4").reshape(len(at), count).astype(np.uint32, copy=False)
+    return found
 
 
 def picked(column: npt.NDArray[Number], ascending: Column) -> npt.NDArray[Number]:
     """Answers what a column has at these places, which ascend: the column itself if they are all."""
     return column if len(ascending) == len(column) else column.take(ascending)
+
+
+def are_in_order(stamp: Column) -> bool:
+    """Answers whether no stamp is before the one in front of it."""
+    return bool((stamp[1:] >= stamp[:-1]).all())
 
 
 def are_stamps(stamp: Column) -> bool:

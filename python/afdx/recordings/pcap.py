@@ -6,7 +6,7 @@ from typing import Self
 import numpy as np
 import numpy.typing as npt
 
-from afdx.recordings.columns import SECOND, Batch, Column, Interface, Origin, wheres, words
+from afdx.recordings.columns import SECOND, SENDER, Batch, Column, Interface, Origin, wheres, words
 from afdx.recordings.faults import Place, RecordingFault
 from afdx.recordings.form import MOST_CAPTURED, Form
 from afdx.recordings.walking import RECORD, records_of
@@ -19,6 +19,7 @@ MAGICS = {
     bytes.fromhex("a1b23c4d"): (">", 1),
     bytes.fromhex("4d3cb2a1"): ("<", 1),
 }
+TO_SENDER = (RECORD + SENDER) // 4 + 1  # words of a record from its header to the end of its frame's source address
 LINK_TYPE = 0x03FF_FFFF  # the rest of its word may say how long a check sequence the frames have
 WRITTEN = struct.pack("<IHHiIII", 0xA1B23C4D, 2, 4, 0, 0, MOST_CAPTURED, 1)  # a capture without records
 
@@ -45,21 +46,27 @@ class Pcap(Form):
     def batches(self, data: bytes) -> Iterator[Batch]:
         at, after = records_of(data, self.order)
         where, origin = wheres(at), Origin(self.place, self.count + 1, self.offset)
-        fields = np.ascontiguousarray(words(data, at, 4, self.order).T)
-        self.refuse(fields[2] > MOST_CAPTURED, where, origin, "{} bytes captured", fields[2])
+        fields = words(data, at, TO_SENDER, self.order)
+        captured = fields[:, 2].astype(np.int64)
+        self.refuse(captured > MOST_CAPTURED, where, origin, "{} bytes captured", captured)
         whole = len(at) - (after > len(data))
         self.used = after if whole == len(at) else int(at[-1])
-        at, where, fields = at[:whole], where[:whole], fields[:, :whole]
-        nanos = fields[1].astype(np.int64) * self.fraction
+        at, where, fields, captured = at[:whole], where[:whole], fields[:whole], captured[:whole]
+        nanos = fields[:, 1].astype(np.int64)
+        nanos *= self.fraction
         self.refuse(nanos >= SECOND, where, origin, "a fraction of {} ns", nanos)
-        stamp = fields[0].astype(np.int64) * SECOND + nanos
+        stamp = fields[:, 0].astype(np.int64)
+        stamp *= SECOND
+        stamp += nanos
         self.refuse_late(stamp, where, origin)
         self.count += whole
         self.offset += self.used
-        original = np.maximum(fields[3], fields[2])
-        is_written = self.order == "<" and self.fraction == 1 and bool((original == fields[3]).all())
-        yield Batch(data, origin, where, at + RECORD, fields[2].astype(np.int64), original.astype(np.int64), stamp,
-                    np.broadcast_to(np.int64(0), (whole,)), is_written)
+        said = fields[:, 3].astype(np.int64)
+        original = np.maximum(said, captured)
+        is_written = self.order == "<" and self.fraction == 1 and bool((original == said).all())
+        sender = fields[:, -1] if self.order == "<" else fields[:, -1].byteswap()
+        yield Batch(data, origin, where, at + RECORD, captured, original, stamp,
+                    np.broadcast_to(np.int64(0), (whole,)), sender, is_written)
 
 
 def headers(stamp: Column, captured: Column, original: Column) -> npt.NDArray[np.void]:

@@ -6,7 +6,7 @@ from typing import Self
 import numpy as np
 import numpy.typing as npt
 
-from afdx.recordings.columns import SECOND, Batch, Column, Interface, Origin, wheres, words
+from afdx.recordings.columns import SECOND, SENDER, Batch, Column, Interface, Origin, wheres, words
 from afdx.recordings.faults import RecordingFault
 from afdx.recordings.form import MOST_CAPTURED, Form
 
@@ -107,7 +107,8 @@ class Pcapng(Form):
         stamp = self.stamps(fields, interface)
         self.refuse_late(stamp, where, origin)
         original = np.maximum(fields[:, 6], captured)
-        return Batch(data, origin, where, at + BEFORE_FRAME, captured, original, stamp, interface)
+        sender = words(data, at + BEFORE_FRAME + SENDER, 1, "<")[:, 0]
+        return Batch(data, origin, where, at + BEFORE_FRAME, captured, original, stamp, interface, sender)
 
     def stamps(self, fields: Column, interface: Column) -> Column:
         """Answers the packets' stamps, each by its interface's clock."""

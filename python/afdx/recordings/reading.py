@@ -46,6 +46,7 @@ class Recording:
                 yield from self.form.batches(data)
                 self.read = file.tell()
                 rest = data[self.form.used:]
+                data = b""  # its memory is free for the next piece: while it is in the caches
                 data = self.longer(unpacked, rest)
                 more = len(data) - len(rest)
             if self.form is None or data or self.form.ends_within or unpacked.cut:

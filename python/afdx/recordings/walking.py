@@ -2,14 +2,17 @@
 import struct
 
 import numpy as np
+import numpy.typing as npt
 
-from afdx.recordings.columns import HALF, Column, at_any
+from afdx.recordings.columns import HALF, Column, at_any, words
 
 RECORD = 16  # bytes of a record's header
-LANE = 16 * 1024  # bytes after which a record is guessed from which to go on too
+IN_A_LANE = 64  # records, about, after which one is guessed from which to go on too
+NEAR = 8  # the part of a lane in which it is looked for
+FIRST = 8 * 1024  # bytes in which it is seen how long records are
 LEAST_LANES = 16
+MOST_STEPS = 1024  # after which lanes are given up: the places that are kept stay few whatever the recording holds
 AT_ONCE = 8  # steps before it is looked whether all lanes have come to their end
-LAST_SECOND = 2**32 - 1
 MANY = 64  # records of one length that are worth a look whether all are
 
 
@@ -46,7 +49,8 @@ def one_by_one(data: bytes, order: str, at: int) -> tuple[list[int], int]:
 
 def in_lanes(data: bytes, order: str) -> tuple[Column, int]:
     """Goes from many guessed records at once, each of them up to the next one, and answers as `one_by_one` does, but
-    that the records end with a lane. If a guess was wrong, the lanes do not join, and no records are answered."""
+    that the records end with a lane. If a guess was wrong, the lanes do not join, and no records are answered; nor are
+    they if a lane holds too many."""
     begins = guesses(data, order)
     if len(begins) < LEAST_LANES:
         return np.empty(0, np.int64), 0
@@ -55,7 +59,7 @@ def in_lanes(data: bytes, order: str) -> tuple[Column, int]:
     # numpy takes less for columns of one length than for a column and a number
     header, half, past = (np.full(len(at), value) for value in (RECORD, np.uint64(HALF), begins[-1] + 1))
     steps: list[Column] = []
-    while len(steps) % AT_ONCE or (at < end).any():
+    while len(steps) < MOST_STEPS and (len(steps) % AT_ONCE or (at < end).any()):
         steps.append(at)
         after = np.right_shift(fields[at], half).view(np.int64)
         after += at
@@ -63,31 +67,29 @@ def in_lanes(data: bytes, order: str) -> tuple[Column, int]:
         at = np.minimum(after, past, out=after)
     walked = np.array([*steps, at])
     is_within = walked < end
-    joins = walked[is_within.sum(axis=0), np.arange(len(end))] == end
+    after_last = np.minimum(is_within.sum(axis=0), len(steps))
+    joins = walked[after_last, np.arange(len(end))] == end
     return (walked.T[is_within.T], int(begins[-1])) if joins.all() else (np.empty(0, np.int64), 0)
 
 
 def guesses(data: bytes, order: str) -> Column:
-    """Answers the first record and then one that seems to begin in each lane, as long as there is one."""
-    header = struct.Struct(f"{order}4I")
-    found = [0]
-    for lane in range(LANE, len(data) - LANE, LANE):
-        second = header.unpack_from(data, found[-1])[0]
-        guess = guessed(data, header, lane, second) or guessed(data, header, lane, second + 1)
-        if guess is None:
-            break
-        found.append(guess)
-    return np.array(found)
+    """Answers the first record and then one that seems to begin in each lane, where one does: the first place that has
+    the upper half of the first record's second, if it fits."""
+    first, after = one_by_one(data[:FIRST], order, 0)
+    lane = IN_A_LANE * after // max(len(first), 1)
+    half = 2 if order == "<" else 0  # where it lies in a header
+    upper, near = data[half:half + 2], lane // NEAR
+    found = [data.find(upper, begin, begin + near) for begin in range(lane, len(data) - lane, lane)] if lane else []
+    at = np.array(found, np.int64) - half
+    at = at[at > 0]
+    return np.append(0, at[are_likely(data, at, order)])
 
 
-def guessed(data: bytes, header: struct.Struct, lane: int, second: int) -> int | None:
-    """Answers where a record of this second seems to begin in a lane: its lengths and the next record's second fit."""
-    if second > LAST_SECOND:
-        return None
-    at = data.find(header.pack(second, 0, 0, 0)[:4], lane, lane + LANE)
-    if at < 0:
-        return None
-    _, _, captured, original = header.unpack_from(data, at)
+def are_likely(data: bytes, at: Column, order: str) -> npt.NDArray[np.bool_]:
+    """Answers where a record seems to begin: its lengths and the next record's second fit."""
+    second, _, captured, original = words(data, at, 4, order).T
     after = at + RECORD + captured
-    fits = captured <= original and after + RECORD <= len(data)
-    return at if fits and header.unpack_from(data, after)[0] - second in (0, 1) else None
+    fits = (captured <= original) & (after + RECORD <= len(data))
+    later = at_any(data, f"{order}u4")[np.where(fits, after, at)] - second
+    likely: npt.NDArray[np.bool_] = fits & (later <= 1)
+    return likely
