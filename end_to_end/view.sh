@@ -53,7 +53,7 @@ says() {
 
 # from_answers: of what the program answered before the same page is made but for its origin, and no program is run.
 from_answers() {
-    "$AFDX" size "$network/table.toml" >earlier/size.txt && "$AFDX" measure "$network/table.toml" "$network/in" >earlier/measure.txt &&
+    "$AFDX" size "$network/table.toml" --csv >earlier/size.csv && "$AFDX" measure "$network/table.toml" "$network/in" --csv >earlier/measure.csv &&
         "$AFDX" trace "$network/table.toml" "$network/in" earlier || return 1
     (export AFDX=none && makes answers.html "$network/table.toml" "$network/in" --answers earlier) &&
         cmp <(sed '/id="origin"/,$d' network.html) <(sed '/id="origin"/,$d' answers.html)
@@ -148,7 +148,7 @@ check "what is promised of the run" grep 'then under this accepted table, whatev
 check "the same page again" makes again.html "$network/table.toml" "$network/in"
 check "is the same but for its own name" diff <(sed 's/again\.html/network.html/' again.html) network.html
 check "so is that of earlier answers" from_answers
-check "answers that are not there" ends_with 5 "afdx-view: cannot read none/size.txt: No such file or directory" \
+check "answers that are not there" ends_with 5 "afdx-view: cannot read none/size.csv: No such file or directory" \
     "$network/table.toml" "$network/in" made/page.html --answers none
 echo 'no,such,columns' >earlier/arrivals.csv
 check "answers that are none" ends_with 5 "afdx-view: the files in earlier are not what size, measure and trace answer of $network/table.toml" \
@@ -236,7 +236,7 @@ recorded() {
 # from_recorded_answers: of what compare answered before too the same page is made but for its origin.
 from_recorded_answers() {
     "$AFDX" trace "$network/table.toml" "$network/in" earlier &&
-        "$AFDX" compare "$network/table.toml" "$network/in" faulty --stamps=free --rows earlier >earlier/compare.txt
+        "$AFDX" compare "$network/table.toml" "$network/in" faulty --stamps=free --rows earlier --csv >earlier/compare.csv
     (export AFDX=none && makes again.html "$network/table.toml" "$network/in" --answers earlier --recorded faulty --stamps free) &&
         cmp again-differences.csv faulty-differences.csv &&
         cmp <(sed '/id="origin"/,$d; s/faulty-diff/again-diff/g' faulty.html) <(sed '/id="origin"/,$d' again.html)
@@ -266,8 +266,8 @@ python3 "$top/bench/network.py" big 1000000
 check "Ctrl-C while it draws" is_ended_by INT drawing 130 big/table.toml big/in
 check "SIGTERM while it draws" is_ended_by TERM drawing 143 big/table.toml big/in
 mkdir answers
-"$AFDX" size big/table.toml >answers/size.txt
-"$AFDX" measure big/table.toml big/in >answers/measure.txt
+"$AFDX" size big/table.toml --csv >answers/size.csv
+"$AFDX" measure big/table.toml big/in --csv >answers/measure.csv
 check "answers of 24 ports, 4096 links, a million frames" "$AFDX" trace big/table.toml big/in answers
 check "their page, in memory for what is drawn" keeps_below 250000 big/table.toml big/in big.html --answers answers
 check "its page is below 20 MB" below_20_megabytes big.html

@@ -14,14 +14,16 @@ from afdx.view.table import Link, Table
 
 FIRST = 1_768_471_200_000_000_000
 TABLE = Table(5_000, [1, 2], {10: Link(1_000_000, "high"), 11: Link(2_000_000, "low")})
-SIZE = """port 1 rate 10 of 2048000000 buffer 100 of 200 high - low 500 of 1000 fits
-port 2 rate 20 of 2048000000 buffer 300 of 200 high 250 of 1000 low none of 1000 breaks L2 L4
+SIZE = """port,rate,rate_limit,buffer,buffer_limit,high,high_limit,low,low_limit,breaks
+1,10,2048000000,100,200,,,500,1000,
+2,20,2048000000,300,200,250,1000,,1000,L2;L4
 """
-MEASURED = """link 10 out 2 sent 2 least 200 greatest 240 bound 250
-link 11 out 1 sent 1 least 300 greatest 300 bound 500
-link 11 out 2 sent 1 least 400 greatest 400 bound 1000
-out 1 occupied 0 of 200 at -
-out 2 occupied 150 of 200 at 1768471200002000000
+MEASURED = """kind,link,port,sent,least,greatest,bound,slack,slack_per_mille,occupied,buffer,at
+delays,10,2,2,200,240,250,10,40,,,
+delays,11,1,1,300,300,500,200,400,,,
+delays,11,2,1,400,400,1000,600,600,,,
+buffer,,1,,,,,,,0,200,
+buffer,,2,,,,,,,150,200,1768471200002000000
 """
 ARRIVALS = """frame,port,record,stamp,size,link,fate,early,full
 0,1,1,1768471200000000000,64,10,passed,,
@@ -43,12 +45,12 @@ DEPARTURES = """port,record,frame,link,priority,size,came,start,left,delay,outco
 
 def put_answers(folder: Path, size: str = SIZE, measured: str = MEASURED, arrivals: str = ARRIVALS,
                 departures: str = DEPARTURES) -> None:
-    texts = {"size.txt": size, "measure.txt": measured, "arrivals.csv": arrivals, "departures.csv": departures}
+    texts = {"size.csv": size, "measure.csv": measured, "arrivals.csv": arrivals, "departures.csv": departures}
     for name, text in texts.items():
         (folder / name).write_text(text)
 
 
 def read(folder: Path, table: Table = TABLE, checked: bool = True, compared: Compared | None = None) -> Run:
     """Reads the answers that the folder has."""
-    size, measured = ((folder / name).read_text() for name in ("size.txt", "measure.txt"))
+    size, measured = ((folder / name).read_text() for name in ("size.csv", "measure.csv"))
     return run.read(Answers(size, measured, folder, compared), table, checked, Progress("test"))

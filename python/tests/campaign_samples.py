@@ -13,11 +13,27 @@ STAND_IN = """#!/bin/sh
 command=$1 folder=$3 out=$4
 [ "$1" = check ] || . "$folder/act"
 """
-QUIET = """case $command in
-survey|run) echo "in 1 seen 4 cut 0 short 1 long 0 foreign 0 no-link 0 wrong-port 0 too-big 0 clean 3"
-            echo "link 10 passed 3 policed 0" ;;
+COLUMNS = ("kind,port,link,priority,seen,cut,short,long,foreign,no-link,wrong-port,too-big,clean,passed,policed,"
+           "offered,full,aged,sent,least,greatest,bound,slack,slack_per_mille,occupied,buffer,at,from,to,least_early,"
+           "greatest_early,frames").split(",")
+
+
+def row(kind: str, **fields: object) -> str:
+    """Writes a row of `survey`; a column whose name has a dash has `_` in its place here."""
+    given = {name.replace("_", "-"): value for name, value in fields.items()} | fields | {"kind": kind}
+    return ",".join(str(given.get(column, "")) for column in COLUMNS)
+
+
+HEADING = ",".join(COLUMNS)
+SEEN = row("in", port=1, seen=4, cut=0, short=1, long=0, foreign=0, no_link=0, wrong_port=0, too_big=0, clean=3)
+PASSED = row("link", link=10, passed=3, policed=0)
+DELAYS = row("delays", link=10, port=2, sent=3, least=100, greatest=200, bound=1000, slack=800, slack_per_mille=800)
+QUIET = f"""case $command in
+survey|run) echo "{HEADING}"
+            echo "{SEEN}"
+            echo "{PASSED}" ;;
 esac
-[ "$command" != survey ] || echo "link 10 out 2 sent 3 least 100 greatest 200 bound 1000"
+[ "$command" != survey ] || echo "{DELAYS}"
 """
 
 GOOD = """program = "./afdx"

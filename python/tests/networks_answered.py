@@ -11,7 +11,7 @@ import pytest
 from afdx.program import Progress
 from afdx.view.answers import Answers
 from afdx.view.network import run
-from afdx.view.network.answers import Asked, NetworkAnswers
+from afdx.view.network.answers import Asked, NetworkAnswers, sizes_of
 from afdx.view.network.layout import Layout, Port, Wire
 from afdx.view.network.run import NetworkRun
 from afdx.view.table import Link, Table
@@ -22,54 +22,56 @@ LAYOUT = Layout({"A": Path("a.toml"), "B": Path("b.toml")}, WIRES)
 TABLES = {"A": Table(0, [1, 2], {10: Link(1_000_000, "high"), 11: Link(2_000_000, "low")}),
           "B": Table(0, [1, 2, 3], {10: Link(1_000_000, "low"), 11: Link(2_000_000, "low"),
                                     12: Link(2_000_000, "high")})}
-CHECK = """switch A accepted
-switch B accepted
-link 10 from A.1 to B.2 ways A.2 B.2 least 200 most 1000 jitter 0 1
-link 11 from B.3 to A.1 ways B.1 A.1 least 200 most 500 jitter 0 2
-link 12 from B.3 to B.2 ways B.2 least 100 most 400 jitter 0
-greatest 1000 link 10 to B.2
-accepted
+CHECK = """link,from,to,ways,least,most,jitter
+10,A.1,B.2,A.2;B.2,200,1000,0;1
+11,B.3,A.1,B.1;A.1,200,500,0;2
+12,B.3,B.2,B.2,100,400,0
 """
-SIZE = """port 1 rate 20 of 200 buffer 100 of 200 high - low 250 of 1000 fits, switch A
-port 2 rate 50 of 200 buffer 100 of 200 high 250 of 1000 low - fits, switch A
-port 1 rate 20 of 200 buffer 100 of 200 high - low 250 of 1000 fits, switch B
-port 2 rate 190 of 200 buffer 100 of 200 high 250 of 1000 low 900 of 1000 fits, switch B
+SIZE = """switch,port,rate,rate_limit,buffer,buffer_limit,high,high_limit,low,low_limit,breaks
+A,1,20,200,100,200,,,250,1000,
+A,2,50,200,100,200,250,1000,,,
+B,1,20,200,100,200,,,250,1000,
+B,2,190,200,100,200,250,1000,900,1000,
 """
-REPORT = """A in 1 seen 3 cut 0 short 0 long 0 foreign 0 no-link 0 wrong-port 0 too-big 0 clean 3
-A in 2 seen 1 cut 0 short 0 long 0 foreign 0 no-link 0 wrong-port 0 too-big 0 clean 1
-A link 10 passed 2 policed 1
-A link 11 passed 1 policed 0
-A out 1 high offered 0 full 0 aged 0 sent 0
-A out 1 low offered 1 full 0 aged 0 sent 1
-A out 2 high offered 2 full 0 aged 0 sent 2
-A out 2 low offered 0 full 0 aged 0 sent 0
-B in 1 seen 2 cut 0 short 0 long 0 foreign 0 no-link 0 wrong-port 0 too-big 0 clean 2
-B in 2 seen 0 cut 0 short 0 long 0 foreign 0 no-link 0 wrong-port 0 too-big 0 clean 0
-B in 3 seen 3 cut 0 short 0 long 0 foreign 1 no-link 0 wrong-port 0 too-big 0 clean 2
-B link 10 passed 2 policed 0
-B link 11 passed 1 policed 0
-B link 12 passed 1 policed 0
-B out 1 high offered 0 full 0 aged 0 sent 0
-B out 1 low offered 1 full 0 aged 0 sent 1
-B out 2 high offered 1 full 0 aged 0 sent 1
-B out 2 low offered 2 full 0 aged 0 sent 2
-B out 3 high offered 0 full 0 aged 0 sent 0
-B out 3 low offered 0 full 0 aged 0 sent 0
+REPORT = """switch,kind,port,link,priority,seen,cut,short,long,foreign,no-link,wrong-port,too-big,clean,\
+passed,policed,offered,full,aged,sent
+A,in,1,,,3,0,0,0,0,0,0,0,3,,,,,,
+A,in,2,,,1,0,0,0,0,0,0,0,1,,,,,,
+A,link,,10,,,,,,,,,,,2,1,,,,
+A,link,,11,,,,,,,,,,,1,0,,,,
+A,out,1,,high,,,,,,,,,,,,0,0,0,0
+A,out,1,,low,,,,,,,,,,,,1,0,0,1
+A,out,2,,high,,,,,,,,,,,,2,0,0,2
+A,out,2,,low,,,,,,,,,,,,0,0,0,0
+B,in,1,,,2,0,0,0,0,0,0,0,2,,,,,,
+B,in,2,,,0,0,0,0,0,0,0,0,0,,,,,,
+B,in,3,,,3,0,0,0,1,0,0,0,2,,,,,,
+B,link,,10,,,,,,,,,,,2,0,,,,
+B,link,,11,,,,,,,,,,,1,0,,,,
+B,link,,12,,,,,,,,,,,1,0,,,,
+B,out,1,,high,,,,,,,,,,,,0,0,0,0
+B,out,1,,low,,,,,,,,,,,,1,0,0,1
+B,out,2,,high,,,,,,,,,,,,1,0,0,1
+B,out,2,,low,,,,,,,,,,,,2,0,0,2
+B,out,3,,high,,,,,,,,,,,,0,0,0,0
+B,out,3,,low,,,,,,,,,,,,0,0,0,0
 """
 Came = tuple[int, int, int, int | str, str, str]  # port, record, stamp, link, fate, early
 Left = tuple[int, int, int, int, str, int, int]  # port, record, frame, link, priority, came, left
 # of each switch what measure and trace say; stamps are given after FIRST
 MEASURED = {
-    "A": """link 10 out 2 sent 2 least 200 greatest 210 bound 250
-link 11 out 1 sent 1 least 100 greatest 100 bound 250
-out 1 occupied 64 of 200 at 1768471200000005200
-out 2 occupied 64 of 200 at 1768471200000000000
+    "A": """kind,link,port,sent,least,greatest,bound,slack,slack_per_mille,occupied,buffer,at
+delays,10,2,2,200,210,250,40,160,,,
+delays,11,1,1,100,100,250,150,600,,,
+buffer,,1,,,,,,,64,200,1768471200000005200
+buffer,,2,,,,,,,64,200,1768471200000000000
 """,
-    "B": """link 10 out 2 sent 2 least 300 greatest 310 bound 900
-link 11 out 1 sent 1 least 200 greatest 200 bound 250
-link 12 out 2 sent 1 least 100 greatest 100 bound 250
-out 1 occupied 64 of 200 at 1768471200000005000
-out 2 occupied 128 of 200 at 1768471200000000300
+    "B": """kind,link,port,sent,least,greatest,bound,slack,slack_per_mille,occupied,buffer,at
+delays,10,2,2,300,310,900,590,655,,,
+delays,11,1,1,200,200,250,50,200,,,
+delays,12,2,1,100,100,250,150,600,,,
+buffer,,1,,,,,,,64,200,1768471200000005000
+buffer,,2,,,,,,,128,200,1768471200000000300
 """}
 ARRIVALS: dict[str, list[Came]] = {
     "A": [(1, 1, 0, 10, "passed", ""), (1, 2, 400, 10, "policed", "999600"), (2, 1, 5200, 11, "passed", ""),
@@ -84,18 +86,15 @@ DEPARTURES: dict[str, list[Left]] = {
 
 # The same in an outage of the wire from A.2 to B.1: of link 10 nothing comes to B.
 CUT_LAYOUT = Layout(LAYOUT.tables, [replace(WIRES[0], down=True), WIRES[1]])
-CUT_CHECK = """switch A accepted
-switch B accepted
-link 11 from B.3 to A.1 ways B.1 A.1 least 200 most 500 jitter 0 2
-link 12 from B.3 to B.2 ways B.2 least 100 most 400 jitter 0
-link 10 to B.2 none
-greatest 500 link 11 to A.1
-accepted
+CUT_CHECK = """link,from,to,ways,least,most,jitter
+11,B.3,A.1,B.1;A.1,200,500,0;2
+12,B.3,B.2,B.2,100,400,0
+10,,B.2,,,,
 """
-CUT_REPORT = REPORT.replace("B in 1 seen 2", "B in 1 seen 0").replace(
-    "B link 10 passed 2", "B link 10 passed 0").replace(
-    "B out 2 low offered 2 full 0 aged 0 sent 2", "B out 2 low offered 0 full 0 aged 0 sent 0")
-CUT_MEASURED = MEASURED | {"B": MEASURED["B"].replace("sent 2 least 300 greatest 310", "sent 0 least - greatest -")}
+CUT_REPORT = REPORT.replace("B,in,1,,,2", "B,in,1,,,0").replace(
+    "B,link,,10,,,,,,,,,,,2", "B,link,,10,,,,,,,,,,,0").replace(
+    "B,out,2,,low,,,,,,,,,,,,2,0,0,2", "B,out,2,,low,,,,,,,,,,,,0,0,0,0")
+CUT_MEASURED = MEASURED | {"B": MEASURED["B"].replace("10,2,2,300,310,900,590,655", "10,2,0,,,900,,")}
 CUT_ARRIVALS = ARRIVALS | {"B": [row for row in ARRIVALS["B"] if row[0] == 3]}
 CUT_DEPARTURES = DEPARTURES | {"B": [(1, 1, 2, 11, "low", 5000, 5200), (2, 1, 0, 12, "high", 400, 500)]}
 
@@ -120,9 +119,7 @@ def departures_of(switch: str) -> str:
 
 
 def asked(checked: bool = True, said: str = CHECK, refused: tuple[str, ...] = ()) -> Asked:
-    sizes = {switch: "".join(line.removesuffix(f", switch {switch}") + "\n" for line in SIZE.splitlines()
-                             if line.endswith(f" {switch}")) for switch in TABLES}
-    return Asked("net.toml", checked, said, list(refused), sizes, LAYOUT, TABLES)
+    return Asked("net.toml", checked, said, list(refused), sizes_of(SIZE), LAYOUT, TABLES)
 
 
 def answers(folder: Path) -> NetworkAnswers:

@@ -5,14 +5,15 @@ At port 2 a frame of link 10 is missing, a record of link 11 is late and one is 
 """
 from pathlib import Path
 
-LINKS = """link 10 out 2 passed 2 seen 1 missing 1 extra 0 early 0 late 0 {} unsure 1 least 210 greatest 210 bound 280
-link 11 out 1 passed 1 seen 2 missing 0 extra 1 early 0 late 0 {} unsure 2 least - greatest - bound 600
-link 11 out 2 passed 2 seen 2 missing 0 extra 0 early 0 late 1 {} unsure 2 least 410 greatest 1300 bound 1200
-""".format("before 0 after 0", "before 1 after 1", "before 0 after 0")
-SAID = f"""span 1768471200000000000 to 1768471200004000500
-{LINKS}out 1 seen 2 foreign 0
-out 2 seen 4 foreign 1
-differs
+SAID = """kind,link,port,passed,seen,missing,extra,early,late,before,after,unsure,least,greatest,bound,slack,\
+slack_per_mille,foreign,from,until,verdict
+span,,,,,,,,,,,,,,,,,,1768471200000000000,1768471200004000500,
+link,10,2,2,1,1,0,0,0,0,0,1,210,210,280,70,250,,,,
+link,11,1,1,2,0,1,0,0,1,1,2,,,600,,,,,,
+link,11,2,2,2,0,0,0,1,0,0,2,410,1300,1200,-100,-84,,,,
+out,,1,,2,,,,,,,,,,,,,0,,,
+out,,2,,4,,,,,,,,,,,,,1,,,
+verdict,,,,,,,,,,,,,,,,,,,,differs
 """
 ROWS = """port,link,kind,record_in,stamp_in,record_out,stamp_out,delay,bound
 1,11,extra,,,2,1768471200003000000,,
@@ -21,11 +22,13 @@ ROWS = """port,link,kind,record_in,stamp_in,record_out,stamp_out,delay,bound
 2,11,late,1,1768471200002000000,3,1768471200002002300,1300,1200
 """
 OPTIONS = ["--offset=2=-1000"]
-CONFORMS = (SAID.replace("missing 1", "missing 0").replace("extra 1", "extra 0").replace("late 1 ", "late 0 ")
-            .replace("foreign 1", "foreign 0").replace("differs", "conforms"))
-NOTHING = CONFORMS.replace("seen 1 ", "seen 0 ").replace("seen 2 ", "seen 0 ").replace("before 1", "before 0")
+CONFORMS = (SAID.replace("10,2,2,1,1,0,0,0,", "10,2,2,1,0,0,0,0,").replace("11,1,1,2,0,1,0,0,", "11,1,1,2,0,0,0,0,")
+            .replace("11,2,2,2,0,0,0,1,", "11,2,2,2,0,0,0,0,").replace(",1,,,\nverdict", ",0,,,\nverdict")
+            .replace("differs", "conforms"))
+NOTHING = (CONFORMS.replace("10,2,2,1,", "10,2,2,0,").replace("11,1,1,2,0,0,0,0,1,", "11,1,1,0,0,0,0,0,0,")
+           .replace("11,2,2,2,", "11,2,2,0,").replace("out,,1,,2", "out,,1,,0"))
 
 
 def put(folder: Path, said: str = SAID, rows: str = ROWS) -> None:
-    (folder / "compare.txt").write_text(said)
+    (folder / "compare.csv").write_text(said)
     (folder / "differences.csv").write_text(rows)

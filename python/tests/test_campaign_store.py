@@ -11,10 +11,10 @@ import pytest
 
 from afdx.campaign.answers import forget
 from afdx.campaign.findings import LOST_NAMES, QUESTIONS
-from afdx.campaign.lines import rows_of
+from afdx.campaign.rows import rows_of
 from afdx.campaign.store import collected, store_file
 from afdx.campaign.worker.task import Table, Task
-from tests.campaign_samples import task
+from tests.campaign_samples import HEADING, row, task
 
 Rows = list[dict[str, Any]]
 
@@ -29,35 +29,37 @@ def put(asked: Task, status: int, text: str, begin: int) -> None:
 
 
 def drawn(chance: random.Random, about: dict[str, Any], begin: int, found: dict[str, Rows]) -> str:
-    """Draws the lines of a run, and adds its rows by kind."""
-    lines = []
+    """Draws the rows of a run, and adds what is in them by kind."""
+    rows = [HEADING]
     for port in (1, 2):
         words = [chance.choice((0, 0, 0, chance.randrange(50))) for _ in range(9)]
         names = ("seen", "cut", "short", "long", "foreign", "no-link", "wrong-port", "too-big", "clean")
-        lines.append(f"in {port} " + " ".join(f"{name} {word}" for name, word in zip(names, words)))
-        row = about | {name.replace("-", "_"): word for name, word in zip(names, words)}
+        rows.append(row("in", port=port, **dict(zip(names, words))))
+        arrived = about | {name.replace("-", "_"): word for name, word in zip(names, words)}
         lost = [chance.choice((0, 0, chance.randrange(9))) for _ in range(4)]
         for priority, (full, aged) in (("high", lost[:2]), ("low", lost[2:])):
-            lines.append(f"out {port} {priority} offered 99 full {full} aged {aged} sent {99 - full - aged}")
-        lines.append(f"out {port} occupied 7 of 9 at {begin}")
-        found["ports"].append(row | {"full": lost[0] + lost[2], "aged": lost[1] + lost[3]})
+            rows.append(row("out", port=port, priority=priority, offered=99, full=full, aged=aged,
+                            sent=99 - full - aged))
+        rows.append(row("buffer", port=port, occupied=7, buffer=9, at=begin))
+        found["ports"].append(arrived | {"full": lost[0] + lost[2], "aged": lost[1] + lost[3]})
     for link in range(10, 14):
         policed = chance.choice((0, 0, chance.randrange(1, 30)))
-        lines.append(f"link {link} passed {link} policed {policed}")
+        rows.append(row("link", link=link, passed=link, policed=policed))
         spells = sorted(chance.sample(range(begin, begin + 1000), chance.randrange(3))) if policed else []
-        lines += [f"link {link} policed 2 from {at} to {at + 5} early 1 to 3" for at in spells]
+        rows += [row("spell", link=link, policed=2, to=at + 5, least_early=1, greatest_early=3, **{"from": at})
+                 for at in spells]
         if policed:
-            row = about | {"link": link, "policed": policed}
-            found["babblers"] += [row | {"begin": at} for at in spells] or [row | {"begin": None}]
+            babbled = about | {"link": link, "policed": policed}
+            found["babblers"] += [babbled | {"begin": at} for at in spells] or [babbled | {"begin": None}]
         for port in (1, 2):
             sent = chance.randrange(3)
             greatest = chance.randrange(100, 1000)
-            lines.append(f"link {link} out {port} sent {sent} least {100 if sent else '-'} "
-                         f"greatest {greatest if sent else '-'} bound {1000 + port}")
+            rows.append(row("delays", link=link, port=port, sent=sent, least=100 if sent else "",
+                            greatest=greatest if sent else "", bound=1000 + port))
             if sent:
                 found["delays"].append(about | {"link": link, "port": port, "sent": sent, "greatest": greatest,
                                                 "bound": 1000 + port})
-    return "\n".join(lines)
+    return "\n".join(rows)
 
 
 @pytest.fixture(params=range(4))
@@ -176,7 +178,8 @@ def contents(base: sqlite3.Connection) -> list[tuple[Any, ...]]:
     return sorted(found, key=repr)
 
 
-def test_lines_of_a_network_name_their_switch() -> None:
-    read = rows_of("link link 10 passed 3 policed 1\nB out 2 high offered 4 full 1 aged 0 sent 3", True)
-    assert read.links == [("link", 10, 3, 1)]
+def test_rows_of_a_network_name_their_switch() -> None:
+    read = rows_of("switch,kind,port,link,priority,passed,policed,offered,full,aged,sent\n"
+                   "A,link,,10,,3,1,,,,\nB,out,2,,high,,,4,1,0,3")
+    assert read.links == [("A", 10, 3, 1)]
     assert read.ports[("B", 2)][9:13] == [4, 1, 0, 3]

@@ -12,13 +12,16 @@ from afdx.campaign.worker.program import Program
 from afdx.campaign.worker.stamps import first_stamp
 from afdx.campaign.worker.work import answer_at, work, work_hard
 from captures import header, words
-from tests.campaign_samples import PATIENCE, QUIET, await_number, ends, task
+from tests.campaign_samples import DELAYS, HEADING, PASSED, PATIENCE, QUIET, SEEN, await_number, ends, row, task
 
-POLICED = QUIET.replace("policed 0", "policed 2") + """
-[ "$command" != survey ] || {
-    echo "link 10 policed 2 from 2000 to 2500 early 500 to 700"
-    echo "span from 1000 to 2500 frames 3"
-}
+BABBLED = row("link", link=10, passed=3, policed=2)
+SPELL = row("spell", link=10, policed=2, to=2500, least_early=500, greatest_early=700, **{"from": 2000})
+SPAN = row("span", to=2500, frames=3, **{"from": 1000})
+POLICED = QUIET.replace(PASSED, BABBLED) + f"""
+[ "$command" != survey ] || {{
+    echo "{SPELL}"
+    echo "{SPAN}"
+}}
 """
 FAULTS = [
     ("echo afdx: capture P3 Magic, port 1 >&2; exit 3", "capture", 3, "afdx: capture P3 Magic, port 1", 1),
@@ -48,12 +51,7 @@ def test_a_fault_that_passes_is_none(tmp_path: Path) -> None:
 def test_a_survey_is_asked_in_one(tmp_path: Path) -> None:
     asked = task(tmp_path, POLICED)
     assert work_hard(asked).status == 0
-    assert answer_at(asked.answer)["text"].splitlines() == [
-        "in 1 seen 4 cut 0 short 1 long 0 foreign 0 no-link 0 wrong-port 0 too-big 0 clean 3",
-        "link 10 passed 3 policed 2",
-        "link 10 out 2 sent 3 least 100 greatest 200 bound 1000",
-        "link 10 policed 2 from 2000 to 2500 early 500 to 700",
-        "span from 1000 to 2500 frames 3"]
+    assert answer_at(asked.answer)["text"].splitlines() == [HEADING, SEEN, BABBLED, DELAYS, SPELL, SPAN]
 
 
 def test_an_answer_is_given_once(tmp_path: Path) -> None:
@@ -93,7 +91,8 @@ def test_children_have_the_limits_of_the_task(tmp_path: Path) -> None:
 @pytest.mark.parametrize("keep, policed, kept", [
     ("none", 2, False), ("policed", 0, False), ("policed", 2, True), ("all", 0, True)])
 def test_outputs_are_kept(tmp_path: Path, keep: str, policed: int, kept: bool) -> None:
-    act = f'echo "link 10 passed 3 policed {policed}"; echo text >"$out/port-1.pcap"'
+    passed = row("link", link=10, passed=3, policed=policed)
+    act = f'echo "{HEADING}"; echo "{passed}"; echo text >"$out/port-1.pcap"'
     asked = task(tmp_path, act, ask="run", keep=keep)
     work_hard(asked)
     assert (tmp_path / "campaign/kept/t/r1/port-1.pcap").exists() == kept

@@ -7,7 +7,7 @@ import pytest
 from hypothesis import given, strategies
 
 from afdx.diff import command, compare
-from afdx.diff.facts import Facts, Place
+from afdx.diff.facts import NONE, Facts, Place
 from afdx.failure import DEVICE, INPUT, USAGE, Failure
 
 # The table of docs/use/RULES.md that is worked through under "Load", with its bounds.
@@ -191,7 +191,7 @@ def test_differences_lead_from_one_side_to_the_other(old: Facts, new: Facts) -> 
     for differing in compare.differences(old | CHECK, new | CHECK):
         values = made.pop(differing.place, {}) | {name: after for name, _, after in differing.values}
         if differing.change != "gone":
-            made[differing.place] = {name: value for name, value in values.items() if value != compare.NONE}
+            made[differing.place] = {name: value for name, value in values.items() if value != NONE}
     assert made == new
     back = {differing.place: differing.values for differing in compare.differences(new | CHECK, old | CHECK)}
     assert back.keys() == {differing.place for differing in compare.differences(old | CHECK, new | CHECK)}

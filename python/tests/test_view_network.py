@@ -36,10 +36,10 @@ def test_the_layout_of_a_network_file() -> None:
     assert found.wires == [Wire(Port("A", 3), Port("B-1", 12), 25), Wire(Port("B-1", 12), Port("A", 3), 0)]
 
 
-def test_the_lines_of_size_by_switch() -> None:
-    assert answers.sizes_of(answered.SIZE)["A"].splitlines() == [
-        "port 1 rate 20 of 200 buffer 100 of 200 high - low 250 of 1000 fits",
-        "port 2 rate 50 of 200 buffer 100 of 200 high 250 of 1000 low - fits"]
+def test_the_rows_of_size_by_switch() -> None:
+    heading, *rows = answered.SIZE.splitlines()
+    assert answers.sizes_of(answered.SIZE)["A"].splitlines() == [heading, *rows[:2]]
+    assert answers.sizes_of(heading) == {}
 
 
 def test_each_frame_is_followed_to_its_end_system(tmp_path: Path) -> None:
@@ -83,7 +83,7 @@ def test_the_ways_of_a_network_that_is_refused(tmp_path: Path) -> None:
 
 
 def test_a_way_that_is_none(tmp_path: Path) -> None:
-    said = re.sub("^link 12.*\n", "", answered.CHECK, flags=re.MULTILINE)
+    said = re.sub("^12,.*\n", "", answered.CHECK, flags=re.MULTILINE)
     with pytest.raises(ValueError, match="a frame on a way that is none"):
         answered.read(tmp_path, answered.asked(said=said))
 
@@ -236,7 +236,9 @@ def test_no_frames(tmp_path: Path, monkeypatch: pytest.MonkeyPatch) -> None:
     empty: dict[str, list[object]] = {"A": [], "B": []}
     monkeypatch.setattr(answered, "ARRIVALS", empty)
     monkeypatch.setattr(answered, "DEPARTURES", empty)
-    monkeypatch.setattr(answered, "REPORT", re.sub(r"\b(seen|passed|policed|sent) \d+", r"\1 0", answered.REPORT))
+    rows = (row.split(",") for row in answered.REPORT.splitlines())
+    counted = (",".join([*row[:5], *(re.sub(r"\d+", "0", field) for field in row[5:])]) for row in rows)
+    monkeypatch.setattr(answered, "REPORT", "\n".join(counted))
     found = answered.read(tmp_path)
     assert (found.first, found.totals.frames, {way.sent for way in found.ways}) == (None, 0, {0})
     text = page(found, "", Provenance([], [], "", "", ""), Progress("test"))

@@ -87,8 +87,8 @@ def test_recordings_that_conform(tmp_path: Path, said: str, kind: str) -> None:
 
 @pytest.mark.parametrize("said, rows", [
     (recorded_answers.SAID.replace("differs", "conforms"), recorded_answers.ROWS),
-    (recorded_answers.SAID.replace("missing 1", "missing 2"), recorded_answers.ROWS),
-    (recorded_answers.SAID.replace("link 10 out 2", "link 12 out 2"), recorded_answers.ROWS),
+    (recorded_answers.SAID.replace("10,2,2,1,1,", "10,2,2,1,2,"), recorded_answers.ROWS),
+    (recorded_answers.SAID.replace("link,10,2", "link,12,2"), recorded_answers.ROWS),
     (recorded_answers.SAID, recorded_answers.ROWS.replace("late", "tardy")),
     (recorded_answers.SAID, recorded_answers.ROWS.replace("1,11,extra", "3,11,extra")),
     (recorded_answers.SAID, "no,such,columns\n")])
@@ -136,7 +136,7 @@ def test_a_file_beside_the_page_that_would_replace_an_input(folder: Path) -> Non
 def test_no_answers_of_compare(folder: Path) -> None:
     failure = refused(*GIVEN)
     assert (failure.status, failure.lines) == (
-        DEVICE, ("afdx-view: cannot read compare.txt: No such file or directory",))
+        DEVICE, ("afdx-view: cannot read compare.csv: No such file or directory",))
 
 
 @pytest.mark.parametrize("arguments, said", [
@@ -171,5 +171,5 @@ def test_that_recordings_differ_is_an_answer(tmp_path: Path, status: int) -> Non
         assert (caught.value.status, caught.value.lines) == (LOAD, ("refused",))
         return
     found = answers.compare(asked, "t", "in", Asked("out", ["--rest"]), tmp_path)
-    assert found.said == f"compare t in out --rest --rows {tmp_path}\n"
+    assert found.said == f"compare t in out --rest --rows {tmp_path} --csv\n"
     assert found.rows == tmp_path / "differences.csv"

@@ -70,19 +70,19 @@ def test_the_kind_of_the_verdict(tmp_path: Path, policed: bool, lost: bool, kind
     if not lost:
         rows = rows.replace("passed,,1", "passed,,")
         departures = "\n".join(line for line in departures.splitlines() if "aged" not in line)
-    answered.put_answers(tmp_path, answered.SIZE.replace("breaks L2 L4", "fits"), arrivals=rows, departures=departures)
+    answered.put_answers(tmp_path, answered.SIZE.replace("L2;L4", ""), arrivals=rows, departures=departures)
     assert verdict.verdict_of(answered.read(tmp_path)).kind == kind
 
 
 def test_broken_ports_are_named_up_to_three(tmp_path: Path) -> None:
-    line = answered.SIZE.splitlines()[1]
-    answered.put_answers(tmp_path, "\n".join(line.replace("port 2", f"port {port}") for port in range(2, 7)))
+    heading, _, row = answered.SIZE.splitlines()
+    answered.put_answers(tmp_path, "\n".join([heading, *(row.replace("2,20", f"{port},20") for port in range(2, 7))]))
     assert verdict.broken_of(answered.read(tmp_path)) == [
         "port 2 breaks L2 L4", "port 3 breaks L2 L4", "port 4 breaks L2 L4", "2 more ports"]
 
 
 def test_no_frames(tmp_path: Path) -> None:
-    answered.put_answers(tmp_path, measured=answered.MEASURED.replace("sent 2", "sent 0"),
+    answered.put_answers(tmp_path, measured=answered.MEASURED.replace("delays,10,2,2", "delays,10,2,0"),
                          arrivals=answered.ARRIVALS.splitlines()[0], departures=answered.DEPARTURES.splitlines()[0])
     run = answered.read(tmp_path)
     assert run.fates.first is None
@@ -91,8 +91,8 @@ def test_no_frames(tmp_path: Path) -> None:
 
 def test_bars() -> None:
     need = {"port": "2", "rate": "20", "rate_limit": "40", "buffer": "300", "buffer_limit": "200", "high": "250",
-            "high_limit": "1000", "low": "none", "low_limit": "1000", "breaks": "L2 L4"}
-    seen = {"port": "2", "occupied": "150", "limit": "200", "at": "5"}
+            "high_limit": "1000", "low": "", "low_limit": "1000", "breaks": "L2;L4"}
+    seen = {"port": "2", "occupied": "150", "buffer": "200", "at": "5"}
     assert bars_of(need, seen) == [
         Bar("rate", "20 of 40 parts, 50 %", 50, False), Bar("buffer needed", "300 of 200 bytes, 150 %", 100, True),
         Bar("buffer used", "150 of 200 bytes, 75 %", 75, False, "used"),
@@ -102,8 +102,8 @@ def test_bars() -> None:
 
 @pytest.mark.parametrize("wrong", [
     {"departures": answered.DEPARTURES.replace("2,1,0,10", "2,1,0,12")},  # a link that the port has not
-    {"measured": answered.MEASURED.replace("link 10", "link 12")},
-    {"measured": answered.MEASURED.replace("bound 250", "bound -")},  # of an unchecked run
+    {"measured": answered.MEASURED.replace("delays,10", "delays,12")},
+    {"measured": answered.MEASURED.replace("250,10,40", ",,")},  # of an unchecked run
     {"arrivals": answered.ARRIVALS.replace("fate", "fare")},
     {"arrivals": ""},
 ])

@@ -24,7 +24,7 @@ use Rattle.afdx_arguments.specs.declared.request.NetworkRequest.{NetworkRequest}
 use Rattle.afdx_arguments.specs.declared.request.Request.{Request}
 use Rattle.afdx_arguments.specs.declared.request.Request.TheVariants as request
 use Rattle.afdx_arguments.specs.Commands.{alone_app, check_app, size_app, paths_app, run_app, inputs_app, trace_app, explain_app, compare_app, program}
-use Rattle.afdx_arguments.specs.Commands.{network_check_app, network_size_app, network_jitter_app, network_run_app, network_program}
+use Rattle.afdx_arguments.specs.Commands.{network_path_app, network_run_app, network_program}
 use Rattle.afdx_arguments.specs.Explaining.{HasEntry}
 use Rattle.afdx_arguments.specs.Requests.{HasRecordings, HasNumber, HasLink, AsksFor, AsksOfNetwork, AsksIn, Explains, Reads}
 use Rattle.afdx_arguments.specs.Requests.{is_network, fault_in, faults_of, HasMatches, HasNoMatches}
@@ -38,11 +38,11 @@ unfolding program alone_app check_app size_app paths_app run_app inputs_app trac
 simple_and_free = refl
 
 pub network_simple : is_simple network_program ≡ true
-unfolding network_program network_check_app network_size_app network_jitter_app network_run_app
+unfolding network_program network_path_app network_run_app
 network_simple = refl
 
 pub network_simple_and_free : is_simple_and_free network_program ≡ true
-unfolding network_program network_check_app network_size_app network_jitter_app network_run_app
+unfolding network_program network_path_app network_run_app
 network_simple_and_free = refl
 
 -- a text is one number, or none
@@ -93,14 +93,14 @@ module _ (name : Text) (rows : List Row) where
   no_link named none = go where
     go : (r : Request) → AsksFor (Some (name, rows)) r → ⊥
     go (request.Alone link) h = none link h.1
-    go (request.Check table) h = other (codes "alone") (codes "check") (λ bad. omega (arith, bad)) named h.0
-    go (request.Size table) h = other (codes "alone") (codes "size") (λ bad. omega (arith, bad)) named h.0
+    go (request.Check table form) h = other (codes "alone") (codes "check") (λ bad. omega (arith, bad)) named h.0
+    go (request.Size table form) h = other (codes "alone") (codes "size") (λ bad. omega (arith, bad)) named h.0
     go (request.Run paths options) h = other (codes "alone") (codes "run") (λ bad. omega (arith, bad)) named h.0
-    go (request.Measure inputs) h = other (codes "alone") (codes "measure") (λ bad. omega (arith, bad)) named h.0
-    go (request.Survey inputs) h = other (codes "alone") (codes "survey") (λ bad. omega (arith, bad)) named h.0
+    go (request.Measure inputs form) h = other (codes "alone") (codes "measure") (λ bad. omega (arith, bad)) named h.0
+    go (request.Survey inputs form) h = other (codes "alone") (codes "survey") (λ bad. omega (arith, bad)) named h.0
     go (request.Trace paths options) h = other (codes "alone") (codes "trace") (λ bad. omega (arith, bad)) named h.0
     go (request.Explain entry) h = other (codes "alone") (codes "explain") (λ bad. omega (arith, bad)) named h.0
-    go (request.Compare compare recordings) h = other (codes "alone") (codes "compare") (λ bad. omega (arith, bad)) named h.0
+    go (request.Compare compare recordings form) h = other (codes "alone") (codes "compare") (λ bad. omega (arith, bad)) named h.0
     go (request.Network r) h = h
 
   pub no_entry : name ≡ codes "explain" → ((entry : List ℕ) → HasEntry rows entry → ⊥) → (r : Request) → AsksFor (Some (name, rows)) r → ⊥
@@ -108,13 +108,13 @@ module _ (name : Text) (rows : List Row) where
     go : (r : Request) → AsksFor (Some (name, rows)) r → ⊥
     go (request.Explain entry) h = none entry.now h.1
     go (request.Alone link) h = other (codes "explain") (codes "alone") (λ bad. omega (arith, bad)) named h.0
-    go (request.Check table) h = other (codes "explain") (codes "check") (λ bad. omega (arith, bad)) named h.0
-    go (request.Size table) h = other (codes "explain") (codes "size") (λ bad. omega (arith, bad)) named h.0
+    go (request.Check table form) h = other (codes "explain") (codes "check") (λ bad. omega (arith, bad)) named h.0
+    go (request.Size table form) h = other (codes "explain") (codes "size") (λ bad. omega (arith, bad)) named h.0
     go (request.Run paths options) h = other (codes "explain") (codes "run") (λ bad. omega (arith, bad)) named h.0
-    go (request.Measure inputs) h = other (codes "explain") (codes "measure") (λ bad. omega (arith, bad)) named h.0
-    go (request.Survey inputs) h = other (codes "explain") (codes "survey") (λ bad. omega (arith, bad)) named h.0
+    go (request.Measure inputs form) h = other (codes "explain") (codes "measure") (λ bad. omega (arith, bad)) named h.0
+    go (request.Survey inputs form) h = other (codes "explain") (codes "survey") (λ bad. omega (arith, bad)) named h.0
     go (request.Trace paths options) h = other (codes "explain") (codes "trace") (λ bad. omega (arith, bad)) named h.0
-    go (request.Compare compare recordings) h = other (codes "explain") (codes "compare") (λ bad. omega (arith, bad)) named h.0
+    go (request.Compare compare recordings form) h = other (codes "explain") (codes "compare") (λ bad. omega (arith, bad)) named h.0
     go (request.Network r) h = h
 
   other_at : (k : ℕ) (a b : Text) → (get_or a k 0 ≡ get_or b k 0 → ⊥) → name ≡ a → name ≡ b → ⊥
@@ -123,13 +123,13 @@ module _ (name : Text) (rows : List Row) where
   pub no_recordings : name ≡ codes "compare" → ((recordings : Recordings) → HasRecordings rows recordings → ⊥) → (r : Request) → AsksFor (Some (name, rows)) r → ⊥
   no_recordings named none = go where
     go : (r : Request) → AsksFor (Some (name, rows)) r → ⊥
-    go (request.Compare compare recordings) h = none recordings h.2
+    go (request.Compare compare recordings form) h = none recordings h.2
     go (request.Alone link) h = other (codes "compare") (codes "alone") (λ bad. omega (arith, bad)) named h.0
-    go (request.Check table) h = other_at 1 (codes "compare") (codes "check") (λ bad. omega (arith, bad)) named h.0
-    go (request.Size table) h = other (codes "compare") (codes "size") (λ bad. omega (arith, bad)) named h.0
+    go (request.Check table form) h = other_at 1 (codes "compare") (codes "check") (λ bad. omega (arith, bad)) named h.0
+    go (request.Size table form) h = other (codes "compare") (codes "size") (λ bad. omega (arith, bad)) named h.0
     go (request.Run paths options) h = other (codes "compare") (codes "run") (λ bad. omega (arith, bad)) named h.0
-    go (request.Measure inputs) h = other (codes "compare") (codes "measure") (λ bad. omega (arith, bad)) named h.0
-    go (request.Survey inputs) h = other (codes "compare") (codes "survey") (λ bad. omega (arith, bad)) named h.0
+    go (request.Measure inputs form) h = other (codes "compare") (codes "measure") (λ bad. omega (arith, bad)) named h.0
+    go (request.Survey inputs form) h = other (codes "compare") (codes "survey") (λ bad. omega (arith, bad)) named h.0
     go (request.Trace paths options) h = other (codes "compare") (codes "trace") (λ bad. omega (arith, bad)) named h.0
     go (request.Explain entry) h = other (codes "compare") (codes "explain") (λ bad. omega (arith, bad)) named h.0
     go (request.Network r) h = h
@@ -165,14 +165,14 @@ pub none_of_networks : (arguments : List Text) → ((r : NetworkRequest) → Ask
     → (r : Request) → AsksIn true arguments r → ⊥
 none_of_networks arguments none (request.Network r) h = none r h
 none_of_networks arguments none (request.Alone link) h = h
-none_of_networks arguments none (request.Check path) h = h
-none_of_networks arguments none (request.Size path) h = h
+none_of_networks arguments none (request.Check path form) h = h
+none_of_networks arguments none (request.Size path form) h = h
 none_of_networks arguments none (request.Run paths options) h = h
-none_of_networks arguments none (request.Measure inputs) h = h
-none_of_networks arguments none (request.Survey inputs) h = h
+none_of_networks arguments none (request.Measure inputs form) h = h
+none_of_networks arguments none (request.Survey inputs form) h = h
 none_of_networks arguments none (request.Trace paths options) h = h
 none_of_networks arguments none (request.Explain entry) h = h
-none_of_networks arguments none (request.Compare compare recordings) h = h
+none_of_networks arguments none (request.Compare compare recordings form) h = h
 
 -- an error that a call returned
 pub reads_error : (arguments : List Text) (r : Result Request NoRequest) (n : NoRequest) → IsErr r × IsErrAnd r (λ x. x ≡ n) → Reads arguments (Err n) → Reads arguments r

@@ -16,6 +16,10 @@ path_rule name = record (new_rule name) { required = true }
 abbrev pub flag_rule : Text → Rule
 flag_rule name = record (new_rule name) { long = Some name; action = Some SetTrue }
 
+-- the form of what is written
+abbrev pub csv_rule : Rule
+csv_rule = flag_rule (codes "csv")
+
 -- an option with a text
 abbrev pub text_rule : Text → Rule
 text_rule name = record (new_rule name) { long = Some name; value_names = 1 }
@@ -38,30 +42,30 @@ alone_app =
     with_rule (with_rule (with_rule (with_rule (new_app (codes "alone")) (number_rule (codes "id"))) (number_rule (codes "bag")))
     (number_rule (codes "jitter"))) (number_rule (codes "size"))
 
--- afdx check TABLE
+-- afdx check TABLE [--csv]
 unfoldable pub check_app : App
-check_app = with_rule (new_app (codes "check")) (path_rule (codes "TABLE"))
+check_app = with_rule (with_rule (new_app (codes "check")) (path_rule (codes "TABLE"))) csv_rule
 
--- afdx size TABLE
+-- afdx size TABLE [--csv]
 unfoldable pub size_app : App
-size_app = with_rule (new_app (codes "size")) (path_rule (codes "TABLE"))
+size_app = with_rule (with_rule (new_app (codes "size")) (path_rule (codes "TABLE"))) csv_rule
 
 -- a command with TABLE IN OUT [--unchecked], to which run and trace add their own
 unfoldable pub paths_app : Text → App
 paths_app name = with_rule (files_app name) (flag_rule (codes "unchecked"))
 
--- afdx run TABLE IN OUT [--unchecked] [--verdict] [--fail-on WORDS]
+-- afdx run TABLE IN OUT [--unchecked] [--verdict] [--fail-on WORDS] [--csv]
 unfoldable pub run_app : App
-run_app = with_rule (with_rule (paths_app (codes "run")) (flag_rule (codes "verdict"))) (text_rule (codes "fail-on"))
+run_app = with_rule (with_rule (with_rule (paths_app (codes "run")) (flag_rule (codes "verdict"))) (text_rule (codes "fail-on"))) csv_rule
 
 -- afdx trace TABLE IN OUT [--unchecked] [--link N].. [--relative]
 unfoldable pub trace_app : App
 trace_app = with_rule (with_rule (paths_app (codes "trace")) (links_rule (codes "link"))) (flag_rule (codes "relative"))
 
--- afdx measure TABLE IN [--unchecked], and survey with the same arguments
+-- afdx measure TABLE IN [--unchecked] [--csv], and survey with the same arguments
 unfoldable pub inputs_app : Text → App
 inputs_app name =
-    with_rule (with_rule (with_rule (new_app name) (path_rule (codes "TABLE"))) (path_rule (codes "IN"))) (flag_rule (codes "unchecked"))
+    with_rule (with_rule (with_rule (with_rule (new_app name) (path_rule (codes "TABLE"))) (path_rule (codes "IN"))) (flag_rule (codes "unchecked"))) csv_rule
 
 -- afdx explain CODE
 unfoldable pub explain_app : App
@@ -77,9 +81,9 @@ with_stamps app =
 abbrev pub with_span : App → App
 with_span app = with_rule (with_rule (with_rule app (flag_rule (codes "rest"))) (optional_rule (codes "from"))) (optional_rule (codes "until"))
 
--- afdx compare TABLE IN OUT with these, and [--ports PORT] [--rows FOLDER]
+-- afdx compare TABLE IN OUT with these, and [--ports PORT] [--rows FOLDER] [--csv]
 unfoldable pub compare_app : App
-compare_app = with_rule (with_rule (with_span (with_stamps (files_app (codes "compare")))) (text_rule (codes "ports"))) (text_rule (codes "rows"))
+compare_app = with_rule (with_rule (with_rule (with_span (with_stamps (files_app (codes "compare")))) (text_rule (codes "ports"))) (text_rule (codes "rows"))) csv_rule
 
 -- afdx network, whose own arguments are read by the program below
 abbrev pub network_app : App
@@ -107,23 +111,16 @@ program =
 
 -- ---- networks
 
--- network check NET
-unfoldable pub network_check_app : App
-network_check_app = with_rule (new_app (codes "check")) (path_rule (codes "NET"))
+-- network check NET [--csv], and size and jitter with the same arguments
+unfoldable pub network_path_app : Text → App
+network_path_app name = with_rule (with_rule (new_app name) (path_rule (codes "NET"))) csv_rule
 
--- network size NET
-unfoldable pub network_size_app : App
-network_size_app = with_rule (new_app (codes "size")) (path_rule (codes "NET"))
-
--- network jitter NET
-unfoldable pub network_jitter_app : App
-network_jitter_app = with_rule (new_app (codes "jitter")) (path_rule (codes "NET"))
-
--- network run NET IN OUT [--unchecked]
+-- network run NET IN OUT [--unchecked] [--csv]
 unfoldable pub network_run_app : App
 network_run_app =
-    with_rule (with_rule (with_rule (with_rule (new_app (codes "run")) (path_rule (codes "NET"))) (path_rule (codes "IN"))) (path_rule (codes "OUT")))
-    (flag_rule (codes "unchecked"))
+    with_rule
+    (with_rule (with_rule (with_rule (with_rule (new_app (codes "run")) (path_rule (codes "NET"))) (path_rule (codes "IN"))) (path_rule (codes "OUT")))
+    (flag_rule (codes "unchecked"))) csv_rule
 
 -- network, which wants a subcommand
 abbrev pub bare_network : App
@@ -131,4 +128,7 @@ bare_network = on_top (λ s. record s { subcommand_required = true }) (new_app (
 
 unfoldable pub network_program : App
 network_program =
-    with_subcommand (with_subcommand (with_subcommand (with_subcommand bare_network network_check_app.top) network_size_app.top) network_jitter_app.top) network_run_app.top
+    with_subcommand
+    (with_subcommand (with_subcommand (with_subcommand bare_network (network_path_app (codes "check")).top) (network_path_app (codes "size")).top)
+    (network_path_app (codes "jitter")).top)
+    network_run_app.top

@@ -9,6 +9,8 @@ use Rattle.clap.specs.Words.{App, IsAmong, Kinds, Row, Text, all_of, fault_of, f
 use Rattle.clap.specs.declared.error.kind.ErrorKind.{ErrorKind}
 use Rattle.clap.specs.declared.error.kind.ErrorKind.TheVariants.{DisplayHelp, DisplayVersion, OutOfMemory}
 use Rattle.afdx_alone.specs.declared.link.Alone.{Alone}
+use Rattle.afdx_csv.specs.declared.form.Form.{Form}
+use Rattle.afdx_csv.specs.declared.form.Form.TheVariants.{Lines, Csv}
 use Rattle.afdx_arguments.specs.declared.request.Paths.{Paths}
 use Rattle.afdx_arguments.specs.declared.request.RunOptions.{RunOptions}
 use Rattle.afdx_arguments.specs.declared.request.TraceOptions.{TraceOptions}
@@ -40,6 +42,14 @@ HasNumber name rows n = (t : Text) × (one_of name rows ≡ Some t) × ParsesUns
 -- the entry of a flag says that it is set
 abbrev pub is_set : Text → List Row → Bool
 is_set name rows = option_map_or (λ t. bytes_eq t (codes "true")) (first_of name rows) false
+
+-- the form of what is written: lines, unless the flag is set
+abbrev pub form_by : Bool → Form
+form_by false = Lines
+form_by true = Csv
+
+abbrev pub form_in : List Row → Form
+form_in rows = form_by (is_set (codes "csv") rows)
 
 -- the entries of the four options are the link's numbers, within the limits of links
 pub record HasLink (rows : List Row) (link : Alone) : Type 0 where
@@ -73,6 +83,7 @@ pub record HasInputs (rows : List Row) (inputs : Inputs) : Type 0 where
 pub record HasOptions (rows : List Row) (options : RunOptions) : Type 0 where
   pub verdict : options.verdict ≡ is_set (codes "verdict") rows
   pub fail_on : Chooses (first_of (codes "fail-on") rows) options.fail_on
+  pub form : options.form ≡ form_in rows
 
 -- these texts are these numbers of links, one by one
 abbrev pub AreLinks : List Text → List ℕ → Type 0
@@ -155,23 +166,23 @@ pub record HasNetworkPaths (rows : List Row) (paths : NetworkPaths) : Type 0 whe
 -- the subcommand of networks and its entries ask for this
 abbrev pub AsksOfNetwork : Option (Text × List Row) → NetworkRequest → Type 0
 AsksOfNetwork None r = ⊥
-AsksOfNetwork (Some (name, rows)) (network.Check path) = (name ≡ codes "check") × (first_of (codes "NET") rows ≡ Some path.now)
-AsksOfNetwork (Some (name, rows)) (network.Size path) = (name ≡ codes "size") × (first_of (codes "NET") rows ≡ Some path.now)
-AsksOfNetwork (Some (name, rows)) (network.Jitter path) = (name ≡ codes "jitter") × (first_of (codes "NET") rows ≡ Some path.now)
-AsksOfNetwork (Some (name, rows)) (network.Run paths) = (name ≡ codes "run") × HasNetworkPaths rows paths
+AsksOfNetwork (Some (name, rows)) (network.Check path form) = (name ≡ codes "check") × (first_of (codes "NET") rows ≡ Some path.now) × (form ≡ form_in rows)
+AsksOfNetwork (Some (name, rows)) (network.Size path form) = (name ≡ codes "size") × (first_of (codes "NET") rows ≡ Some path.now) × (form ≡ form_in rows)
+AsksOfNetwork (Some (name, rows)) (network.Jitter path form) = (name ≡ codes "jitter") × (first_of (codes "NET") rows ≡ Some path.now) × (form ≡ form_in rows)
+AsksOfNetwork (Some (name, rows)) (network.Run paths form) = (name ≡ codes "run") × HasNetworkPaths rows paths × (form ≡ form_in rows)
 
 -- the subcommand and its entries ask for this
 abbrev pub AsksFor : Option (Text × List Row) → Request → Type 0
 AsksFor None r = ⊥
 AsksFor (Some (name, rows)) (request.Alone link) = (name ≡ codes "alone") × HasLink rows link
-AsksFor (Some (name, rows)) (request.Check table) = (name ≡ codes "check") × (first_of (codes "TABLE") rows ≡ Some table.now)
-AsksFor (Some (name, rows)) (request.Size table) = (name ≡ codes "size") × (first_of (codes "TABLE") rows ≡ Some table.now)
+AsksFor (Some (name, rows)) (request.Check table form) = (name ≡ codes "check") × (first_of (codes "TABLE") rows ≡ Some table.now) × (form ≡ form_in rows)
+AsksFor (Some (name, rows)) (request.Size table form) = (name ≡ codes "size") × (first_of (codes "TABLE") rows ≡ Some table.now) × (form ≡ form_in rows)
 AsksFor (Some (name, rows)) (request.Run paths options) = (name ≡ codes "run") × HasPaths rows paths × HasOptions rows options
-AsksFor (Some (name, rows)) (request.Measure inputs) = (name ≡ codes "measure") × HasInputs rows inputs
-AsksFor (Some (name, rows)) (request.Survey inputs) = (name ≡ codes "survey") × HasInputs rows inputs
+AsksFor (Some (name, rows)) (request.Measure inputs form) = (name ≡ codes "measure") × HasInputs rows inputs × (form ≡ form_in rows)
+AsksFor (Some (name, rows)) (request.Survey inputs form) = (name ≡ codes "survey") × HasInputs rows inputs × (form ≡ form_in rows)
 AsksFor (Some (name, rows)) (request.Trace paths options) = (name ≡ codes "trace") × HasPaths rows paths × HasTraceOptions rows options
 AsksFor (Some (name, rows)) (request.Explain entry) = (name ≡ codes "explain") × HasEntry rows entry.now
-AsksFor (Some (name, rows)) (request.Compare compare recordings) = (name ≡ codes "compare") × HasCompare rows compare × HasRecordings rows recordings
+AsksFor (Some (name, rows)) (request.Compare compare recordings form) = (name ≡ codes "compare") × HasCompare rows compare × HasRecordings rows recordings × (form ≡ form_in rows)
 AsksFor (Some (name, rows)) (request.Network r) = ⊥
 
 -- ---- the two programs

@@ -9,7 +9,7 @@ ghost use Rattle.afdx_arguments.specs.declared.request.Inputs.{Inputs as Given};
 ghost use Rattle.afdx_arguments.specs.declared.request.RunOptions.{RunOptions as Options};
 ghost use Rattle.afdx_arguments.specs.declared.request.TraceOptions.{TraceOptions as Shown};
 ghost use Rattle.afdx_arguments.specs.declared.request.Request.{Request as Asked};
-ghost use Rattle.afdx_arguments.specs.Requests.{HasNumber, is_set, HasLink, HasPaths, HasInputs, HasOptions, AreLinks, HasTraceOptions, AsksFor, Explains, Reads};
+ghost use Rattle.afdx_arguments.specs.Requests.{HasNumber, is_set, HasLink, HasPaths, HasInputs, HasOptions, form_in, AreLinks, HasTraceOptions, AsksFor, Explains, Reads};
 ghost use Rattle.afdx_arguments.specs.Requests.{HasMatches, HasNoMatches, is_network};
 
 use crate::command::program;
@@ -20,6 +20,7 @@ use crate::network_arguments::network_asked;
 use crate::network_command::network_program;
 use crate::request::{Inputs, NoRequest, Paths, Request, RunOptions, TraceOptions};
 use afdx_alone::Alone;
+use afdx_csv::Form;
 use clap::error::ErrorKind;
 use clap::{ArgMatches, Command, Error};
 use std::alloc::{AllocError, Global};
@@ -46,6 +47,17 @@ pub(crate) fn flag(matches: &ArgMatches<'_>, name: &str) -> bool
     match argument(matches, name) {
         Some(text) => text == "true",
         None => false,
+    }
+}
+
+/// The form of what is written.
+pub(crate) fn form_of(matches: &ArgMatches<'_>) -> Form
+    ensures { result ≡ form_in (rows_of (found_of matches.now)) }
+{
+    if flag(matches, "csv") {
+        Form::Csv
+    } else {
+        Form::Lines
     }
 }
 
@@ -109,7 +121,12 @@ fn options_of(matches: &ArgMatches<'_>) -> Option<RunOptions>
         Some(list) => FailOn::of_list(list)?,
         None => FailOn::default(),
     };
-    Some(RunOptions { verdict, fail_on })
+    let form = form_of(matches);
+    Some(RunOptions {
+        verdict,
+        fail_on,
+        form,
+    })
 }
 
 /// The numbers of links that texts are.
@@ -183,17 +200,20 @@ fn run_asked<'a>(name: &str, inner: &ArgMatches<'a>) -> Option<Request<'a>>
         Some(Request::Run(paths, options))
     } else if name == "measure" {
         let inputs = inputs_of(inner)?;
-        Some(Request::Measure(inputs))
+        let form = form_of(inner);
+        Some(Request::Measure(inputs, form))
     } else if name == "survey" {
         let inputs = inputs_of(inner)?;
-        Some(Request::Survey(inputs))
+        let form = form_of(inner);
+        Some(Request::Survey(inputs, form))
     } else if name == "explain" {
         let entry = entry_asked(inner)?;
         Some(Request::Explain(entry))
     } else if name == "compare" {
         let compare = compare_of(inner)?;
         let recordings = recordings_of(inner)?;
-        Some(Request::Compare(compare, recordings))
+        let form = form_of(inner);
+        Some(Request::Compare(compare, recordings, form))
     } else {
         None
     }
@@ -210,10 +230,12 @@ fn other_asked<'a>(name: &str, inner: &ArgMatches<'a>) -> Option<Request<'a>>
         Some(Request::Alone(link))
     } else if name == "check" {
         let table = argument(inner, "TABLE")?;
-        Some(Request::Check(table))
+        let form = form_of(inner);
+        Some(Request::Check(table, form))
     } else if name == "size" {
         let table = argument(inner, "TABLE")?;
-        Some(Request::Size(table))
+        let form = form_of(inner);
+        Some(Request::Size(table, form))
     } else {
         run_asked(name, inner)
     }

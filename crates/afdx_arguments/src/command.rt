@@ -3,7 +3,8 @@
 ghost use Rattle.std.specs.Prelude.{◌≡◌, codes, false, IfOk};
 ghost use Rattle.clap.specs.Words.{App, app_of, new_app, rule_of, with_rule, with_subcommand};
 ghost use Rattle.clap.specs.declared.builder.command.Command.TheViews.{out-Command};
-ghost use Rattle.afdx_arguments.specs.Commands.{number_rule, path_rule, flag_rule, text_rule, links_rule, alone_app, check_app, size_app, files_app, paths_app, run_app, inputs_app, trace_app};
+ghost use Rattle.afdx_arguments.specs.Commands.{number_rule, path_rule, flag_rule, csv_rule, text_rule, links_rule};
+ghost use Rattle.afdx_arguments.specs.Commands.{alone_app, check_app, size_app, files_app, paths_app, run_app, inputs_app, trace_app};
 ghost use Rattle.afdx_arguments.specs.Commands.{compare_app, network_app, bare_program, program};
 
 use crate::compare_command::compare;
@@ -42,6 +43,15 @@ pub(crate) fn flag<'a>(alloc: Global, name: &'a str, about: &'a str) -> Arg<'a>
         .long(name)
         .help(about)
         .action(ArgAction::SetTrue)
+}
+
+/// The flag for comma-separated values.
+pub(crate) fn csv<'a>(alloc: Global) -> Arg<'a>
+    ensures rule { rule_of result ≡ csv_rule }
+    ensures local { result.global ≡ false }
+{
+    let about = "Prints comma-separated values with a heading";
+    flag(alloc, "csv", about)
 }
 
 /// An option with a text.
@@ -221,30 +231,24 @@ fn alone<'a>(alloc: Global) -> Result<Command<'a>, AllocError>
     with_argument(with_argument(with_argument(command, bag), jitter), size)
 }
 
-#[tactic(auto, unfolding(crate::specs::Commands::check_app))]
 fn check<'a>(alloc: Global) -> Result<Command<'a>, AllocError>
     ensures app { IfOk result (λ c. app_of c ≡ check_app) }
     ensures local { IfOk result (λ c. (out-Command c).has_globals ≡ false) }
 {
     let about = "Checks the load of a configuration table";
-    with_no_arguments(alloc, "check", about, CHECK).arg(path(
-        alloc,
-        "TABLE",
-        "The configuration table",
-    ))
+    let table = path(alloc, "TABLE", "The configuration table");
+    let command = with_no_arguments(alloc, "check", about, CHECK).arg(table);
+    with_argument(command, csv(alloc))
 }
 
-#[tactic(auto, unfolding(crate::specs::Commands::size_app))]
 fn size<'a>(alloc: Global) -> Result<Command<'a>, AllocError>
     ensures app { IfOk result (λ c. app_of c ≡ size_app) }
     ensures local { IfOk result (λ c. (out-Command c).has_globals ≡ false) }
 {
     let about = "Prints what each port needs and has, whether it fits or not";
-    with_no_arguments(alloc, "size", about, SIZE).arg(path(
-        alloc,
-        "TABLE",
-        "The configuration table",
-    ))
+    let table = path(alloc, "TABLE", "The configuration table");
+    let command = with_no_arguments(alloc, "size", about, SIZE).arg(table);
+    with_argument(command, csv(alloc))
 }
 
 /// A command that goes by a table and by files that come in, with what its help says of it, at its end and of OUT.
@@ -291,7 +295,8 @@ fn run<'a>(alloc: Global) -> Result<Command<'a>, AllocError>
     let fails = "Ends with status 1 if there was one of WORDS";
     let fail_on = text_option(alloc, "fail-on", "WORDS", fails);
     let command = with_paths(alloc, "run", about, RUN, output);
-    with_argument(with_argument(command, verdict), fail_on)
+    let command = with_argument(with_argument(command, verdict), fail_on);
+    with_argument(command, csv(alloc))
 }
 
 /// A command of a table and of captures, of which nothing is put.
@@ -309,7 +314,8 @@ fn with_inputs<'a>(
     let what = "Runs a table whatever its load, and prints no bounds";
     let unchecked = flag(alloc, "unchecked", what);
     let command = with_no_arguments(alloc, name, about, more).arg(table);
-    with_argument(with_argument(command, input), unchecked)
+    let command = with_argument(with_argument(command, input), unchecked);
+    with_argument(command, csv(alloc))
 }
 
 fn measure<'a>(alloc: Global) -> Result<Command<'a>, AllocError>

@@ -5,7 +5,7 @@ ghost use Rattle.clap.specs.Words.{App, app_of, rule_of};
 ghost use Rattle.clap.specs.declared.builder.command.Command.TheViews.{out-Command};
 ghost use Rattle.afdx_arguments.specs.Commands.{optional_rule, with_stamps, with_span, compare_app};
 
-use crate::command::{flag, text_option, with_argument, with_files};
+use crate::command::{csv, flag, text_option, with_argument, with_files};
 use clap::builder::ValueParser;
 use clap::{Arg, Command};
 use std::alloc::{AllocError, Global};
@@ -98,5 +98,6 @@ pub(crate) fn compare<'a>(alloc: Global) -> Result<Command<'a>, AllocError>
     let ports = text_option(alloc, "ports", "PORT", ports);
     let rows = "The folder into which differences.csv is put";
     let rows = text_option(alloc, "rows", "FOLDER", rows);
-    with_argument(with_argument(command, ports), rows)
+    let command = with_argument(with_argument(command, ports), rows);
+    with_argument(command, csv(alloc))
 }

@@ -6,7 +6,7 @@ ghost use Rattle.afdx_arguments.specs.declared.request.NetworkPaths.{NetworkPath
 ghost use Rattle.afdx_arguments.specs.declared.request.NetworkRequest.{NetworkRequest as Asked};
 ghost use Rattle.afdx_arguments.specs.Requests.{HasNetworkPaths, AsksOfNetwork};
 
-use crate::arguments::{argument, flag};
+use crate::arguments::{argument, flag, form_of};
 use crate::request::{NetworkPaths, NetworkRequest};
 use clap::ArgMatches;
 
@@ -38,16 +38,20 @@ pub(crate) fn network_asked<'a>(matches: &ArgMatches<'a>) -> Option<NetworkReque
     let (name, inner) = matches.subcommand()?;
     if name == "check" {
         let path = argument(inner, "NET")?;
-        Some(NetworkRequest::Check(path))
+        let form = form_of(inner);
+        Some(NetworkRequest::Check(path, form))
     } else if name == "size" {
         let path = argument(inner, "NET")?;
-        Some(NetworkRequest::Size(path))
+        let form = form_of(inner);
+        Some(NetworkRequest::Size(path, form))
     } else if name == "jitter" {
         let path = argument(inner, "NET")?;
-        Some(NetworkRequest::Jitter(path))
+        let form = form_of(inner);
+        Some(NetworkRequest::Jitter(path, form))
     } else if name == "run" {
         let paths = network_paths_of(inner)?;
-        Some(NetworkRequest::Run(paths))
+        let form = form_of(inner);
+        Some(NetworkRequest::Run(paths, form))
     } else {
         None
     }

@@ -1,11 +1,11 @@
 //! The command line of networks, as `clap` reads it: the arguments after `afdx`.
 
-ghost use Rattle.std.specs.Prelude.{◌≡◌, false, IfOk};
+ghost use Rattle.std.specs.Prelude.{◌≡◌, codes, false, IfOk};
 ghost use Rattle.clap.specs.Words.{app_of, with_subcommand};
 ghost use Rattle.clap.specs.declared.builder.command.Command.TheViews.{out-Command};
-ghost use Rattle.afdx_arguments.specs.Commands.{network_check_app, network_size_app, network_jitter_app, network_run_app, bare_network, network_program};
+ghost use Rattle.afdx_arguments.specs.Commands.{network_path_app, network_run_app, bare_network, network_program};
 
-use crate::command::{flag, path, with_argument, with_command, with_no_arguments};
+use crate::command::{csv, flag, path, with_argument, with_command, with_no_arguments};
 use clap::Command;
 use std::alloc::{AllocError, Global};
 
@@ -56,31 +56,43 @@ check refuses, 5 memory or a device.
 
 Example: mkdir -p out/A out/B && afdx network run network.toml in out";
 
-#[tactic(auto, unfolding(crate::specs::Commands::network_check_app))]
+/// A command that goes by a network file.
+fn with_path<'a>(
+    alloc: Global,
+    name: &'a str,
+    about: &'a str,
+    more: &'a str,
+) -> Result<Command<'a>, AllocError>
+    ensures app { IfOk result (λ c. app_of c ≡ network_path_app name.entry.now) }
+    ensures local { IfOk result (λ c. (out-Command c).has_globals ≡ false) }
+{
+    let network = path(alloc, "NET", "The network file");
+    let command = with_no_arguments(alloc, name, about, more).arg(network);
+    with_argument(command, csv(alloc))
+}
+
 fn check<'a>(alloc: Global) -> Result<Command<'a>, AllocError>
-    ensures app { IfOk result (λ c. app_of c ≡ network_check_app) }
+    ensures app { IfOk result (λ c. app_of c ≡ network_path_app (codes "check")) }
     ensures local { IfOk result (λ c. (out-Command c).has_globals ≡ false) }
 {
     let about = "Checks a network and prints the way of each link";
-    with_no_arguments(alloc, "check", about, CHECK).arg(path(alloc, "NET", "The network file"))
+    with_path(alloc, "check", about, CHECK)
 }
 
-#[tactic(auto, unfolding(crate::specs::Commands::network_size_app))]
 fn size<'a>(alloc: Global) -> Result<Command<'a>, AllocError>
-    ensures app { IfOk result (λ c. app_of c ≡ network_size_app) }
+    ensures app { IfOk result (λ c. app_of c ≡ network_path_app (codes "size")) }
     ensures local { IfOk result (λ c. (out-Command c).has_globals ≡ false) }
 {
     let about = "Prints what each port of each switch needs and has, whether it fits or not";
-    with_no_arguments(alloc, "size", about, SIZE).arg(path(alloc, "NET", "The network file"))
+    with_path(alloc, "size", about, SIZE)
 }
 
-#[tactic(auto, unfolding(crate::specs::Commands::network_jitter_app))]
 fn jitter<'a>(alloc: Global) -> Result<Command<'a>, AllocError>
-    ensures app { IfOk result (λ c. app_of c ≡ network_jitter_app) }
+    ensures app { IfOk result (λ c. app_of c ≡ network_path_app (codes "jitter")) }
     ensures local { IfOk result (λ c. (out-Command c).has_globals ≡ false) }
 {
     let about = "Prints the jitter that each link needs at each switch";
-    with_no_arguments(alloc, "jitter", about, JITTER).arg(path(alloc, "NET", "The network file"))
+    with_path(alloc, "jitter", about, JITTER)
 }
 
 fn run<'a>(alloc: Global) -> Result<Command<'a>, AllocError>
@@ -96,10 +108,8 @@ fn run<'a>(alloc: Global) -> Result<Command<'a>, AllocError>
     let whatever = "Runs a network that check refuses, too";
     let unchecked = flag(alloc, "unchecked", whatever);
     let command = with_no_arguments(alloc, "run", about, RUN).arg(network);
-    with_argument(
-        with_argument(with_argument(command, input), output),
-        unchecked,
-    )
+    let command = with_argument(with_argument(command, input), output);
+    with_argument(with_argument(command, unchecked), csv(alloc))
 }
 
 /// The program without its commands.
@@ -114,7 +124,7 @@ fn bare_network<'a>(alloc: Global) -> Result<Command<'a>, AllocError>
 
 /// The program with the commands `check` and `size`.
 fn with_checks<'a>(alloc: Global) -> Result<Command<'a>, AllocError>
-    ensures { IfOk result (λ c. app_of c ≡ with_subcommand (with_subcommand bare_network network_check_app.top) network_size_app.top) }
+    ensures { IfOk result (λ c. app_of c ≡ with_subcommand (with_subcommand bare_network (network_path_app (codes "check")).top) (network_path_app (codes "size")).top) }
 {
     let program = with_command(bare_network(alloc)?, check(alloc))?;
     with_command(program, size(alloc))

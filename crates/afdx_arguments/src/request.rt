@@ -2,6 +2,7 @@
 
 use crate::fail_on::FailOn;
 use afdx_alone::Alone;
+use afdx_csv::Form;
 use afdx_recordings::Recordings;
 
 /// The files of a run, as they were written.
@@ -24,6 +25,8 @@ pub struct RunOptions {
     pub verdict: bool,
     /// What it is to fail on.
     pub fail_on: FailOn,
+    /// The form of its report.
+    pub form: Form,
 }
 
 /// What is asked of a trace beside the files of its run.
@@ -63,13 +66,13 @@ pub struct NetworkPaths<'a> {
 #[derive(Clone, Copy, Debug, PartialEq, Eq)]
 pub enum NetworkRequest<'a> {
     /// The check of the network in this file.
-    Check(&'a str),
+    Check(&'a str, Form),
     /// The need and the limit of each rule at the ports of the network in this file.
-    Size(&'a str),
+    Size(&'a str, Form),
     /// The jitters that the rows of the network in this file need.
-    Jitter(&'a str),
+    Jitter(&'a str, Form),
     /// The network over captures.
-    Run(NetworkPaths<'a>),
+    Run(NetworkPaths<'a>, Form),
 }
 
 /// The files of recordings of a switch, as they were written.
@@ -91,21 +94,21 @@ pub enum Request<'a> {
     /// The policing of one link.
     Alone(Alone),
     /// The check of the table in this file.
-    Check(&'a str),
+    Check(&'a str, Form),
     /// The need and the limit of each rule at the ports of the table in this file.
-    Size(&'a str),
+    Size(&'a str, Form),
     /// The switch over captures.
     Run(Paths<'a>, RunOptions),
     /// The delays and the buffers of such a run.
-    Measure(Inputs<'a>),
+    Measure(Inputs<'a>, Form),
     /// The report, the delays, the buffers and the spells of policing of such a run.
-    Survey(Inputs<'a>),
+    Survey(Inputs<'a>, Form),
     /// What became of each frame and of each copy of such a run.
     Trace(Paths<'a>, TraceOptions),
     /// What MESSAGES says of a code, which is this text.
     Explain(&'static str),
     /// What was recorded of a switch beside what is proved of this one.
-    Compare(Compare<'a>, Recordings),
+    Compare(Compare<'a>, Recordings, Form),
     /// A command of networks.
     Network(NetworkRequest<'a>),
 }

@@ -6,4 +6,5 @@ pub mod Inner
 pub mod Sources
 pub mod Within
 pub mod Report
+pub mod ReportRows
 pub mod Rows

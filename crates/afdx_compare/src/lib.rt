@@ -11,6 +11,7 @@ mod comparison;
 mod findings;
 pub mod laws;
 mod lines;
+mod report_rows;
 mod row;
 mod rows;
 mod sources;

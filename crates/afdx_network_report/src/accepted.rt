@@ -19,7 +19,7 @@ fn put_numbers(text: &mut String, numbers: &[u64]) -> Result<(), AllocError>
 }
 
 /// The port at which a way leads out of the network.
-fn last_end(way: &Way) -> End
+pub(crate) fn last_end(way: &Way) -> End
     ensures { result ≡ last_end way.now }
 {
     match way.ports.last() {

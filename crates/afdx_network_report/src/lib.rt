@@ -1,14 +1,17 @@
 //! What is reported of a network: the ways of its links, the jitters of its rows, the reports of its switches.
 //!
-//! A switch is named by the name at its place among these names; the lines are those of `specs/Lines.antt`.
+//! A switch is named by the name at its place among these names; the lines are those of `specs/Lines.antt`, the comma-separated values
+//! those of `specs/Rows.antt`.
 #![tactic(auto)]
 
 mod accepted;
 mod ends;
 mod jitters;
 mod reports;
+mod rows;
 
 pub use accepted::accepted_text;
 pub use ends::name_of;
 pub use jitters::jitter_text;
 pub use reports::push_report;
+pub use rows::{needs_rows, ways_rows};

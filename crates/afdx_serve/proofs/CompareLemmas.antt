@@ -1,8 +1,8 @@
 -- What is found out of recordings, and why nothing is.
-use Rattle.std.proofs.Common.{◌≡◌, ℕ, zero, suc, ◌+◌, ◌<◌, Bool, true, false, List, [], ◌∷◌, ◌++◌, map, flat_map, length, take, slice_get, Option, Some, None, get_or, refl, sym, ap, subst}
+use Rattle.std.proofs.Common.{◌≡◌, ℕ, zero, suc, ◌+◌, ◌<◌, Bool, true, false, List, [], ◌∷◌, ◌++◌, map, length, take, slice_get, Option, Some, None, get_or, refl, sym, ap, subst}
 use Rattle.std.proofs.Common.{◌∙◌, inl, inr, String, Global, string_bytes, arith, append_assoc, append-nil, length-append}
 use Rattle.std.specs.Prelude.{◌⊎◌, IfSome, is_some, option_map, option_to_list, if◌then◌else◌}
-use Rattle.std.proofs.lemmas.List.{length-map, map-append, take_more}
+use Rattle.std.proofs.lemmas.List.{length-map, take_more}
 use Rattle.std.proofs.lemmas.Option.{same_Some, slice_get-map, slice_get-get_or}
 use Rattle.std.proofs.lemmas.Grind.{flat_map-append}
 use Rattle.std.specs.Io.KnownBytes.{Keeps}
@@ -11,7 +11,7 @@ use Rattle.afdx_table.specs.declared.rows.PortRow.{PortRow}
 use Rattle.afdx_table.specs.Content.{Content}
 use Rattle.afdx_load.specs.declared.fault.LoadFault.{LoadFault}
 use Rattle.afdx_grouping.specs.Scatter.{AcceptedHasNoScatteredFault, first_scattered_fault}
-use Rattle.afdx_merging.specs.Read.{AreRead, AreMerged, HasFirstFault}
+use Rattle.afdx_merging.specs.Read.{AreRead}
 use Rattle.afdx_recordings.specs.declared.recordings.Recordings.{Recordings}
 use Rattle.afdx_recordings.specs.declared.outputs.Outputs.{Outputs}
 use Rattle.afdx_recordings.specs.Recordings.{is_recorded}
@@ -23,11 +23,12 @@ use Rattle.afdx_folder.specs.Input.{AreGiven}
 use Rattle.afdx_arguments.specs.declared.request.Compare.{Compare}
 use Rattle.afdx_messages.specs.declared.failure.Failure.{Failure}
 use Rattle.afdx_messages.specs.declared.failure.Failure.TheVariants as failure
-use Rattle.afdx_serve.specs.Runs.{capture_name, HasTable, GetsNamed, StopsAt, EndsAt, FailsToGet, FailsToRead, FailsToPut}
-use Rattle.afdx_serve.specs.Compares.{scatter_of, HasVaryingTable, HasFaultyTable, output_names, names_of, recording_names, IsFoundUnder, IsFoundIn, rows_names, rows_texts, PutsRows, FailsToGetVarying}
-use Rattle.afdx_serve.specs.Compares.{IsFaultyUnder, FailsUnder, FailsToFind, StopsRows, EndsRows, FailsToCompare}
+use Rattle.afdx_serve.specs.Runs.{capture_name, HasTable, GetsNamed, FailsToGet, FailsToRead, FailsToPut}
+use Rattle.afdx_serve.specs.Compares.{scatter_of, HasVaryingTable, HasFaultyTable, output_names, recording_names, IsFoundUnder, IsFoundIn, rows_names, rows_texts, PutsRows, FailsToGetVarying}
+use Rattle.afdx_serve.specs.Compares.{IsFaultyUnder, FailsUnder, FailsToFind, StopsRows, EndsRows}
 use Rattle.afdx_serve.specs.Inner.Leading.{AreOpened}
 use Rattle.afdx_serve.specs.Inner.OpenPorts.{FailsToGetNamed}
+use Rattle.afdx_csv.specs.declared.form.Form.{Form}
 use Rattle.afdx_serve.specs.Serving.{world, FailsToCompareAll}
 use Rattle.afdx_serve.proofs.CaptureLemmas.{StopsAt-before, EndsAt-before}
 use Rattle.afdx_serve.proofs.FileLemmas.{KeepsFiles-trans, PutsFiles-before, ShowsAll-before}
@@ -265,33 +266,33 @@ never_put s c r files before after (inl h) = h
 never_put s c r files before after (inr h) = h.2
 
 -- nothing was found out, put or written
-pub not_found : (f : Failure) (c : Compare) (r : Recordings) (a b : Option Files) (first after : DeviceLog) (w v : Option (List ℕ)) → KeepsFiles a b → Keeps w v
-    → FailsToFind f c r a first after → FailsToCompareAll f c r (world w a first) (world v b after)
-not_found failure.Found c r a b first after w v keeps none h = absurd (never_found c r a first after h)
-not_found failure.Usage c r a b first after w v keeps none h = ((h, keeps), none)
-not_found (failure.Table e) c r a b first after w v keeps none h = ((h, keeps), none)
-not_found (failure.Load e) c r a b first after w v keeps none h = ((h, keeps), none)
-not_found (failure.Capture e) c r a b first after w v keeps none h = ((h, keeps), none)
-not_found (failure.PortCapture p e) c r a b first after w v keeps none h = ((h, keeps), none)
-not_found (failure.OutputCapture p e) c r a b first after w v keeps none h = ((h, keeps), none)
-not_found (failure.Network e) c r a b first after w v keeps none h = ((h, keeps), none)
-not_found (failure.Get s) c r a b first after w v keeps none h = ((h, keeps), none)
-not_found (failure.Put s) c r a b first after w v keeps none h = absurd (never_put s c r a first after h)
-not_found failure.Read c r a b first after w v keeps none h = ((h, keeps), none)
-not_found failure.Write c r a b first after w v keeps none h = absurd (never_written c r a first after h)
-not_found failure.Memory c r a b first after w v keeps none h = (inl keeps, none)
+pub not_found : (form : Form) (f : Failure) (c : Compare) (r : Recordings) (a b : Option Files) (first after : DeviceLog) (w v : Option (List ℕ)) → KeepsFiles a b → Keeps w v
+    → FailsToFind f c r a first after → FailsToCompareAll f form c r (world w a first) (world v b after)
+not_found form failure.Found c r a b first after w v keeps none h = absurd (never_found c r a first after h)
+not_found form failure.Usage c r a b first after w v keeps none h = ((h, keeps), none)
+not_found form (failure.Table e) c r a b first after w v keeps none h = ((h, keeps), none)
+not_found form (failure.Load e) c r a b first after w v keeps none h = ((h, keeps), none)
+not_found form (failure.Capture e) c r a b first after w v keeps none h = ((h, keeps), none)
+not_found form (failure.PortCapture p e) c r a b first after w v keeps none h = ((h, keeps), none)
+not_found form (failure.OutputCapture p e) c r a b first after w v keeps none h = ((h, keeps), none)
+not_found form (failure.Network e) c r a b first after w v keeps none h = ((h, keeps), none)
+not_found form (failure.Get s) c r a b first after w v keeps none h = ((h, keeps), none)
+not_found form (failure.Put s) c r a b first after w v keeps none h = absurd (never_put s c r a first after h)
+not_found form failure.Read c r a b first after w v keeps none h = ((h, keeps), none)
+not_found form failure.Write c r a b first after w v keeps none h = absurd (never_written c r a first after h)
+not_found form failure.Memory c r a b first after w v keeps none h = (inl keeps, none)
 
 -- a table was not got
-pub not_got_varying : (f : Failure) (c : Compare) (r : Recordings) (a b : Option Files) (first after : DeviceLog) (w v : Option (List ℕ)) → KeepsFiles a b → Keeps w v
-    → FailsToGetVarying f a c.table.now r first after → FailsToCompareAll f c r (world w a first) (world v b after)
-not_got_varying f c r a b first after w v keeps none h = not_found f c r a b first after w v keeps none (inl h)
+pub not_got_varying : (form : Form) (f : Failure) (c : Compare) (r : Recordings) (a b : Option Files) (first after : DeviceLog) (w v : Option (List ℕ)) → KeepsFiles a b → Keeps w v
+    → FailsToGetVarying f a c.table.now r first after → FailsToCompareAll f form c r (world w a first) (world v b after)
+not_got_varying form f c r a b first after w v keeps none h = not_found form f c r a b first after w v keeps none (inl h)
 
 -- nothing was found out of its captures
-pub not_found_under : (f : Failure) (c : Compare) (r : Recordings) (t : Content) (a b d : Option Files) (first before after : DeviceLog) (w v : Option (List ℕ)) → HasVaryingTable a c.table.now r t
-    → KeepsFiles a b → before ≡ first → KeepsFiles b d → Keeps w v → FailsUnder f (recording_names c r t) t r b before after
-    → FailsToCompareAll f c r (world w a first) (world v d after)
-not_found_under f c r t a b d first before after w v has keeps same more none h =
-    not_found f c r a d first after w v (KeepsFiles-trans a b d keeps more) none
+pub not_found_under : (form : Form) (f : Failure) (c : Compare) (r : Recordings) (t : Content) (a b d : Option Files) (first before after : DeviceLog) (w v : Option (List ℕ))
+    → HasVaryingTable a c.table.now r t → KeepsFiles a b → before ≡ first → KeepsFiles b d → Keeps w v → FailsUnder f (recording_names c r t) t r b before after
+    → FailsToCompareAll f form c r (world w a first) (world v d after)
+not_found_under form f c r t a b d first before after w v has keeps same more none h =
+    not_found form f c r a d first after w v (KeepsFiles-trans a b d keeps more) none
     (inr (t, has, under_before f (recording_names c r t) t r a b first before after keeps same h))
 
 -- ---- what is found out is put, or not
@@ -321,22 +322,22 @@ module _ (c : Compare) (r : Recordings) (a b d : Option Files) (first before aft
   pub rows_put : PutsFiles b d (rows_names c) (rows_texts c r found) → after ≡ settled_after (length (rows_names c)) before → PutsRows c r a d first after from until found
   rows_put put count = (is, PutsFiles-before a b d _ _ keeps put, count ∙ ap (settled_after (length (rows_names c))) same)
 
-  pub rows_not_put : (f : Failure) (w v : Option (List ℕ)) → Keeps w v → FailsToPut f (rows_names c) (rows_texts c r found) b d before after
-      → FailsToCompareAll f c r (world w a first) (world v d after)
-  rows_not_put failure.Found w v none h = absurd h
-  rows_not_put failure.Usage w v none h = absurd h
-  rows_not_put (failure.Table e) w v none h = absurd h
-  rows_not_put (failure.Load e) w v none h = absurd h
-  rows_not_put (failure.Capture e) w v none h = absurd h
-  rows_not_put (failure.PortCapture p e) w v none h = absurd h
-  rows_not_put (failure.OutputCapture p e) w v none h = absurd h
-  rows_not_put (failure.Network e) w v none h = absurd h
-  rows_not_put (failure.Get s) w v none h = absurd h
-  rows_not_put (failure.Put s) w v none h = ((from, until, found, is, EndsAt-before (string_bytes s) (rows_names c) (rows_texts c r found) a b d first before after keeps same h), none)
-  rows_not_put failure.Read w v none h = absurd h
-  rows_not_put failure.Write w v none h = absurd h
-  rows_not_put failure.Memory w v none (inl kept) = (inl (KeepsFiles-trans a b d keeps kept), none)
-  rows_not_put failure.Memory w v none (inr h) = (inr (h.0, (from, until, found, is, StopsAt-before _ _ _ a b d keeps h.1)), none)
+  pub rows_not_put : (form : Form) (f : Failure) (w v : Option (List ℕ)) → Keeps w v → FailsToPut f (rows_names c) (rows_texts c r found) b d before after
+      → FailsToCompareAll f form c r (world w a first) (world v d after)
+  rows_not_put form failure.Found w v none h = absurd h
+  rows_not_put form failure.Usage w v none h = absurd h
+  rows_not_put form (failure.Table e) w v none h = absurd h
+  rows_not_put form (failure.Load e) w v none h = absurd h
+  rows_not_put form (failure.Capture e) w v none h = absurd h
+  rows_not_put form (failure.PortCapture p e) w v none h = absurd h
+  rows_not_put form (failure.OutputCapture p e) w v none h = absurd h
+  rows_not_put form (failure.Network e) w v none h = absurd h
+  rows_not_put form (failure.Get s) w v none h = absurd h
+  rows_not_put form (failure.Put s) w v none h = ((from, until, found, is, EndsAt-before (string_bytes s) (rows_names c) (rows_texts c r found) a b d first before after keeps same h), none)
+  rows_not_put form failure.Read w v none h = absurd h
+  rows_not_put form failure.Write w v none h = absurd h
+  rows_not_put form failure.Memory w v none (inl kept) = (inl (KeepsFiles-trans a b d keeps kept), none)
+  rows_not_put form failure.Memory w v none (inr h) = (inr (h.0, (from, until, found, is, StopsAt-before _ _ _ a b d keeps h.1)), none)
 
 -- of a name that failed: no file has changed, or those before a name were put
 pub rows_ended : (name : List ℕ) (c : Compare) (r : Recordings) (a d : Option Files) (before after : DeviceLog) → EndsRows name c r a d before after

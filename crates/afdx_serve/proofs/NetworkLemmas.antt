@@ -98,16 +98,16 @@ judged_put s names verdict (inr h) = h.3
 
 -- they never refuse the arguments
 pub never_usage : (r : NetworkRequest) (old new : World) → FailsToPerformNetwork failure.Usage r old new → ⊥
-never_usage (ask.Check path) old new h = elim h.0 [
+never_usage (ask.Check path form) old new h = elim h.0 [
   | inl fails ↦ got old.files path.now old.failed new.failed fails
   | inr fails ↦ judged_usage (names_of fails.0.layout.switches) (verdict_of fails.0) fails.2
 ]
-never_usage (ask.Size path) old new h = got old.files path.now old.failed new.failed h.0
-never_usage (ask.Jitter path) old new h = elim h.0 [
+never_usage (ask.Size path form) old new h = got old.files path.now old.failed new.failed h.0
+never_usage (ask.Jitter path form) old new h = elim h.0 [
   | inl fails ↦ got old.files path.now old.failed new.failed fails
   | inr fails ↦ fails.2.2
 ]
-never_usage (ask.Run paths) old new h = elim h.0.0 [
+never_usage (ask.Run paths form) old new h = elim h.0.0 [
   | inl fails ↦ got old.files paths.network.now old.failed new.failed fails
   | inr fails ↦ elim fails.2 [
     | inl refused ↦ judged_usage (names_of fails.0.layout.switches) (verdict_of fails.0) refused.0.1
@@ -131,39 +131,39 @@ spares failure.Usage r old new made h = absurd made
 spares failure.Read r old new made h = absurd made
 spares failure.Write r old new made h = absurd made
 spares failure.Memory r old new made h = absurd made
-spares (failure.Table e) (ask.Check path) old new made h = inl (h.2, h.1)
-spares (failure.Load e) (ask.Check path) old new made h = inl (h.2, h.1)
-spares (failure.Capture e) (ask.Check path) old new made h = inl (h.2, h.1)
-spares (failure.PortCapture p e) (ask.Check path) old new made h = inl (h.2, h.1)
-spares (failure.OutputCapture p e) (ask.Check path) old new made h = inl (h.2, h.1)
-spares (failure.Network e) (ask.Check path) old new made h = inl (h.2, h.1)
-spares (failure.Get name) (ask.Check path) old new made h = inl (h.2, h.1)
-spares (failure.Put name) (ask.Check path) old new made h = inl (h.2, h.1)
-spares (failure.Table e) (ask.Size path) old new made h = inl (h.2, h.1)
-spares (failure.Load e) (ask.Size path) old new made h = inl (h.2, h.1)
-spares (failure.Capture e) (ask.Size path) old new made h = inl (h.2, h.1)
-spares (failure.PortCapture p e) (ask.Size path) old new made h = inl (h.2, h.1)
-spares (failure.OutputCapture p e) (ask.Size path) old new made h = inl (h.2, h.1)
-spares (failure.Network e) (ask.Size path) old new made h = inl (h.2, h.1)
-spares (failure.Get name) (ask.Size path) old new made h = inl (h.2, h.1)
-spares (failure.Put name) (ask.Size path) old new made h = inl (h.2, h.1)
-spares (failure.Table e) (ask.Jitter path) old new made h = inl (h.2, h.1)
-spares (failure.Load e) (ask.Jitter path) old new made h = inl (h.2, h.1)
-spares (failure.Capture e) (ask.Jitter path) old new made h = inl (h.2, h.1)
-spares (failure.PortCapture p e) (ask.Jitter path) old new made h = inl (h.2, h.1)
-spares (failure.OutputCapture p e) (ask.Jitter path) old new made h = inl (h.2, h.1)
-spares (failure.Network e) (ask.Jitter path) old new made (inl h) = inl (h.2, h.1)
-spares (failure.Network e) (ask.Jitter path) old new made (inr h) = inr (inr (h.0, h.1, h.2, h.3, tt))
-spares (failure.Get name) (ask.Jitter path) old new made h = inl (h.2, h.1)
-spares (failure.Put name) (ask.Jitter path) old new made h = inl (h.2, h.1)
-spares (failure.Table e) (ask.Run paths) old new made h = inl (h.1, h.0.1)
-spares (failure.Load e) (ask.Run paths) old new made h = inl (h.1, h.0.1)
-spares (failure.Capture e) (ask.Run paths) old new made h = inl (h.1, h.0.1)
-spares (failure.PortCapture p e) (ask.Run paths) old new made h = inl (h.1, h.0.1)
-spares (failure.OutputCapture p e) (ask.Run paths) old new made h = inl (h.1, h.0.1)
-spares (failure.Network e) (ask.Run paths) old new made h = inl (h.1, h.0.1)
-spares (failure.Get name) (ask.Run paths) old new made h = inl (h.1, h.0.1)
-spares (failure.Put name) (ask.Run paths) old new made h = inr (network_ended _ paths _ _ _ _ h.0, h.1)
+spares (failure.Table e) (ask.Check path form) old new made h = inl (h.2, h.1)
+spares (failure.Load e) (ask.Check path form) old new made h = inl (h.2, h.1)
+spares (failure.Capture e) (ask.Check path form) old new made h = inl (h.2, h.1)
+spares (failure.PortCapture p e) (ask.Check path form) old new made h = inl (h.2, h.1)
+spares (failure.OutputCapture p e) (ask.Check path form) old new made h = inl (h.2, h.1)
+spares (failure.Network e) (ask.Check path form) old new made h = inl (h.2, h.1)
+spares (failure.Get name) (ask.Check path form) old new made h = inl (h.2, h.1)
+spares (failure.Put name) (ask.Check path form) old new made h = inl (h.2, h.1)
+spares (failure.Table e) (ask.Size path form) old new made h = inl (h.2, h.1)
+spares (failure.Load e) (ask.Size path form) old new made h = inl (h.2, h.1)
+spares (failure.Capture e) (ask.Size path form) old new made h = inl (h.2, h.1)
+spares (failure.PortCapture p e) (ask.Size path form) old new made h = inl (h.2, h.1)
+spares (failure.OutputCapture p e) (ask.Size path form) old new made h = inl (h.2, h.1)
+spares (failure.Network e) (ask.Size path form) old new made h = inl (h.2, h.1)
+spares (failure.Get name) (ask.Size path form) old new made h = inl (h.2, h.1)
+spares (failure.Put name) (ask.Size path form) old new made h = inl (h.2, h.1)
+spares (failure.Table e) (ask.Jitter path form) old new made h = inl (h.2, h.1)
+spares (failure.Load e) (ask.Jitter path form) old new made h = inl (h.2, h.1)
+spares (failure.Capture e) (ask.Jitter path form) old new made h = inl (h.2, h.1)
+spares (failure.PortCapture p e) (ask.Jitter path form) old new made h = inl (h.2, h.1)
+spares (failure.OutputCapture p e) (ask.Jitter path form) old new made h = inl (h.2, h.1)
+spares (failure.Network e) (ask.Jitter path form) old new made (inl h) = inl (h.2, h.1)
+spares (failure.Network e) (ask.Jitter path form) old new made (inr h) = inr (inr (h.0, h.1, h.2, h.3, tt))
+spares (failure.Get name) (ask.Jitter path form) old new made h = inl (h.2, h.1)
+spares (failure.Put name) (ask.Jitter path form) old new made h = inl (h.2, h.1)
+spares (failure.Table e) (ask.Run paths form) old new made h = inl (h.1, h.0.1)
+spares (failure.Load e) (ask.Run paths form) old new made h = inl (h.1, h.0.1)
+spares (failure.Capture e) (ask.Run paths form) old new made h = inl (h.1, h.0.1)
+spares (failure.PortCapture p e) (ask.Run paths form) old new made h = inl (h.1, h.0.1)
+spares (failure.OutputCapture p e) (ask.Run paths form) old new made h = inl (h.1, h.0.1)
+spares (failure.Network e) (ask.Run paths form) old new made h = inl (h.1, h.0.1)
+spares (failure.Get name) (ask.Run paths form) old new made h = inl (h.1, h.0.1)
+spares (failure.Put name) (ask.Run paths form) old new made h = inr (network_ended _ paths _ _ _ _ h.0, h.1)
 
 -- ---- the failures of refusals
 

@@ -17,16 +17,18 @@ use Rattle.afdx_network.specs.Runs.{Given, AreOutcomes, IsRunOf, IsUncheckedRunO
 use Rattle.afdx_network.specs.Given.{AreGiven, NoneShareAPort}
 use Rattle.afdx_network.specs.Outage.{given_up}
 use Rattle.afdx_network.specs.Laws.{IsOfFile, NetworkRunsDeliver}
-use Rattle.afdx_network_report.specs.Lines.{Names, name_of, report_of}
+use Rattle.afdx_network_report.specs.Lines.{Names, name_of}
 use Rattle.afdx_arguments.specs.declared.request.NetworkPaths.{NetworkPaths}
 use Rattle.afdx_messages.specs.declared.network_failure.NetworkFailure.TheVariants as network
 use Rattle.afdx_messages.specs.declared.failure.Failure.{Failure}
 use Rattle.afdx_messages.specs.declared.failure.Failure.TheVariants as failure
 use Rattle.afdx_folder.specs.Files.{Files, KeepsFiles, PutsFiles, DeviceLog, settled_after}
-use Rattle.afdx_serve.specs.Runs.{capture_name, names_in, bytes_of_captures, report_in, StopsAt, EndsAt, FailsToPut}
+use Rattle.afdx_serve.specs.Runs.{capture_name, names_in, bytes_of_captures, StopsAt, EndsAt, FailsToPut}
 use Rattle.afdx_serve.specs.Networks.{names_of, verdict_of, HasNetwork}
 use Rattle.afdx_serve.proofs.NetworkLemmas.{judged_write, judged_put}
-use Rattle.afdx_serve.specs.NetworkRuns.{switch_folder, names_at, bytes_at, captures_of, reports_of, HasGiven, LeadsToNetwork, GetsGiven, FailsToGetGiven, FailsToLeadNetwork, StopsNetwork, EndsNetwork}
+use Rattle.afdx_serve.specs.NetworkRuns.{switch_folder, names_at, bytes_at, captures_of, of_switches, HasGiven}
+use Rattle.afdx_serve.specs.NetworkRuns.{LeadsToNetwork, GetsGiven, FailsToGetGiven, FailsToLeadNetwork, StopsNetwork, EndsNetwork}
+use Rattle.afdx_csv.specs.declared.form.Form.{Form}
 use Rattle.afdx_serve.specs.Serving.{world, PutsNetwork, FailsToRunNetwork}
 use Rattle.afdx_serve.specs.declared.network_plan.NetworkPlan.{NetworkPlan}
 use Rattle.afdx_serve.specs.Inner.NetworkRunning.{network_in, is_accepted, HasRun, FailsToLeadGiven}
@@ -39,9 +41,9 @@ pub no_names : (path : List ℕ) (names : Names) → names_at path names [] ≡ 
 no_names path [] = refl
 no_names path (name ∷ names) = refl
 
-pub no_reports : (names : Names) → reports_of names [] ≡ []
-no_reports [] = refl
-no_reports (name ∷ names) = refl
+pub nothing_said : (said : List ℕ → Results → List ℕ) (names : Names) → of_switches said names [] ≡ []
+nothing_said said [] = refl
+nothing_said said (name ∷ names) = refl
 
 names_at-push : (path : List ℕ) (names : Names) (all : List (List Text)) (texts : List Text) → length all < length names
     → names_at path names (all ++ texts ∷ []) ≡ names_at path names all ++ names_in (switch_folder path (name_of names (length all))) texts
@@ -51,13 +53,13 @@ names_at-push path (name ∷ names) (own ∷ all) texts lt =
     ap (λ (more : List (List ℕ)). names_in (switch_folder path name) own ++ more) (names_at-push path names all texts (omega (arith, lt)))
     ∙ sym (append_assoc (names_in (switch_folder path name) own) (names_at path names all) (names_in (switch_folder path (name_of names (length all))) texts))
 
-reports_of-push : (names : Names) (left : List Results) (r : Results) → length left < length names
-    → reports_of names (left ++ r ∷ []) ≡ reports_of names left ++ report_of (name_of names (length left)) (report_in r)
-reports_of-push [] left r lt = absurd (omega (arith, lt))
-reports_of-push (name ∷ names) [] r lt = ap (λ (more : List ℕ). report_of name (report_in r) ++ more) (no_reports names) ∙ append-nil (report_of name (report_in r))
-reports_of-push (name ∷ names) (x ∷ left) r lt =
-    ap (λ (more : List ℕ). report_of name (report_in x) ++ more) (reports_of-push names left r (omega (arith, lt)))
-    ∙ sym (append_assoc (report_of name (report_in x)) (reports_of names left) (report_of (name_of names (length left)) (report_in r)))
+of_switches-push : (said : List ℕ → Results → List ℕ) (names : Names) (left : List Results) (r : Results) → length left < length names
+    → of_switches said names (left ++ r ∷ []) ≡ of_switches said names left ++ said (name_of names (length left)) r
+of_switches-push said [] left r lt = absurd (omega (arith, lt))
+of_switches-push said (name ∷ names) [] r lt = ap (λ (more : List ℕ). said name r ++ more) (nothing_said said names) ∙ append-nil (said name r)
+of_switches-push said (name ∷ names) (x ∷ left) r lt =
+    ap (λ (more : List ℕ). said name x ++ more) (of_switches-push said names left r (omega (arith, lt)))
+    ∙ sym (append_assoc (said name x) (of_switches said names left) (said (name_of names (length left)) r))
 
 taken : {X : Type 0} (xs : List X) (i : ℕ) → i < length xs → length (take i xs) ≡ i
 taken xs i lt = let n = length-take i xs in omega (arith, n, lt)
@@ -78,15 +80,16 @@ one_more_named path names left i d old new own count lt grown named before =
     ∙ sym (names_at-push path names (captures_of (take i left)) (get_or left i d).captures (omega (arith, many, count, lt)))
     ∙ ap (names_at path names) (sym (one_more_captures left i d lt))
 
--- the report of one switch more
-pub one_more_report : (names : Names) (left : List Results) (i : ℕ) (d : Results) (old new : List ℕ) → length names ≡ length left → i < length left
-    → new ≡ old ++ report_of (name_of names i) (report_in (get_or left i d)) → old ≡ reports_of names (take i left) → new ≡ reports_of names (take (i + 1) left)
-one_more_report names left i d old new count lt grown before =
+-- what is said of one switch more, after a text
+pub one_more_said : (said : List ℕ → Results → List ℕ) (names : Names) (left : List Results) (i : ℕ) (d : Results) (text old new : List ℕ) → length names ≡ length left → i < length left
+    → new ≡ old ++ said (name_of names i) (get_or left i d) → old ≡ text ++ of_switches said names (take i left) → new ≡ text ++ of_switches said names (take (i + 1) left)
+one_more_said said names left i d text old new count lt grown before =
     let many = taken left i lt in
-    grown ∙ ap (λ (l : List ℕ). l ++ report_of (name_of names i) (report_in (get_or left i d))) before
-    ∙ ap (λ (n : ℕ). reports_of names (take i left) ++ report_of (name_of names n) (report_in (get_or left i d))) (sym many)
-    ∙ sym (reports_of-push names (take i left) (get_or left i d) (omega (arith, many, count, lt)))
-    ∙ ap (reports_of names) (sym (take_more left i d lt))
+    grown ∙ ap (λ (l : List ℕ). l ++ said (name_of names i) (get_or left i d)) before
+    ∙ append_assoc text (of_switches said names (take i left)) (said (name_of names i) (get_or left i d))
+    ∙ ap (λ (l : List ℕ). text ++ l) (ap (λ (n : ℕ). of_switches said names (take i left) ++ said (name_of names n) (get_or left i d)) (sym many)
+    ∙ sym (of_switches-push said names (take i left) (get_or left i d) (omega (arith, many, count, lt)))
+    ∙ ap (of_switches said names) (sym (take_more left i d lt)))
 
 -- as many names as texts
 as_many : (path : List ℕ) (names : Names) (all : List (List Text)) → length names ≡ length all → length (names_at path names all) ≡ length (bytes_at all)
@@ -165,8 +168,8 @@ pub record IsLed (paths : NetworkPaths) (files : Option Files) (net : Network) (
 pub is_led : TablesAreWellFormed → LayoutsAreWithinLimits → NetworkRunsDeliver → (paths : NetworkPaths) (a b : Option Files) (net : Network) (plan : NetworkPlan) (seen : Network) (given : Given)
     (left : List Results) (names : Names)
     → HasNetwork a paths.network.now net → network_in plan ≡ net → is_accepted plan ≡ not paths.unchecked → seen ≡ network_in plan → (paths.unchecked ≡ false → IsAcceptedNetwork net)
-    → KeepsFiles a b → HasGiven b paths.input.now (names_of seen.layout.switches) given → AreGiven seen given → HasRun plan (given_up (network_in plan).layout given) left → names ≡ names_of net.layout.switches
-    → IsLed paths a net names left
+    → KeepsFiles a b → HasGiven b paths.input.now (names_of seen.layout.switches) given → AreGiven seen given → HasRun plan (given_up (network_in plan).layout given) left
+    → names ≡ names_of net.layout.switches → IsLed paths a net names left
 is_led formed limits deliver paths a b net plan seen given left names has same checked met accepted keeps got are ran named = record {
   leads = leads_network deliver paths a net given ran.0 left of has accepted (has_given_before a b paths.input.now (names_of net.layout.switches) given keeps here) there is run;
   named = named;
@@ -263,41 +266,40 @@ never_put s paths files before after (inr h) = elim h.2 [
 ]
 
 -- the files lead to no run, and nothing was put or written
-pub no_run : (f : Failure) (paths : NetworkPaths) (a b : Option Files) (first after : DeviceLog) → KeepsFiles a b → (w v : Option (List ℕ)) → Keeps w v → FailsToLeadNetwork f paths a first after
-    → FailsToRunNetwork f paths (world w a first) (world v b after)
-no_run failure.Memory paths a b first after keeps w v none h = (inl keeps, none)
-no_run failure.Write paths a b first after keeps w v none h = absurd (never_write paths a first after h)
-no_run (failure.Put s) paths a b first after keeps w v none h = absurd (never_put s paths a first after h)
-no_run failure.Found paths a b first after keeps w v none h = ((h, keeps), none)
-no_run failure.Usage paths a b first after keeps w v none h = ((h, keeps), none)
-no_run (failure.Table r) paths a b first after keeps w v none h = ((h, keeps), none)
-no_run (failure.Load r) paths a b first after keeps w v none h = ((h, keeps), none)
-no_run (failure.Capture r) paths a b first after keeps w v none h = ((h, keeps), none)
-no_run (failure.PortCapture p r) paths a b first after keeps w v none h = ((h, keeps), none)
-no_run (failure.OutputCapture p r) paths a b first after keeps w v none h = ((h, keeps), none)
-no_run (failure.Network r) paths a b first after keeps w v none h = ((h, keeps), none)
-no_run (failure.Get s) paths a b first after keeps w v none h = ((h, keeps), none)
-no_run failure.Read paths a b first after keeps w v none h = ((h, keeps), none)
+pub no_run : (form : Form) (f : Failure) (paths : NetworkPaths) (a b : Option Files) (first after : DeviceLog) → KeepsFiles a b → (w v : Option (List ℕ)) → Keeps w v
+    → FailsToLeadNetwork f paths a first after → FailsToRunNetwork f form paths (world w a first) (world v b after)
+no_run form failure.Memory paths a b first after keeps w v none h = (inl keeps, none)
+no_run form failure.Write paths a b first after keeps w v none h = absurd (never_write paths a first after h)
+no_run form (failure.Put s) paths a b first after keeps w v none h = absurd (never_put s paths a first after h)
+no_run form failure.Found paths a b first after keeps w v none h = ((h, keeps), none)
+no_run form failure.Usage paths a b first after keeps w v none h = ((h, keeps), none)
+no_run form (failure.Table r) paths a b first after keeps w v none h = ((h, keeps), none)
+no_run form (failure.Load r) paths a b first after keeps w v none h = ((h, keeps), none)
+no_run form (failure.Capture r) paths a b first after keeps w v none h = ((h, keeps), none)
+no_run form (failure.PortCapture p r) paths a b first after keeps w v none h = ((h, keeps), none)
+no_run form (failure.OutputCapture p r) paths a b first after keeps w v none h = ((h, keeps), none)
+no_run form (failure.Network r) paths a b first after keeps w v none h = ((h, keeps), none)
+no_run form (failure.Get s) paths a b first after keeps w v none h = ((h, keeps), none)
+no_run form failure.Read paths a b first after keeps w v none h = ((h, keeps), none)
 
 -- not all was got
-pub not_given : (f : Failure) (paths : NetworkPaths) (a b c : Option Files) (net cleared seen : Network) (first before after : DeviceLog) → HasNetwork a paths.network.now net → cleared ≡ net → seen
-    ≡ cleared
-    → (paths.unchecked ≡ false → IsAcceptedNetwork net) → KeepsFiles a b → KeepsFiles b c → before ≡ first → (w v : Option (List ℕ)) → Keeps w v → FailsToGetGiven f b paths.input.now seen before after
-    → FailsToRunNetwork f paths (world w a first) (world v c after)
-not_given f paths a b c net cleared seen first before after has same met accepted keeps further log w v none h =
+pub not_given : (form : Form) (f : Failure) (paths : NetworkPaths) (a b c : Option Files) (net cleared seen : Network) (first before after : DeviceLog)
+    → HasNetwork a paths.network.now net → cleared ≡ net → seen ≡ cleared → (paths.unchecked ≡ false → IsAcceptedNetwork net) → KeepsFiles a b → KeepsFiles b c → before ≡ first
+    → (w v : Option (List ℕ)) → Keeps w v → FailsToGetGiven f b paths.input.now seen before after → FailsToRunNetwork f form paths (world w a first) (world v c after)
+not_given form f paths a b c net cleared seen first before after has same met accepted keeps further log w v none h =
     let here = subst (λ (n : Network). FailsToGetGiven f b paths.input.now n before after) (met ∙ same) h in
     let fails = subst (λ (l : DeviceLog). FailsToGetGiven f b paths.input.now net l after) log here in
-    no_run f paths a c first after (KeepsFiles-trans a b c keeps further) w v none (inr (net, has, inr (accepted, not_given_before f a b paths.input.now net first after keeps fails)))
+    no_run form f paths a c first after (KeepsFiles-trans a b c keeps further) w v none (inr (net, has, inr (accepted, not_given_before f a b paths.input.now net first after keeps fails)))
 
 -- it leads to no run
-pub not_led : (f : Failure) (paths : NetworkPaths) (a b c : Option Files) (net cleared seen : Network) (given : Given) (first before after : DeviceLog) → HasNetwork a paths.network.now net → cleared
-    ≡ net
-    → seen ≡ cleared → (paths.unchecked ≡ false → IsAcceptedNetwork net) → KeepsFiles a b → KeepsFiles b c → before ≡ first → after ≡ before → (w v : Option (List ℕ)) → Keeps w v
-    → HasGiven b paths.input.now (names_of seen.layout.switches) given → FailsToLeadGiven f cleared (given_up cleared.layout given) → FailsToRunNetwork f paths (world w a first) (world v c after)
-not_led f paths a b c net cleared seen given first before after has same met accepted keeps further log last w v none got h =
+pub not_led : (form : Form) (f : Failure) (paths : NetworkPaths) (a b c : Option Files) (net cleared seen : Network) (given : Given) (first before after : DeviceLog)
+    → HasNetwork a paths.network.now net → cleared ≡ net → seen ≡ cleared → (paths.unchecked ≡ false → IsAcceptedNetwork net) → KeepsFiles a b → KeepsFiles b c → before ≡ first → after ≡ before
+    → (w v : Option (List ℕ)) → Keeps w v → HasGiven b paths.input.now (names_of seen.layout.switches) given → FailsToLeadGiven f cleared (given_up cleared.layout given)
+    → FailsToRunNetwork f form paths (world w a first) (world v c after)
+not_led form f paths a b c net cleared seen given first before after has same met accepted keeps further log last w v none got h =
     let here = subst (λ (n : Network). HasGiven b paths.input.now (names_of n.layout.switches) given) (met ∙ same) got in
     let fails = subst (λ (n : Network). FailsToLeadGiven f n (given_up n.layout given)) same h in
-    no_run f paths a c first after (KeepsFiles-trans a b c keeps further) w v none
+    no_run form f paths a c first after (KeepsFiles-trans a b c keeps further) w v none
     (inr (net, has, inr (accepted, led_to_none f a paths.input.now net given first after (has_given_before a b paths.input.now (names_of net.layout.switches) given keeps here) (last ∙ log) fails)))
 
 -- ---- what is put of a run
@@ -311,21 +313,21 @@ module _ (paths : NetworkPaths) (net : Network) (left : List Results) (names all
   ends_network name e = (net, left, leads, rw (named, reported) at (EndsAt-before name names all a b c first before after keeps same e))
 
   -- not all captures were put
-  pub not_put_network : (f : Failure) (w v : Option (List ℕ)) → Keeps w v → FailsToPut f names all b c before after → FailsToRunNetwork f paths (world w a first) (world v c after)
-  not_put_network (failure.Put name) w v none h = (ends_network (string_bytes name) h, none)
-  not_put_network failure.Memory w v none (inl kept) = (inl (KeepsFiles-trans a b c keeps kept), none)
-  not_put_network failure.Memory w v none (inr h) = (inr (h.0, stops_network h.0 h.1), none)
-  not_put_network failure.Found w v none h = absurd h
-  not_put_network failure.Usage w v none h = absurd h
-  not_put_network (failure.Table r) w v none h = absurd h
-  not_put_network (failure.Load r) w v none h = absurd h
-  not_put_network (failure.Capture r) w v none h = absurd h
-  not_put_network (failure.PortCapture p r) w v none h = absurd h
-  not_put_network (failure.OutputCapture p r) w v none h = absurd h
-  not_put_network (failure.Network r) w v none h = absurd h
-  not_put_network (failure.Get s) w v none h = absurd h
-  not_put_network failure.Read w v none h = absurd h
-  not_put_network failure.Write w v none h = absurd h
+  pub not_put_network : (form : Form) (f : Failure) (w v : Option (List ℕ)) → Keeps w v → FailsToPut f names all b c before after → FailsToRunNetwork f form paths (world w a first) (world v c after)
+  not_put_network form (failure.Put name) w v none h = (ends_network (string_bytes name) h, none)
+  not_put_network form failure.Memory w v none (inl kept) = (inl (KeepsFiles-trans a b c keeps kept), none)
+  not_put_network form failure.Memory w v none (inr h) = (inr (h.0, stops_network h.0 h.1), none)
+  not_put_network form failure.Found w v none h = absurd h
+  not_put_network form failure.Usage w v none h = absurd h
+  not_put_network form (failure.Table r) w v none h = absurd h
+  not_put_network form (failure.Load r) w v none h = absurd h
+  not_put_network form (failure.Capture r) w v none h = absurd h
+  not_put_network form (failure.PortCapture p r) w v none h = absurd h
+  not_put_network form (failure.OutputCapture p r) w v none h = absurd h
+  not_put_network form (failure.Network r) w v none h = absurd h
+  not_put_network form (failure.Get s) w v none h = absurd h
+  not_put_network form failure.Read w v none h = absurd h
+  not_put_network form failure.Write w v none h = absurd h
 
   -- all were
   pub puts_network : PutsFiles b c names all → after ≡ settled_after (length names) before → (w v : Option (List ℕ)) → PutsNetwork paths (world w a first) (world v c after) net left

@@ -7,6 +7,10 @@ use Rattle.afdx_table.specs.Content.{Content}
 use Rattle.afdx_load.specs.Load.{Load, load_of}
 use Rattle.afdx_load.specs.Bounds.{backlog, byte_time, high_bound, low_bound}
 use Rattle.afdx_wiring.specs.Lines.{as_line}
+use Rattle.afdx_csv.specs.declared.form.Form.{Form}
+use Rattle.afdx_csv.specs.declared.form.Form.TheVariants.{Lines, Csv}
+use Rattle.afdx_csv.specs.Csv.{heading}
+use Rattle.afdx_rows.specs.Loads.{check_columns, check_row}
 
 -- the least buffer of a port, in bytes, that holds what may wait and be on the line at once
 abbrev pub IsLeastBuffer : PortRow → Load → ℕ → Type 0
@@ -23,10 +27,15 @@ load_text row load least =
     codes "port " ++ decimal row.id ++ codes " rate " ++ decimal load.rate ++ codes " buffer " ++ decimal least
     ++ codes " high " ++ bound_text (high_bound load) ++ codes " low " ++ bound_text (low_bound load)
 
+-- what is written of a port
+abbrev pub check_in : Form → PortRow → Load → ℕ → List ℕ
+check_in Lines row load least = as_line (load_text row load least)
+check_in Csv row load least = check_row row load least
+
 -- the line of a port; a port without links has none
-abbrev pub IsLineOf : PortRow → Load → List ℕ → Type 0
-IsLineOf row load line =
-    (0 < load.highs + load.lows → (least : ℕ) × IsLeastBuffer row load least × (line ≡ as_line (load_text row load least)))
+abbrev pub IsLineOf : Form → PortRow → Load → List ℕ → Type 0
+IsLineOf form row load line =
+    (0 < load.highs + load.lows → (least : ℕ) × IsLeastBuffer row load least × (line ≡ check_in form row load least))
     × ((0 < load.highs + load.lows → ⊥) → line ≡ [])
 
 -- the text has what each of these ports has, in their order
@@ -35,9 +44,14 @@ AreTextsOf Is [] text = text ≡ []
 AreTextsOf Is (row ∷ rows) text = (line : List ℕ) × (rest : List ℕ) × Is row line × AreTextsOf Is rows rest × (text ≡ line ++ rest)
 
 -- the lines of these ports, in their order
-abbrev pub AreLinesOf : ℕ → List Link → List PortRow → List ℕ → Type 0
-AreLinesOf latency links = AreTextsOf (λ row line. IsLineOf row (load_of latency row.speed row.id links) line)
+abbrev pub AreLinesOf : Form → ℕ → List Link → List PortRow → List ℕ → Type 0
+AreLinesOf form latency links = AreTextsOf (λ row line. IsLineOf form row (load_of latency row.speed row.id links) line)
 
--- the lines of a table's ports by rising number, and that it is accepted
-abbrev pub IsCheckOf : Content → List ℕ → Type 0
-IsCheckOf t text = (lines : List ℕ) × AreLinesOf t.latency t.links t.ports lines × (text ≡ lines ++ as_line (codes "accepted"))
+-- these, and that the table is accepted; or a heading, and these
+abbrev pub check_text : Form → List ℕ → List ℕ
+check_text Lines lines = lines ++ as_line (codes "accepted")
+check_text Csv lines = heading check_columns ++ lines
+
+-- those of a table's ports by rising number
+abbrev pub IsCheckOf : Form → Content → List ℕ → Type 0
+IsCheckOf form t text = (lines : List ℕ) × AreLinesOf form t.latency t.links t.ports lines × (text ≡ check_text form lines)

@@ -1,17 +1,24 @@
 -- What is reported of the run of a folder's captures, of which nothing is put (profile).
-use Rattle.std.specs.Prelude.{◌≡◌, ℕ, false, not, List, ◌++◌, Option, Contains}
+use Rattle.std.specs.Prelude.{◌≡◌, ℕ, Bool, false, not, List, [], ◌++◌, Option, Contains}
 use Rattle.afdx_table.specs.declared.rows.PortRow.{PortRow}
 use Rattle.afdx_table.specs.Content.{Content}
-use Rattle.afdx_core.specs.State.{State}
+use Rattle.afdx_core.specs.State.{Run, State}
 use Rattle.afdx_count.specs.Tally.{Tally}
 use Rattle.afdx_measure.specs.Ports.{IsWithinTheLoad}
 use Rattle.afdx_measure.specs.Report.{report_of}
+use Rattle.afdx_csv.specs.declared.form.Form.{Form}
+use Rattle.afdx_csv.specs.declared.form.Form.TheVariants.{Lines, Csv}
+use Rattle.afdx_csv.specs.Csv.{heading}
+use Rattle.afdx_rows.specs.Counts.{counts_rows}
+use Rattle.afdx_rows.specs.Delays.{measure_columns, measures_rows}
+use Rattle.afdx_rows.specs.Spells.{survey_columns, survey_rows}
 use Rattle.afdx_measure.specs.Policing.{survey_of}
 use Rattle.afdx_session.specs.Texts.{Text}
 use Rattle.afdx_session.specs.Measured.{IsMeasuredRun}
 use Rattle.afdx_arguments.specs.declared.request.Inputs.{Inputs}
 use Rattle.afdx_folder.specs.Files.{Files}
-use Rattle.afdx_serve.specs.Runs.{HasPlan, HasCaptures, report_in}
+use Rattle.afdx_serve.specs.Runs.{HasPlan, HasCaptures}
+use Rattle.afdx_serve.specs.Verdicts.{counts_text}
 
 -- the files hold a table, accepted unless the run is unchecked, and captures of its ports, whose run came to these counts and to this
 -- finished switch
@@ -24,11 +31,21 @@ pub record IsMeasured (inputs : Inputs) (files : Option Files) (tally : Tally) (
   -- over an accepted table the bounds are kept: no delay is above its bound, and no buffer held more than the least that its load asks for
   pub within : inputs.unchecked ≡ false → (p : PortRow) → Contains table.ports p → IsWithinTheLoad done.run p
 
--- `measure` reports this; over a checked table it promises the bounds
-abbrev pub MeasuresTo : Inputs → Option Files → List ℕ → Type 0
-MeasuresTo inputs files text = (tally : Tally) × (done : State) × IsMeasured inputs files tally done × (text ≡ report_of (not inputs.unchecked) done.run)
+-- what is written of a finished run
+abbrev pub measures_text : Form → Bool → Run → List ℕ
+measures_text Lines promised r = report_of promised r
+measures_text Csv promised r = heading measure_columns ++ measures_rows measure_columns promised r
 
--- `survey` reports this: the report of `run`, and then what was measured
-abbrev pub SurveysTo : Inputs → Option Files → List ℕ → Type 0
-SurveysTo inputs files text =
-    (tally : Tally) × (done : State) × (is : IsMeasured inputs files tally done) × (text ≡ report_in is.run.whole ++ survey_of (not inputs.unchecked) done.run)
+-- `measure` reports this; over a checked table it promises the bounds
+abbrev pub MeasuresTo : Form → Inputs → Option Files → List ℕ → Type 0
+MeasuresTo form inputs files text = (tally : Tally) × (done : State) × IsMeasured inputs files tally done × (text ≡ measures_text form (not inputs.unchecked) done.run)
+
+-- what is written of it beside its counts: the report of `run`, and then what was measured
+abbrev pub survey_text : Form → Bool → Tally → Run → List ℕ
+survey_text Lines promised counts r = counts_text Lines counts ++ survey_of promised r
+survey_text Csv promised counts r = heading survey_columns ++ counts_rows survey_columns [] counts ++ survey_rows survey_columns promised r
+
+-- `survey` reports this
+abbrev pub SurveysTo : Form → Inputs → Option Files → List ℕ → Type 0
+SurveysTo form inputs files text =
+    (tally : Tally) × (done : State) × (is : IsMeasured inputs files tally done) × (text ≡ survey_text form (not inputs.unchecked) is.run.whole.counts done.run)

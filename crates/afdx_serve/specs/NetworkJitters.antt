@@ -17,7 +17,10 @@ use Rattle.afdx_wiring.specs.declared.fault.Short.{Short}
 use Rattle.afdx_wiring.specs.declared.fault.NetworkFault.{NetworkFault}
 use Rattle.afdx_wiring.specs.declared.fault.NetworkFault.TheVariants as fault
 use Rattle.afdx_wiring.specs.declared.jitters.RowNeed.{RowNeed}
-use Rattle.afdx_network_report.specs.Lines.{jitter_text}
+use Rattle.afdx_network_report.specs.Lines.{Names, jitter_text}
+use Rattle.afdx_network_report.specs.Rows.{needs_rows}
+use Rattle.afdx_csv.specs.declared.form.Form.{Form}
+use Rattle.afdx_csv.specs.declared.form.Form.TheVariants.{Lines, Csv}
 use Rattle.afdx_messages.specs.declared.failure.Failure.{Failure}
 use Rattle.afdx_folder.specs.Files.{Files}
 use Rattle.afdx_serve.specs.Networks.{names_of, HasNetwork, IsRefused}
@@ -47,10 +50,15 @@ fit_of net = do
 abbrev pub FailsToFit : Failure → Network → Type 0
 FailsToFit f net = (e : NetworkFault) × (e ≢ fault.Memory → fit_of net ≡ Err e) × IsRefused (names_of net.layout.switches) e f
 
+-- what is written of the jitters that rows need
+abbrev pub needs_text : Form → Names → List RowNeed → List ℕ
+needs_text Lines = jitter_text
+needs_text Csv = needs_rows
+
 -- the file's network fits, so that jitters are asked for: these are what its rows need, and the first that is past what a table can
 -- have; this text lists them
-pub record JittersAre (files : Option Files) (path : List ℕ) (net : Network) (rows : List RowNeed) (past : Option Short) (text : List ℕ) : Type 0 where
+pub record JittersAre (form : Form) (files : Option Files) (path : List ℕ) (net : Network) (rows : List RowNeed) (past : Option Short) (text : List ℕ) : Type 0 where
   pub has_network : HasNetwork files path net
   pub fits : fit_of net ≡ Ok tt
   pub needs : AreNeeds net rows past
-  pub reported : text ≡ jitter_text (names_of net.layout.switches) rows
+  pub reported : text ≡ needs_text form (names_of net.layout.switches) rows

@@ -12,6 +12,10 @@ use Rattle.afdx_network.specs.Way.{Stage, Leg, IsDelivered}
 use Rattle.afdx_network.specs.Ways.{IsWayIn}
 use Rattle.afdx_network.specs.declared.fault.NetworkRunFault.TheVariants as run
 use Rattle.afdx_network_report.specs.Lines.{Names, name_of, report_of}
+use Rattle.afdx_csv.specs.declared.form.Form.{Form}
+use Rattle.afdx_csv.specs.declared.form.Form.TheVariants.{Lines, Csv}
+use Rattle.afdx_csv.specs.Csv.{heading}
+use Rattle.afdx_rows.specs.Counts.{network_run_columns, counts_rows}
 use Rattle.afdx_arguments.specs.declared.request.NetworkPaths.{NetworkPaths}
 use Rattle.afdx_messages.specs.declared.network_failure.NetworkFailure.TheVariants as network
 use Rattle.afdx_messages.specs.declared.failure.Failure.{Failure}
@@ -37,10 +41,23 @@ bytes_at all = flat_map bytes_of_captures all
 abbrev pub captures_of : List Results → List (List Text)
 captures_of left = map (λ r. r.captures) left
 
--- the report of each switch, with its name before each line
+-- what is said of each switch, by its name
+abbrev pub of_switches : (List ℕ → Results → List ℕ) → Names → List Results → List ℕ
+of_switches said (name ∷ names) (r ∷ more) = said name r ++ of_switches said names more
+of_switches said _ _ = []
+
+-- its report, with its name before each line
 abbrev pub reports_of : Names → List Results → List ℕ
-reports_of (name ∷ names) (r ∷ more) = report_of name (report_in r) ++ reports_of names more
-reports_of _ _ = []
+reports_of = of_switches (λ name r. report_of name (report_in r))
+
+-- its rows
+abbrev pub switch_rows : Names → List Results → List ℕ
+switch_rows = of_switches (λ name r. counts_rows network_run_columns name r.counts)
+
+-- what is written of all switches
+abbrev pub runs_text : Form → Names → List Results → List ℕ
+runs_text Lines names left = reports_of names left
+runs_text Csv names left = heading network_run_columns ++ switch_rows names left
 
 -- ---- what the files lead to
 

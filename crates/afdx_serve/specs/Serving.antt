@@ -20,7 +20,8 @@ use Rattle.afdx_recordings.specs.declared.recordings.Recordings.{Recordings}
 use Rattle.afdx_compare.specs.Comparison.{Comparison, conform}
 use Rattle.afdx_compare.specs.Report.{report_of}
 use Rattle.afdx_serve.specs.Checks.{IsCheckOf}
-use Rattle.afdx_serve.specs.Sizes.{AreSizesIn, AreSizesFrom}
+use Rattle.afdx_csv.specs.declared.form.Form.{Form}
+use Rattle.afdx_serve.specs.Sizes.{AreSizesIn, AreSizesOfAll}
 use Rattle.afdx_wiring.specs.Net.{Network}
 use Rattle.afdx_wiring.specs.Rules.{IsAcceptedNetwork}
 use Rattle.afdx_wiring.specs.declared.fault.Short.{Short}
@@ -33,7 +34,7 @@ use Rattle.afdx_arguments.specs.declared.request.NetworkRequest.TheVariants as a
 use Rattle.afdx_serve.specs.Networks.{names_of, HasNetwork, AreRefusedRows, FailsToGetNetwork, FailsToAcceptNetwork}
 use Rattle.afdx_serve.specs.NetworkChecks.{IsNetworkCheck}
 use Rattle.afdx_serve.specs.NetworkJitters.{JittersAre, FailsToFit}
-use Rattle.afdx_serve.specs.NetworkRuns.{LeadsToNetwork, FailsToPutNetwork, names_at, bytes_at, captures_of, reports_of}
+use Rattle.afdx_serve.specs.NetworkRuns.{LeadsToNetwork, FailsToPutNetwork, names_at, bytes_at, captures_of, runs_text}
 use Rattle.afdx_folder.specs.Files.{Files, DeviceLog, KeepsFiles, PutsFiles, one_more, settled_after}
 use Rattle.afdx_session.specs.Outcome.{Results}
 use Rattle.afdx_folder.specs.Input.{AreGiven}
@@ -90,79 +91,79 @@ FailsToAccept failure.Memory t = Unit {0}
 FailsToAccept _ t = ⊥
 
 -- the file's table is accepted, and its lines were written
-abbrev pub Checks : List ℕ → World → World → Type 0
-Checks path old new =
-    (t : Content) × (text : List ℕ) × HasTable old.files path t × IsAccepted t × IsCheckOf t text × Appends old.written new.written text × KeepsFolder old new
+abbrev pub Checks : Form → List ℕ → World → World → Type 0
+Checks form path old new =
+    (t : Content) × (text : List ℕ) × HasTable old.files path t × IsAccepted t × IsCheckOf form t text × Appends old.written new.written text × KeepsFolder old new
 
 -- why they were not, and what was written
-abbrev pub FailsToCheck : Failure → List ℕ → World → World → Type 0
-FailsToCheck (failure.Get name) path old new =
+abbrev pub FailsToCheck : Failure → Form → List ℕ → World → World → Type 0
+FailsToCheck (failure.Get name) form path old new =
     (string_bytes name ≡ path) × (new.failed ≡ one_more path old.failed) × KeepsFiles old.files new.files × WritesNothing old new
-FailsToCheck (failure.Table refusal) path old new = HasNoTable old.files path refusal × KeepsFolder old new × WritesNothing old new
-FailsToCheck (failure.Load fault) path old new =
+FailsToCheck (failure.Table refusal) form path old new = HasNoTable old.files path refusal × KeepsFolder old new × WritesNothing old new
+FailsToCheck (failure.Load fault) form path old new =
     (t : Content) × HasTable old.files path t × (first_fault t.latency t.links t.ports ≡ Some fault) × KeepsFolder old new × WritesNothing old new
-FailsToCheck failure.Write path old new =
-    (t : Content) × (text : List ℕ) × HasTable old.files path t × IsAccepted t × IsCheckOf t text × AppendsPrefix old.written new.written text × KeepsFolder old new
-FailsToCheck failure.Memory path old new = KeepsFiles old.files new.files × WritesNothing old new
-FailsToCheck _ path old new = ⊥
+FailsToCheck failure.Write form path old new =
+    (t : Content) × (text : List ℕ) × HasTable old.files path t × IsAccepted t × IsCheckOf form t text × AppendsPrefix old.written new.written text × KeepsFolder old new
+FailsToCheck failure.Memory form path old new = KeepsFiles old.files new.files × WritesNothing old new
+FailsToCheck _ form path old new = ⊥
 
 -- ---- the size of a table's ports
 
 -- the lines of the file's table were written, whether it fits or not
-abbrev pub Sizes : List ℕ → World → World → Type 0
-Sizes path old new =
-    (t : Content) × (text : List ℕ) × HasTable old.files path t × AreSizesIn t text × Appends old.written new.written text × KeepsFolder old new
+abbrev pub Sizes : Form → List ℕ → World → World → Type 0
+Sizes form path old new =
+    (t : Content) × (text : List ℕ) × HasTable old.files path t × AreSizesIn form t text × Appends old.written new.written text × KeepsFolder old new
 
 -- why they were not, and what was written
-abbrev pub FailsToSize : Failure → List ℕ → World → World → Type 0
-FailsToSize (failure.Get name) path old new =
+abbrev pub FailsToSize : Failure → Form → List ℕ → World → World → Type 0
+FailsToSize (failure.Get name) form path old new =
     (string_bytes name ≡ path) × (new.failed ≡ one_more path old.failed) × KeepsFiles old.files new.files × WritesNothing old new
-FailsToSize (failure.Table refusal) path old new = HasNoTable old.files path refusal × KeepsFolder old new × WritesNothing old new
-FailsToSize failure.Write path old new =
-    (t : Content) × (text : List ℕ) × HasTable old.files path t × AreSizesIn t text × AppendsPrefix old.written new.written text × KeepsFolder old new
-FailsToSize failure.Memory path old new = KeepsFiles old.files new.files × WritesNothing old new
-FailsToSize _ path old new = ⊥
+FailsToSize (failure.Table refusal) form path old new = HasNoTable old.files path refusal × KeepsFolder old new × WritesNothing old new
+FailsToSize failure.Write form path old new =
+    (t : Content) × (text : List ℕ) × HasTable old.files path t × AreSizesIn form t text × AppendsPrefix old.written new.written text × KeepsFolder old new
+FailsToSize failure.Memory form path old new = KeepsFiles old.files new.files × WritesNothing old new
+FailsToSize _ form path old new = ⊥
 
 -- ---- networks
 
 -- the file's network is accepted, and its lines were written
-abbrev pub ChecksNetwork : List ℕ → World → World → Type 0
-ChecksNetwork path old new =
-    (net : Network) × (text : List ℕ) × HasNetwork old.files path net × IsAcceptedNetwork net × IsNetworkCheck net text × Appends old.written new.written text
+abbrev pub ChecksNetwork : Form → List ℕ → World → World → Type 0
+ChecksNetwork form path old new =
+    (net : Network) × (text : List ℕ) × HasNetwork old.files path net × IsAcceptedNetwork net × IsNetworkCheck form net text × Appends old.written new.written text
     × KeepsFolder old new
 
 -- why they were not, and what was written
-abbrev pub FailsToCheckNetwork : Failure → List ℕ → World → World → Type 0
-FailsToCheckNetwork failure.Write path old new =
-    (net : Network) × (text : List ℕ) × HasNetwork old.files path net × IsAcceptedNetwork net × IsNetworkCheck net text × AppendsPrefix old.written new.written text
+abbrev pub FailsToCheckNetwork : Failure → Form → List ℕ → World → World → Type 0
+FailsToCheckNetwork failure.Write form path old new =
+    (net : Network) × (text : List ℕ) × HasNetwork old.files path net × IsAcceptedNetwork net × IsNetworkCheck form net text × AppendsPrefix old.written new.written text
     × KeepsFolder old new
-FailsToCheckNetwork failure.Memory path old new = KeepsFiles old.files new.files × WritesNothing old new
-FailsToCheckNetwork f path old new =
+FailsToCheckNetwork failure.Memory form path old new = KeepsFiles old.files new.files × WritesNothing old new
+FailsToCheckNetwork f form path old new =
     (FailsToGetNetwork f old.files path old.failed new.failed
     ⊎ ((net : Network) × HasNetwork old.files path net × FailsToAcceptNetwork f net × (new.failed ≡ old.failed)))
     × KeepsFiles old.files new.files × WritesNothing old new
 
 -- the lines of the tables of the file's network were written, each with the name of its switch, whether they fit or not
-abbrev pub SizesNetwork : List ℕ → World → World → Type 0
-SizesNetwork path old new =
-    (net : Network) × (text : List ℕ) × HasNetwork old.files path net × AreSizesFrom 0 (names_of net.layout.switches) net.tables text
+abbrev pub SizesNetwork : Form → List ℕ → World → World → Type 0
+SizesNetwork form path old new =
+    (net : Network) × (text : List ℕ) × HasNetwork old.files path net × AreSizesOfAll form (names_of net.layout.switches) net.tables text
     × Appends old.written new.written text × KeepsFolder old new
 
 -- why they were not, and what was written
-abbrev pub FailsToSizeNetwork : Failure → List ℕ → World → World → Type 0
-FailsToSizeNetwork failure.Write path old new =
-    (net : Network) × (text : List ℕ) × HasNetwork old.files path net × AreSizesFrom 0 (names_of net.layout.switches) net.tables text
+abbrev pub FailsToSizeNetwork : Failure → Form → List ℕ → World → World → Type 0
+FailsToSizeNetwork failure.Write form path old new =
+    (net : Network) × (text : List ℕ) × HasNetwork old.files path net × AreSizesOfAll form (names_of net.layout.switches) net.tables text
     × AppendsPrefix old.written new.written text × KeepsFolder old new
-FailsToSizeNetwork failure.Memory path old new = KeepsFiles old.files new.files × WritesNothing old new
-FailsToSizeNetwork f path old new = FailsToGetNetwork f old.files path old.failed new.failed × KeepsFiles old.files new.files × WritesNothing old new
+FailsToSizeNetwork failure.Memory form path old new = KeepsFiles old.files new.files × WritesNothing old new
+FailsToSizeNetwork f form path old new = FailsToGetNetwork f old.files path old.failed new.failed × KeepsFiles old.files new.files × WritesNothing old new
 
 -- the jitters that the rows of the file's network need were written; this is the first past what a table can have
-abbrev pub SaysJitters : List ℕ → Network → List RowNeed → Option Short → World → World → Type 0
-SaysJitters path net rows past old new = (text : List ℕ) × JittersAre old.files path net rows past text × Appends old.written new.written text × KeepsFolder old new
+abbrev pub SaysJitters : Form → List ℕ → Network → List RowNeed → Option Short → World → World → Type 0
+SaysJitters form path net rows past old new = (text : List ℕ) × JittersAre form old.files path net rows past text × Appends old.written new.written text × KeepsFolder old new
 
 -- they were, and none is past that; so the check of the network accepts these jitters
-abbrev pub GivesJitters : List ℕ → World → World → Type 0
-GivesJitters path old new = (net : Network) × (rows : List RowNeed) × SaysJitters path net rows None old new
+abbrev pub GivesJitters : Form → List ℕ → World → World → Type 0
+GivesJitters form path old new = (net : Network) × (rows : List RowNeed) × SaysJitters form path net rows None old new
 
 -- why they were not, before a line was written
 abbrev pub FailsBeforeJitters : Failure → List ℕ → World → World → Type 0
@@ -172,19 +173,19 @@ FailsBeforeJitters f path old new =
     × KeepsFiles old.files new.files × WritesNothing old new
 
 -- all were, and rows need more than a table can have; this is the first of those that are refused
-abbrev pub FailsPastJitters : Failure → List ℕ → World → World → Type 0
-FailsPastJitters f path old new =
-    (net : Network) × (rows : List RowNeed) × (short : Short) × SaysJitters path net rows (Some short) old new
+abbrev pub FailsPastJitters : Failure → Form → List ℕ → World → World → Type 0
+FailsPastJitters f form path old new =
+    (net : Network) × (rows : List RowNeed) × (short : Short) × SaysJitters form path net rows (Some short) old new
     × AreRefusedRows (names_of net.layout.switches) jitter.NoJitter (all_past rows) f
 
 -- why a network has no such jitters, and what was written
-abbrev pub FailsToGiveJitters : Failure → List ℕ → World → World → Type 0
-FailsToGiveJitters failure.Write path old new =
-    (net : Network) × (rows : List RowNeed) × (past : Option Short) × (text : List ℕ) × JittersAre old.files path net rows past text × AppendsPrefix old.written new.written text
+abbrev pub FailsToGiveJitters : Failure → Form → List ℕ → World → World → Type 0
+FailsToGiveJitters failure.Write form path old new =
+    (net : Network) × (rows : List RowNeed) × (past : Option Short) × (text : List ℕ) × JittersAre form old.files path net rows past text × AppendsPrefix old.written new.written text
     × KeepsFolder old new
-FailsToGiveJitters failure.Memory path old new = (KeepsFiles old.files new.files × WritesNothing old new) ⊎ FailsPastJitters failure.Memory path old new
-FailsToGiveJitters (failure.Network e) path old new = FailsBeforeJitters (failure.Network e) path old new ⊎ FailsPastJitters (failure.Network e) path old new
-FailsToGiveJitters f path old new = FailsBeforeJitters f path old new
+FailsToGiveJitters failure.Memory form path old new = (KeepsFiles old.files new.files × WritesNothing old new) ⊎ FailsPastJitters failure.Memory form path old new
+FailsToGiveJitters (failure.Network e) form path old new = FailsBeforeJitters (failure.Network e) path old new ⊎ FailsPastJitters (failure.Network e) form path old new
+FailsToGiveJitters f form path old new = FailsBeforeJitters f path old new
 
 -- the files lead to a run of a network, of which the captures were put and the reports written
 abbrev pub PutsNetwork : NetworkPaths → World → World → Network → List Results → Type 0
@@ -193,29 +194,29 @@ PutsNetwork paths old new net left =
     × PutsFiles old.files new.files (names_at paths.output.now (names_of net.layout.switches) (captures_of left)) (bytes_at (captures_of left))
     × (new.failed ≡ settled_after (length (names_at paths.output.now (names_of net.layout.switches) (captures_of left))) old.failed)
 
-abbrev pub RunsNetwork : NetworkPaths → World → World → Type 0
-RunsNetwork paths old new =
-    (net : Network) × (left : List Results) × PutsNetwork paths old new net left × Appends old.written new.written (reports_of (names_of net.layout.switches) left)
+abbrev pub RunsNetwork : Form → NetworkPaths → World → World → Type 0
+RunsNetwork form paths old new =
+    (net : Network) × (left : List Results) × PutsNetwork paths old new net left × Appends old.written new.written (runs_text form (names_of net.layout.switches) left)
 
 -- why they were not, and what was done
-abbrev pub FailsToRunNetwork : Failure → NetworkPaths → World → World → Type 0
-FailsToRunNetwork failure.Write paths old new =
-    (net : Network) × (left : List Results) × PutsNetwork paths old new net left × AppendsPrefix old.written new.written (reports_of (names_of net.layout.switches) left)
-FailsToRunNetwork f paths old new = FailsToPutNetwork f paths old.files new.files old.failed new.failed × WritesNothing old new
+abbrev pub FailsToRunNetwork : Failure → Form → NetworkPaths → World → World → Type 0
+FailsToRunNetwork failure.Write form paths old new =
+    (net : Network) × (left : List Results) × PutsNetwork paths old new net left × AppendsPrefix old.written new.written (runs_text form (names_of net.layout.switches) left)
+FailsToRunNetwork f form paths old new = FailsToPutNetwork f paths old.files new.files old.failed new.failed × WritesNothing old new
 
 -- what a request of networks asks for was done
 abbrev pub PerformsNetwork : NetworkRequest → World → World → Type 0
-PerformsNetwork (ask.Check path) old new = ChecksNetwork path.now old new
-PerformsNetwork (ask.Size path) old new = SizesNetwork path.now old new
-PerformsNetwork (ask.Jitter path) old new = GivesJitters path.now old new
-PerformsNetwork (ask.Run paths) old new = RunsNetwork paths old new
+PerformsNetwork (ask.Check path form) old new = ChecksNetwork form path.now old new
+PerformsNetwork (ask.Size path form) old new = SizesNetwork form path.now old new
+PerformsNetwork (ask.Jitter path form) old new = GivesJitters form path.now old new
+PerformsNetwork (ask.Run paths form) old new = RunsNetwork form paths old new
 
 -- why it was not, and what was done
 abbrev pub FailsToPerformNetwork : Failure → NetworkRequest → World → World → Type 0
-FailsToPerformNetwork f (ask.Check path) old new = FailsToCheckNetwork f path.now old new
-FailsToPerformNetwork f (ask.Size path) old new = FailsToSizeNetwork f path.now old new
-FailsToPerformNetwork f (ask.Jitter path) old new = FailsToGiveJitters f path.now old new
-FailsToPerformNetwork f (ask.Run paths) old new = FailsToRunNetwork f paths old new
+FailsToPerformNetwork f (ask.Check path form) old new = FailsToCheckNetwork f form path.now old new
+FailsToPerformNetwork f (ask.Size path form) old new = FailsToSizeNetwork f form path.now old new
+FailsToPerformNetwork f (ask.Jitter path form) old new = FailsToGiveJitters f form path.now old new
+FailsToPerformNetwork f (ask.Run paths form) old new = FailsToRunNetwork f form paths old new
 
 -- ---- runs
 
@@ -228,7 +229,7 @@ PutsResults paths old new results =
 -- and their report was written; there is one of what the run is to fail on, or not
 abbrev pub RunsTo : Bool → Paths → RunOptions → World → World → Type 0
 RunsTo found paths options old new =
-    (results : Results) × PutsResults paths old new results × Appends old.written new.written (text_of options.verdict results.counts)
+    (results : Results) × PutsResults paths old new results × Appends old.written new.written (text_of options results.counts)
     × (is_found options.fail_on (verdict_of results.counts) ≡ found)
 
 -- all was done, and there is none
@@ -239,27 +240,27 @@ Runs paths options old new = RunsTo false paths options old new
 abbrev pub FailsToRunAll : Failure → Paths → RunOptions → World → World → Type 0
 FailsToRunAll failure.Found paths options old new = RunsTo true paths options old new
 FailsToRunAll failure.Write paths options old new =
-    (results : Results) × PutsResults paths old new results × AppendsPrefix old.written new.written (text_of options.verdict results.counts)
+    (results : Results) × PutsResults paths old new results × AppendsPrefix old.written new.written (text_of options results.counts)
 FailsToRunAll f paths options old new = FailsToRun f paths old.files new.files old.failed new.failed × WritesNothing old new
 
 -- ---- what is reported of a run
 
 -- the files lead to this text, which was written; nothing was put
-abbrev pub Measures : Inputs → World → World → Type 0
-Measures inputs old new = (text : List ℕ) × MeasuresTo inputs old.files text × Appends old.written new.written text × KeepsFolder old new
+abbrev pub Measures : Form → Inputs → World → World → Type 0
+Measures form inputs old new = (text : List ℕ) × MeasuresTo form inputs old.files text × Appends old.written new.written text × KeepsFolder old new
 
 -- why it was not, and what was written
-abbrev pub FailsToMeasure : Failure → Inputs → World → World → Type 0
-FailsToMeasure failure.Write inputs old new = (text : List ℕ) × MeasuresTo inputs old.files text × AppendsPrefix old.written new.written text × KeepsFolder old new
-FailsToMeasure f inputs old new = FailsToGather f inputs old.files old.failed new.failed × KeepsFiles old.files new.files × WritesNothing old new
+abbrev pub FailsToMeasure : Failure → Form → Inputs → World → World → Type 0
+FailsToMeasure failure.Write form inputs old new = (text : List ℕ) × MeasuresTo form inputs old.files text × AppendsPrefix old.written new.written text × KeepsFolder old new
+FailsToMeasure f form inputs old new = FailsToGather f inputs old.files old.failed new.failed × KeepsFiles old.files new.files × WritesNothing old new
 
 -- the same of a survey
-abbrev pub Surveys : Inputs → World → World → Type 0
-Surveys inputs old new = (text : List ℕ) × SurveysTo inputs old.files text × Appends old.written new.written text × KeepsFolder old new
+abbrev pub Surveys : Form → Inputs → World → World → Type 0
+Surveys form inputs old new = (text : List ℕ) × SurveysTo form inputs old.files text × Appends old.written new.written text × KeepsFolder old new
 
-abbrev pub FailsToSurvey : Failure → Inputs → World → World → Type 0
-FailsToSurvey failure.Write inputs old new = (text : List ℕ) × SurveysTo inputs old.files text × AppendsPrefix old.written new.written text × KeepsFolder old new
-FailsToSurvey f inputs old new = FailsToGather f inputs old.files old.failed new.failed × KeepsFiles old.files new.files × WritesNothing old new
+abbrev pub FailsToSurvey : Failure → Form → Inputs → World → World → Type 0
+FailsToSurvey failure.Write form inputs old new = (text : List ℕ) × SurveysTo form inputs old.files text × AppendsPrefix old.written new.written text × KeepsFolder old new
+FailsToSurvey f form inputs old new = FailsToGather f inputs old.files old.failed new.failed × KeepsFiles old.files new.files × WritesNothing old new
 
 -- what is reported of each frame and copy was put; nothing was written
 abbrev pub Traces : Paths → TraceOptions → World → World → Type 0
@@ -272,22 +273,22 @@ FailsToTraceAll f paths options old new = FailsToTrace f paths options old.files
 -- ---- recordings
 
 -- what was found out of the files was put, where a folder is named for it, and reported; nothing speaks against the switch, or something
-abbrev pub ComparesTo : Bool → Compare → Recordings → World → World → Type 0
-ComparesTo conforms c r old new =
+abbrev pub ComparesTo : Form → Bool → Compare → Recordings → World → World → Type 0
+ComparesTo form conforms c r old new =
     (from until : ℕ) × (found : Comparison) × PutsRows c r old.files new.files old.failed new.failed from until found
-    × Appends old.written new.written (report_of r from until found) × (conform found ≡ conforms)
+    × Appends old.written new.written (report_of form r from until found) × (conform found ≡ conforms)
 
 -- all was done, and nothing does
-abbrev pub Compares : Compare → Recordings → World → World → Type 0
-Compares c r old new = ComparesTo true c r old new
+abbrev pub Compares : Form → Compare → Recordings → World → World → Type 0
+Compares form c r old new = ComparesTo form true c r old new
 
 -- something does, or why not all was done, and what was done
-abbrev pub FailsToCompareAll : Failure → Compare → Recordings → World → World → Type 0
-FailsToCompareAll failure.Found c r old new = ComparesTo false c r old new
-FailsToCompareAll failure.Write c r old new =
+abbrev pub FailsToCompareAll : Failure → Form → Compare → Recordings → World → World → Type 0
+FailsToCompareAll failure.Found form c r old new = ComparesTo form false c r old new
+FailsToCompareAll failure.Write form c r old new =
     (from until : ℕ) × (found : Comparison) × PutsRows c r old.files new.files old.failed new.failed from until found
-    × AppendsPrefix old.written new.written (report_of r from until found)
-FailsToCompareAll f c r old new = FailsToCompare f c r old.files new.files old.failed new.failed × WritesNothing old new
+    × AppendsPrefix old.written new.written (report_of form r from until found)
+FailsToCompareAll f form c r old new = FailsToCompare f c r old.files new.files old.failed new.failed × WritesNothing old new
 
 -- ---- what MESSAGES says of a code
 
@@ -305,26 +306,26 @@ FailsToWriteEntry _ entry old new = ⊥
 -- what a request asks for was done, and nothing else
 abbrev pub Performs : Request → Option (List ℕ) → World → World → Type 0
 Performs (request.Alone link) input old new = Answers link input old.written new.written × KeepsFolder old new
-Performs (request.Check path) input old new = Checks path.now old new
-Performs (request.Size path) input old new = Sizes path.now old new
+Performs (request.Check path form) input old new = Checks form path.now old new
+Performs (request.Size path form) input old new = Sizes form path.now old new
 Performs (request.Run paths options) input old new = Runs paths options old new
-Performs (request.Measure inputs) input old new = Measures inputs old new
-Performs (request.Survey inputs) input old new = Surveys inputs old new
+Performs (request.Measure inputs form) input old new = Measures form inputs old new
+Performs (request.Survey inputs form) input old new = Surveys form inputs old new
 Performs (request.Trace paths options) input old new = Traces paths options old new
-Performs (request.Compare c r) input old new = Compares c r old new
+Performs (request.Compare c r form) input old new = Compares form c r old new
 Performs (request.Explain entry) input old new = WritesEntry entry.now old.written new.written × KeepsFolder old new
 Performs (request.Network r) input old new = PerformsNetwork r old new
 
 -- why it was not done, and what was done
 abbrev pub FailsToPerform : Failure → Request → Option (List ℕ) → World → World → Type 0
 FailsToPerform f (request.Alone link) input old new = FailsToAnswer f link input old.written new.written × KeepsFolder old new
-FailsToPerform f (request.Check path) input old new = FailsToCheck f path.now old new
-FailsToPerform f (request.Size path) input old new = FailsToSize f path.now old new
+FailsToPerform f (request.Check path form) input old new = FailsToCheck f form path.now old new
+FailsToPerform f (request.Size path form) input old new = FailsToSize f form path.now old new
 FailsToPerform f (request.Run paths options) input old new = FailsToRunAll f paths options old new
-FailsToPerform f (request.Measure inputs) input old new = FailsToMeasure f inputs old new
-FailsToPerform f (request.Survey inputs) input old new = FailsToSurvey f inputs old new
+FailsToPerform f (request.Measure inputs form) input old new = FailsToMeasure f form inputs old new
+FailsToPerform f (request.Survey inputs form) input old new = FailsToSurvey f form inputs old new
 FailsToPerform f (request.Trace paths options) input old new = FailsToTraceAll f paths options old new
-FailsToPerform f (request.Compare c r) input old new = FailsToCompareAll f c r old new
+FailsToPerform f (request.Compare c r form) input old new = FailsToCompareAll f form c r old new
 FailsToPerform f (request.Explain entry) input old new = FailsToWriteEntry f entry.now old.written new.written × KeepsFolder old new
 FailsToPerform f (request.Network r) input old new = FailsToPerformNetwork f r old new
 

@@ -1,5 +1,5 @@
 -- What is reported of the size of a table's ports: what each needs and has, and the rules that it breaks (profile).
-use Rattle.std.specs.Prelude.{◌≡◌, ℕ, codes, nat_lt, ◌<◌, ◌+◌, List, [], ◌∷◌, ◌++◌, Option, Some, None, if◌then◌else◌}
+use Rattle.std.specs.Prelude.{◌≡◌, ℕ, codes, nat_lt, ◌<◌, ◌+◌, List, [], ◌∷◌, ◌++◌, Option, Some, None, unwrap_or, if◌then◌else◌}
 use Rattle.std.specs.Fmt.{decimal}
 use Rattle.afdx_table.specs.declared.rows.PortRow.{PortRow}
 use Rattle.afdx_table.specs.Link.{Link}
@@ -11,6 +11,10 @@ use Rattle.afdx_load.specs.Fits.{broken_rules}
 use Rattle.afdx_load.specs.declared.fault.Rule.{Rule}
 use Rattle.afdx_load.specs.declared.fault.Rule.TheVariants.{Rate, Buffer, HighDelay, LowDelay}
 use Rattle.afdx_wiring.specs.Lines.{as_line}
+use Rattle.afdx_csv.specs.declared.form.Form.{Form}
+use Rattle.afdx_csv.specs.declared.form.Form.TheVariants.{Lines, Csv}
+use Rattle.afdx_csv.specs.Csv.{heading}
+use Rattle.afdx_rows.specs.Loads.{size_columns, network_size_columns, size_row}
 use Rattle.afdx_network_report.specs.Lines.{Names, name_of}
 use Rattle.afdx_serve.specs.Checks.{IsLeastBuffer, AreTextsOf}
 
@@ -56,32 +60,52 @@ delays_text row load = codes " high " ++ delay_text load.highs (high_bound load)
 abbrev pub size_text : PortRow → Load → ℕ → List ℕ
 size_text row load least = amounts_text row load least ++ delays_text row load ++ verdict_text (broken_rules row load)
 
--- the line of a port, with this at its end; a port without links has none
-abbrev pub IsSizeOf : List ℕ → PortRow → Load → List ℕ → Type 0
-IsSizeOf more row load line =
-    (0 < load.highs + load.lows → (least : ℕ) × IsLeastBuffer row load least × (line ≡ as_line (size_text row load least ++ more)))
+-- the name of the switch whose table it is, where it is one of a network's: as a fault names it
+abbrev pub of_switch : Option (List ℕ) → List ℕ
+of_switch None = []
+of_switch (Some name) = codes ", switch " ++ name
+
+abbrev pub columns_for : Option (List ℕ) → List (List ℕ)
+columns_for None = size_columns
+columns_for (Some name) = network_size_columns
+
+-- what is written of a port
+abbrev pub size_in : Form → Option (List ℕ) → PortRow → Load → ℕ → List ℕ
+size_in Lines switch row load least = as_line (size_text row load least ++ of_switch switch)
+size_in Csv switch row load least = size_row (columns_for switch) (unwrap_or switch []) row load least
+
+-- before all of it
+abbrev pub size_heading : Form → Option (List ℕ) → List ℕ
+size_heading Lines switch = []
+size_heading Csv switch = heading (columns_for switch)
+
+-- the line of a port; a port without links has none
+abbrev pub IsSizeOf : Form → Option (List ℕ) → PortRow → Load → List ℕ → Type 0
+IsSizeOf form switch row load line =
+    (0 < load.highs + load.lows → (least : ℕ) × IsLeastBuffer row load least × (line ≡ size_in form switch row load least))
     × ((0 < load.highs + load.lows → ⊥) → line ≡ [])
 
 -- the lines of these ports, in their order
-abbrev pub AreSizesOf : List ℕ → ℕ → List Link → List PortRow → List ℕ → Type 0
-AreSizesOf more latency links = AreTextsOf (λ row line. IsSizeOf more row (load_of latency row.speed row.id links) line)
+abbrev pub AreSizesOf : Form → Option (List ℕ) → ℕ → List Link → List PortRow → List ℕ → Type 0
+AreSizesOf form switch latency links = AreTextsOf (λ row line. IsSizeOf form switch row (load_of latency row.speed row.id links) line)
 
--- the lines of a table's ports by rising number, each with this at its end
-abbrev pub AreSizesWith : List ℕ → Content → List ℕ → Type 0
-AreSizesWith more t text = AreSizesOf more t.latency t.links t.ports text
+-- the lines of the ports of a switch's table by rising number
+abbrev pub AreSizesWith : Form → Option (List ℕ) → Content → List ℕ → Type 0
+AreSizesWith form switch t text = AreSizesOf form switch t.latency t.links t.ports text
 
 -- those of a table alone
-abbrev pub AreSizesIn : Content → List ℕ → Type 0
-AreSizesIn t text = AreSizesWith [] t text
+abbrev pub AreSizesIn : Form → Content → List ℕ → Type 0
+AreSizesIn form t text = (lines : List ℕ) × AreSizesWith form None t lines × (text ≡ size_heading form None ++ lines)
 
 -- ---- of a network
 
--- as a fault names a switch
-abbrev pub of_switch : List ℕ → List ℕ
-of_switch name = codes ", switch " ++ name
-
 -- the lines of these tables, the first of which is that of the switch of this number
-abbrev pub AreSizesFrom : ℕ → Names → List Content → List ℕ → Type 0
-AreSizesFrom n names [] text = text ≡ []
-AreSizesFrom n names (t ∷ tables) text =
-    (lines : List ℕ) × (rest : List ℕ) × AreSizesWith (of_switch (name_of names n)) t lines × AreSizesFrom (n + 1) names tables rest × (text ≡ lines ++ rest)
+abbrev pub AreSizesFrom : Form → ℕ → Names → List Content → List ℕ → Type 0
+AreSizesFrom form n names [] text = text ≡ []
+AreSizesFrom form n names (t ∷ tables) text =
+    (lines : List ℕ) × (rest : List ℕ) × AreSizesWith form (Some (name_of names n)) t lines × AreSizesFrom form (n + 1) names tables rest × (text ≡ lines ++ rest)
+
+-- those of all switches
+abbrev pub AreSizesOfAll : Form → Names → List Content → List ℕ → Type 0
+AreSizesOfAll form names tables text =
+    (lines : List ℕ) × AreSizesFrom form 0 names tables lines × (text ≡ size_heading form (Some []) ++ lines)

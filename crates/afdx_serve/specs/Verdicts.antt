@@ -6,15 +6,29 @@ use Rattle.afdx_verdict.specs.declared.summed.RunVerdict.{RunVerdict}
 use Rattle.afdx_verdict.specs.Verdict.{verdict_of}
 use Rattle.afdx_verdict.specs.Line.{verdict_line}
 use Rattle.afdx_arguments.specs.declared.fail_on.FailOn.{FailOn}
+use Rattle.afdx_arguments.specs.declared.request.RunOptions.{RunOptions}
+use Rattle.afdx_csv.specs.declared.form.Form.{Form}
+use Rattle.afdx_csv.specs.declared.form.Form.TheVariants.{Lines, Csv}
+use Rattle.afdx_csv.specs.Csv.{heading}
+use Rattle.afdx_rows.specs.Counts.{run_columns, counts_rows, verdict_row}
 
--- the line of the verdict, where it is asked for
-abbrev pub verdict_part : Bool → Tally → List ℕ
-verdict_part false counts = []
-verdict_part true counts = verdict_line (verdict_of counts)
+-- the counters
+abbrev pub counts_text : Form → Tally → List ℕ
+counts_text Lines counts = report_of counts
+counts_text Csv counts = heading run_columns ++ counts_rows run_columns [] counts
 
--- the report, with that line as its last
-abbrev pub text_of : Bool → Tally → List ℕ
-text_of verdict counts = report_of counts ++ verdict_part verdict counts
+abbrev pub verdict_text : Form → RunVerdict → List ℕ
+verdict_text Lines = verdict_line
+verdict_text Csv = verdict_row
+
+-- the verdict, where it is asked for
+abbrev pub verdict_part : Form → Bool → Tally → List ℕ
+verdict_part form false counts = []
+verdict_part form true counts = verdict_text form (verdict_of counts)
+
+-- the report of a run, with that as its last line
+abbrev pub text_of : RunOptions → Tally → List ℕ
+text_of options counts = counts_text options.form counts ++ verdict_part options.form options.verdict counts
 
 -- there is one of what the run is to fail on
 abbrev pub is_found : FailOn → RunVerdict → Bool

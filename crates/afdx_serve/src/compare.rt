@@ -16,6 +16,7 @@ use crate::names::{capture_name, name_in, port_names};
 use crate::outputs::put_texts;
 use afdx_arguments::Compare;
 use afdx_compare::{CompareFault, Findings, differences, report};
+use afdx_csv::Form;
 use afdx_folder::{Folder, write_bytes};
 use afdx_grouping::first_scattered_fault;
 use afdx_grouping::laws::accepted_has_no_scattered_fault;
@@ -192,7 +193,8 @@ fn put_rows<F: Folder>(
     put_differences(alloc, rows, text, folder)
 }
 
-/// Compares recordings of a switch with what is proved of this one, puts each difference if asked for, and writes what was found out.
+/// Compares recordings of a switch with what is proved of this one, puts each difference if asked for, and writes what was found out, in this
+/// form.
 ///
 /// The table is got first and its load checked, as for a switch whose latency varies from the least to the table's. Then the captures of
 /// what came are opened, and those of what left, each by rising port; each is read once, in pieces. Where one cannot be read or has a
@@ -208,18 +210,19 @@ pub(crate) fn compare<O: Write, F: Folder>(
     alloc: Global,
     compare: &Compare<'_>,
     recordings: &Recordings,
+    form: Form,
     out: &mut O,
     folder: &mut F,
 ) -> Result<(), Failure>
     ensures { MatchResult result
-        (λ _. Compares compare.now recordings.now
+        (λ _. Compares form compare.now recordings.now
         (world (O.contents out.old) (F.files folder.old) (F.failed folder.old)) (world (O.contents out.new) (F.files folder.new) (F.failed folder.new)))
-        (λ f. FailsToCompareAll f compare.now recordings.now
+        (λ f. FailsToCompareAll f form compare.now recordings.now
         (world (O.contents out.old) (F.files folder.old) (F.failed folder.old)) (world (O.contents out.new) (F.files folder.new) (F.failed folder.new))) }
 {
     let table = get_varying(alloc, compare.table, recordings, folder)?;
     let findings = find(alloc, compare, recordings, &table, folder)?;
-    let text = report(alloc, &findings)?;
+    let text = report(alloc, &findings, form)?;
     put_rows(alloc, compare, &findings, folder)?;
     write_bytes(out, text.as_bytes())?;
     if findings.conforms() {

@@ -5,14 +5,15 @@ ghost use Rattle.afdx_wiring.specs.Refusal.{Gives};
 ghost use Rattle.afdx_wiring.specs.Rules.{FitsTogether, HasJitters, IsAcceptedNetwork};
 ghost use Rattle.afdx_messages.specs.declared.network_failure.JitterRule.TheVariants.{Jitter};
 ghost use Rattle.afdx_serve.specs.Networks.{names_of, judged, AreRefusedRows, FailsToAcceptNetwork};
-ghost use Rattle.afdx_serve.specs.NetworkChecks.{IsNetworkCheck};
+ghost use Rattle.afdx_serve.specs.NetworkChecks.{ways_text, IsNetworkCheck};
 ghost use Rattle.afdx_serve.specs.Serving.{world, ChecksNetwork, FailsToCheckNetwork};
 
 use crate::network_get::{get_network, names_of, refused};
+use afdx_csv::Form;
 use afdx_folder::{Folder, write_bytes};
 use afdx_messages::{Failure, JitterRule, NetworkFailure};
-use afdx_network_report::accepted_text;
-use afdx_wiring::{ClearedNetwork, Network, NetworkFault, Short, Switch};
+use afdx_network_report::{accepted_text, ways_rows};
+use afdx_wiring::{ClearedNetwork, Network, NetworkFault, Short, Switch, Way};
 use std::alloc::{AllocError, Global};
 use std::io::Write;
 
@@ -61,37 +62,55 @@ pub(crate) fn accept(
     Err(short_rows(alloc, switches, shorts))
 }
 
-/// What is written of an accepted network.
+/// What is written of an accepted network, of switches of these names, of its ways and of those over which nothing comes.
 fn ways_text(
     alloc: Global,
+    form: Form,
+    names: &[String],
+    ways: &[Way],
+    lost: &[Way],
+) -> Result<String, AllocError>
+    ensures { IfOk result (λ text. string_bytes text ≡ ways_text form (map string_bytes names.now) ways.now lost.now) }
+{
+    match form {
+        Form::Lines => accepted_text(alloc, names, ways, lost),
+        Form::Csv => ways_rows(alloc, names, ways, lost),
+    }
+}
+
+/// What is written of an accepted network.
+fn check_text(
+    alloc: Global,
+    form: Form,
     names: &[String],
     cleared: &ClearedNetwork,
 ) -> Result<String, AllocError>
     requires { map string_bytes names.now ≡ names_of cleared.now.layout.switches }
-    ensures { IfOk result (λ text. IsNetworkCheck cleared.now (string_bytes text)) }
+    ensures { IfOk result (λ text. IsNetworkCheck form cleared.now (string_bytes text)) }
 {
     let Ok(ways) = cleared.ways(alloc) else {
         // An accepted network has all its ways, so that this is `Memory`.
         return Err(AllocError);
     };
     let ways = cleared.network().layout().part_ways(alloc, ways)?;
-    accepted_text(alloc, names, &ways.up, &ways.lost)
+    ways_text(alloc, form, names, &ways.up, &ways.lost)
 }
 
 /// What is written of a network, where it is accepted.
-fn network_text(alloc: Global, network: Network) -> Result<String, Failure>
+fn network_text(alloc: Global, form: Form, network: Network) -> Result<String, Failure>
     ensures { MatchResult result
-        (λ text. IsAcceptedNetwork network × IsNetworkCheck network (string_bytes text))
+        (λ text. IsAcceptedNetwork network × IsNetworkCheck form network (string_bytes text))
         (λ f. FailsToAcceptNetwork f network) }
 {
     let names = names_of(alloc, &network.layout().switches)?;
     let cleared = accept(alloc, &names, network)?;
-    let text = ways_text(alloc, &names, &cleared)?;
+    let text = check_text(alloc, form, &names, &cleared)?;
     Ok(text)
 }
 
 /// Checks the network of a file, and writes a line for each switch, one for each way of a link, one for each end
-/// to which nothing comes in an outage, and that it is accepted.
+/// to which nothing comes in an outage, and that it is accepted; or as comma-separated values a row for each of
+/// these ways and ends.
 ///
 /// # Errors
 ///
@@ -102,17 +121,18 @@ fn network_text(alloc: Global, network: Network) -> Result<String, Failure>
 pub(crate) fn network_check<O: Write, F: Folder>(
     alloc: Global,
     path: &str,
+    form: Form,
     out: &mut O,
     folder: &mut F,
 ) -> Result<(), Failure>
     ensures { MatchResult result
-        (λ _. ChecksNetwork path.now
+        (λ _. ChecksNetwork form path.now
         (world (O.contents out.old) (F.files folder.old) (F.failed folder.old)) (world (O.contents out.new) (F.files folder.new) (F.failed folder.new)))
-        (λ f. FailsToCheckNetwork f path.now
+        (λ f. FailsToCheckNetwork f form path.now
         (world (O.contents out.old) (F.files folder.old) (F.failed folder.old)) (world (O.contents out.new) (F.files folder.new) (F.failed folder.new))) }
 {
     let network = get_network(alloc, folder, path)?;
-    let text = network_text(alloc, network)?;
+    let text = network_text(alloc, form, network)?;
     write_bytes(out, text.as_bytes())?;
     Ok(())
 }

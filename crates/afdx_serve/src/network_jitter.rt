@@ -1,23 +1,24 @@
 //! The command `network jitter`.
 
-ghost use Rattle.std.specs.Prelude.{◌≡◌, ◌≢◌, Some, Ok, Err, MatchResult};
+ghost use Rattle.std.specs.Prelude.{◌≡◌, ◌≢◌, map, string_bytes, Some, Ok, Err, IfOk, MatchResult};
 ghost use Rattle.afdx_table.specs.Content.{port_row};
 ghost use Rattle.afdx_wiring.specs.declared.fault.NetworkFault.TheVariants.{Memory};
 ghost use Rattle.afdx_wiring.specs.Needs.{AreNeeds};
 ghost use Rattle.afdx_wiring.specs.Rules.{FitsTogether};
-ghost use Rattle.afdx_serve.specs.NetworkJitters.{rate_fault, first_rate_fault, rates_fit, fit_of};
+ghost use Rattle.afdx_serve.specs.NetworkJitters.{rate_fault, first_rate_fault, rates_fit, fit_of, needs_text};
 ghost use Rattle.afdx_messages.specs.declared.failure.Failure.TheVariants.{Memory as Out};
 ghost use Rattle.afdx_serve.specs.Serving.{world, GivesJitters, FailsToGiveJitters};
 
 use crate::network_get::{get_network, names_of, refused};
+use afdx_csv::Form;
 use afdx_folder::{Folder, write_bytes};
 use afdx_load::{LoadFault, Loads, PARTS, Rule, breaks, loads};
 use afdx_messages::{Failure, JitterRule, NetworkFailure};
-use afdx_network_report::jitter_text;
+use afdx_network_report::{jitter_text, needs_rows};
 use afdx_table::laws::ports_are_found;
 use afdx_table::{PortRow, Table};
-use afdx_wiring::{Needs, Network, NetworkFault, all_past};
-use std::alloc::Global;
+use afdx_wiring::{Needs, Network, NetworkFault, RowNeed, all_past};
+use std::alloc::{AllocError, Global};
 use std::io::Write;
 
 /// The fault of a port whose links ask for more than its line.
@@ -86,6 +87,21 @@ fn needs_of(alloc: Global, network: Network) -> Result<Needs, Failure>
     }
 }
 
+/// What is written of the jitters that rows need, of switches of these names.
+fn needs_text(
+    alloc: Global,
+    form: Form,
+    names: &[String],
+    rows: &[RowNeed],
+) -> Result<String, AllocError>
+    ensures { IfOk result (λ text. string_bytes text ≡ needs_text form (map string_bytes names.now) rows.now) }
+{
+    match form {
+        Form::Lines => jitter_text(alloc, names, rows),
+        Form::Csv => needs_rows(alloc, names, rows),
+    }
+}
+
 /// Writes for each link of each table of the network of a file the jitter that it needs there, from the jitters of the sources
 /// on. Where no row needs more than a table can have, `network check` finds these jitters enough; it judges the loads too,
 /// which grow with them.
@@ -100,13 +116,14 @@ fn needs_of(alloc: Global, network: Network) -> Result<Needs, Failure>
 pub(crate) fn network_jitter<O: Write, F: Folder>(
     alloc: Global,
     path: &str,
+    form: Form,
     out: &mut O,
     folder: &mut F,
 ) -> Result<(), Failure>
     ensures { MatchResult result
-        (λ _. GivesJitters path.now
+        (λ _. GivesJitters form path.now
         (world (O.contents out.old) (F.files folder.old) (F.failed folder.old)) (world (O.contents out.new) (F.files folder.new) (F.failed folder.new)))
-        (λ f. FailsToGiveJitters f path.now
+        (λ f. FailsToGiveJitters f form path.now
         (world (O.contents out.old) (F.files folder.old) (F.failed folder.old)) (world (O.contents out.new) (F.files folder.new) (F.failed folder.new))) }
 {
     let network = get_network(alloc, folder, path)?;
@@ -115,7 +132,7 @@ pub(crate) fn network_jitter<O: Write, F: Folder>(
         return Err(refused(alloc, &names, fault));
     }
     let needs = needs_of(alloc, network)?;
-    let text = jitter_text(alloc, &names, &needs.rows)?;
+    let text = needs_text(alloc, form, &names, &needs.rows)?;
     let shorts = all_past(alloc, &needs.rows)?;
     write_bytes(out, text.as_bytes())?;
     match needs.past {

@@ -7,7 +7,7 @@ ghost use Rattle.afdx_network.specs.Outage.{given_up};
 ghost use Rattle.afdx_folder.specs.Files.{KeepsFiles};
 ghost use Rattle.afdx_serve.specs.Runs.{capture_name, bytes_of_captures};
 ghost use Rattle.afdx_serve.specs.Networks.{names_of};
-ghost use Rattle.afdx_serve.specs.NetworkRuns.{switch_folder, names_at, bytes_at, captures_of, reports_of, HasGiven, FailsToGetGiven};
+ghost use Rattle.afdx_serve.specs.NetworkRuns.{switch_folder, names_at, bytes_at, captures_of, reports_of, switch_rows, runs_text, HasGiven, FailsToGetGiven};
 ghost use Rattle.afdx_serve.specs.Inner.OpenPorts.{HasOpen, FailsToGetNamed};
 ghost use Rattle.afdx_serve.specs.Inner.NetworkRunning.{network_in, IsRunFailure, HasRun, FailsToLeadGiven};
 ghost use Rattle.afdx_serve.specs.Serving.{world, RunsNetwork, FailsToRunNetwork};
@@ -18,11 +18,13 @@ use crate::network_get::{get_network, names_of};
 use crate::network_plan::{NetworkPlan, plan};
 use crate::outputs::put_texts;
 use afdx_arguments::NetworkPaths;
+use afdx_csv::{Form, put_heading};
 use afdx_folder::{Folder, write_bytes};
 use afdx_messages::{Failure, NetworkFailure};
 use afdx_network::laws::{network_runs_deliver, runs_are_unchecked};
 use afdx_network::{NetworkRunFault, Texts, given_up, is_open};
 use afdx_network_report::{name_of, push_report};
+use afdx_rows::{NETWORK_RUN, put_counts};
 use afdx_session::Outcome;
 use afdx_table::Table;
 use afdx_table::laws::tables_are_well_formed;
@@ -165,6 +167,52 @@ fn reports(
     Ok(text)
 }
 
+/// Appends the rows of the switches.
+fn put_switches(
+    text: &mut String,
+    names: &[String],
+    outcomes: &[Outcome<Global>],
+) -> Result<(), AllocError>
+    requires { length names.now ≡ length outcomes.now }
+    ensures { OnOk result (string_bytes text.new ≡ string_bytes text.old ++ switch_rows (map string_bytes names.now) outcomes.now) }
+{
+    for (switch, outcome) in outcomes.iter().enumerate() {
+        put_counts(text, NETWORK_RUN, name_of(names, switch), &outcome.counts)?;
+    }
+    Ok(())
+}
+
+/// The rows of the switches, below a heading.
+fn runs_rows(
+    alloc: Global,
+    names: &[String],
+    outcomes: &[Outcome<Global>],
+) -> Result<Vec<u8>, AllocError>
+    requires { length names.now ≡ length outcomes.now }
+    ensures { IfOk result (λ text. text.items ≡ runs_text Form.Csv (map string_bytes names.now) outcomes.now) }
+{
+    let mut text = String::new(alloc);
+    put_heading(&mut text, NETWORK_RUN)?;
+    put_switches(&mut text, names, outcomes)?;
+    Ok(text.into_bytes())
+}
+
+/// What is written of the switches.
+fn runs_text(
+    alloc: Global,
+    form: Form,
+    names: &[String],
+    outcomes: &[Outcome<Global>],
+) -> Result<Vec<u8>, AllocError>
+    requires { length names.now ≡ length outcomes.now }
+    ensures { IfOk result (λ text. text.items ≡ runs_text form (map string_bytes names.now) outcomes.now) }
+{
+    match form {
+        Form::Lines => reports(alloc, names, outcomes),
+        Form::Csv => runs_rows(alloc, names, outcomes),
+    }
+}
+
 /// The names of the captures of all switches, each in its switch's folder.
 fn output_names(
     alloc: Global,
@@ -207,7 +255,7 @@ fn output_texts(alloc: Global, outcomes: Vec<Outcome<Global>>) -> Result<Vec<Vec
 }
 
 /// Runs the network of a file over the captures of a folder, puts what leaves each switch into another, and writes the
-/// report of each switch, with its name before each line.
+/// report of each switch, with its name before each line, or in the first column of each row.
 ///
 /// IN/A has the captures of the ports of switch A to which no wire goes; those of all its ports are put into OUT/A, which has
 /// to be there. The network is accepted before a capture is got, unless the run is unchecked, and all captures are got before the
@@ -224,13 +272,14 @@ fn output_texts(alloc: Global, outcomes: Vec<Outcome<Global>>) -> Result<Vec<Vec
 pub(crate) fn network_run<O: Write, F: Folder>(
     alloc: Global,
     paths: &NetworkPaths<'_>,
+    form: Form,
     out: &mut O,
     folder: &mut F,
 ) -> Result<(), Failure>
     ensures { MatchResult result
-        (λ _. RunsNetwork paths.now
+        (λ _. RunsNetwork form paths.now
         (world (O.contents out.old) (F.files folder.old) (F.failed folder.old)) (world (O.contents out.new) (F.files folder.new) (F.failed folder.new)))
-        (λ f. FailsToRunNetwork f paths.now
+        (λ f. FailsToRunNetwork f form paths.now
         (world (O.contents out.old) (F.files folder.old) (F.failed folder.old)) (world (O.contents out.new) (F.files folder.new) (F.failed folder.new))) }
 {
     network_runs_deliver();
@@ -243,7 +292,7 @@ pub(crate) fn network_run<O: Write, F: Folder>(
     let given = get_given(alloc, folder, paths.input, &names, plan.network())?;
     let outcomes = lead(alloc, &names, &plan, given)?;
     let files = output_names(alloc, paths.output, &names, &outcomes)?;
-    let text = reports(alloc, &names, &outcomes)?;
+    let text = runs_text(alloc, form, &names, &outcomes)?;
     let texts = output_texts(alloc, outcomes)?;
     put_texts(alloc, folder, &files, &texts)?;
     write_bytes(out, &text)?;

@@ -27,9 +27,9 @@ pub(crate) fn perform_network<O: Write, F: Folder>(
         (world (O.contents out.old) (F.files folder.old) (F.failed folder.old)) (world (O.contents out.new) (F.files folder.new) (F.failed folder.new))) }
 {
     match request {
-        NetworkRequest::Check(path) => network_check(alloc, path, out, folder),
-        NetworkRequest::Size(path) => network_size(alloc, path, out, folder),
-        NetworkRequest::Jitter(path) => network_jitter(alloc, path, out, folder),
-        NetworkRequest::Run(paths) => network_run(alloc, paths, out, folder),
+        NetworkRequest::Check(path, form) => network_check(alloc, path, *form, out, folder),
+        NetworkRequest::Size(path, form) => network_size(alloc, path, *form, out, folder),
+        NetworkRequest::Jitter(path, form) => network_jitter(alloc, path, *form, out, folder),
+        NetworkRequest::Run(paths, form) => network_run(alloc, paths, *form, out, folder),
     }
 }

@@ -58,13 +58,15 @@ fn perform<R: Read, O: Write, F: Folder>(
 {
     match request {
         Request::Alone(link) => answer(alloc, link, input, out),
-        Request::Check(path) => check(alloc, path, out, folder),
-        Request::Size(path) => size(alloc, path, out, folder),
+        Request::Check(path, form) => check(alloc, path, *form, out, folder),
+        Request::Size(path, form) => size(alloc, path, *form, out, folder),
         Request::Run(paths, options) => run(alloc, paths, options, out, folder),
-        Request::Measure(inputs) => measure(alloc, inputs, out, folder),
-        Request::Survey(inputs) => survey(alloc, inputs, out, folder),
+        Request::Measure(inputs, form) => measure(alloc, inputs, *form, out, folder),
+        Request::Survey(inputs, form) => survey(alloc, inputs, *form, out, folder),
         Request::Trace(paths, options) => trace(alloc, paths, options, folder),
-        Request::Compare(files, recordings) => compare(alloc, files, recordings, out, folder),
+        Request::Compare(files, recordings, form) => {
+            compare(alloc, files, recordings, *form, out, folder)
+        },
         Request::Explain(entry) => explain(entry, out),
         Request::Network(request) => perform_network(alloc, request, out, folder),
     }

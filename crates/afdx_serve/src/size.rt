@@ -1,19 +1,22 @@
 //! The command `size`.
 
-ghost use Rattle.std.specs.Prelude.{◌≡◌, ℕ, ◌++◌, [], Some, IfOk, OnOk, MatchResult, string_bytes, if◌then◌else◌};
+ghost use Rattle.std.specs.Prelude.{◌≡◌, ℕ, ◌++◌, [], map, Some, option_map, unwrap_or, IfOk, OnOk, MatchResult, string_bytes, if◌then◌else◌};
 ghost use Rattle.afdx_table.specs.Content.{port_row};
 ghost use Rattle.afdx_load.specs.Load.{load_of};
 ghost use Rattle.afdx_load.specs.Fits.{is_broken, broken_rules};
 ghost use Rattle.afdx_wiring.specs.Lines.{as_line};
 ghost use Rattle.afdx_serve.specs.Checks.{IsLeastBuffer};
-ghost use Rattle.afdx_serve.specs.Sizes.{delay_text, letter_of, letters_of, verdict_text, amounts_text, delays_text, size_text, IsSizeOf, AreSizesWith};
+ghost use Rattle.afdx_serve.specs.Sizes.{delay_text, letter_of, letters_of, verdict_text, amounts_text, delays_text, size_text};
+ghost use Rattle.afdx_serve.specs.Sizes.{of_switch, columns_for, size_in, size_heading, IsSizeOf, AreSizesWith, AreSizesIn};
 ghost use Rattle.afdx_serve.specs.Serving.{world, Sizes, FailsToSize};
 
 use crate::get::get_table;
+use afdx_csv::{Form, put_heading};
 use afdx_folder::{Folder, write_bytes};
 use afdx_load::laws::longest_shows_links;
 use afdx_load::{Load, Loads, PARTS, Rule, bounds, breaks, least_buffer, loads};
 use afdx_messages::Failure;
+use afdx_rows::{NETWORK_SIZE, SIZE, put_size};
 use afdx_table::laws::ports_are_found;
 use afdx_table::{PortRow, Table};
 use std::alloc::{AllocError, Global};
@@ -120,53 +123,158 @@ fn push_delays(line: &mut String, row: &PortRow, load: &Load) -> Result<(), Allo
     push_delay(line, load.lows(), bounds.low, row.max_delay)
 }
 
-/// The line of a port with links, with this at its end.
-fn size_line(alloc: Global, row: &PortRow, load: &Load, more: &str) -> Result<String, AllocError>
-    ensures { IfOk result (λ line. (least : ℕ) × IsLeastBuffer row.now load.now least × (string_bytes line ≡ as_line (size_text row.now load.now least ++ more.now))) }
+/// Appends the name of the switch that a line is of, if there is one.
+fn push_switch(line: &mut String, switch: Option<&str>) -> Result<(), AllocError>
+    ensures { OnOk result (string_bytes line.new ≡ string_bytes line.old ++ of_switch (option_map (λ name. name.now) switch.entry)) }
 {
-    let least = least_buffer(load, row.speed);
+    let Some(name) = switch else {
+        return Ok(());
+    };
+    line.push_str(", switch ")?;
+    line.push_str(name)
+}
+
+/// The line of a port with links of a switch, which needs so many bytes at least.
+fn size_line(
+    alloc: Global,
+    switch: Option<&str>,
+    row: &PortRow,
+    load: &Load,
+    least: u128,
+) -> Result<String, AllocError>
+    ensures { IfOk result (λ line. string_bytes line ≡ size_in Form.Lines (option_map (λ name. name.now) switch.entry) row.now load.now least) }
+{
     let mut line = amounts(alloc, row, load, least)?;
     push_delays(&mut line, row, load)?;
     push_verdict(alloc, &mut line, row, load)?;
-    line.push_str(more)?;
+    push_switch(&mut line, switch)?;
     line.push_str("\n")?;
     Ok(line)
 }
 
-/// The line of a port of the loads' table, with this at its end; where no link leads to it, no text.
+/// The columns of rows of a table alone, or of the tables of a network.
+fn columns_for(switch: Option<&str>) -> &'static [&'static str]
+    ensures { map (λ name. name.now) result.now ≡ columns_for (option_map (λ name. name.now) switch.entry) }
+{
+    match switch {
+        Some(_) => NETWORK_SIZE,
+        None => SIZE,
+    }
+}
+
+/// The name of a switch, or an empty one where there is none.
+fn name_or_empty(switch: Option<&str>) -> &str
+    ensures { result.now ≡ unwrap_or (option_map (λ name. name.now) switch.entry) [] }
+{
+    match switch {
+        Some(name) => name,
+        None => "",
+    }
+}
+
+/// The row of a port with links of a switch, which needs so many bytes at least.
+fn size_row(
+    alloc: Global,
+    switch: Option<&str>,
+    row: &PortRow,
+    load: &Load,
+    least: u128,
+) -> Result<String, AllocError>
+    ensures { IfOk result (λ line. string_bytes line ≡ size_in Form.Csv (option_map (λ name. name.now) switch.entry) row.now load.now least) }
+{
+    let columns = columns_for(switch);
+    let name = name_or_empty(switch);
+    let mut line = String::new(alloc);
+    put_size(alloc, &mut line, columns, name, row, load, least)?;
+    Ok(line)
+}
+
+/// What is written of a port with links of a switch.
+fn size_in(
+    alloc: Global,
+    form: Form,
+    switch: Option<&str>,
+    row: &PortRow,
+    load: &Load,
+) -> Result<String, AllocError>
+    ensures { IfOk result (λ line. (least : ℕ) × IsLeastBuffer row.now load.now least
+        × (string_bytes line ≡ size_in form (option_map (λ name. name.now) switch.entry) row.now load.now least)) }
+{
+    let least = least_buffer(load, row.speed);
+    match form {
+        Form::Lines => size_line(alloc, switch, row, load, least),
+        Form::Csv => size_row(alloc, switch, row, load, least),
+    }
+}
+
+/// What is written of a port of the loads' table, which is that of a switch; where no link leads to it, no text.
 fn port_size(
     alloc: Global,
+    form: Form,
+    switch: Option<&str>,
     loads: &Loads<'_>,
     row: &PortRow,
-    more: &str,
 ) -> Result<String, AllocError>
     requires { port_row loads.now row.now.id ≡ Some row.now }
-    ensures { IfOk result (λ line. IsSizeOf more.now row.now (load_of loads.now.latency row.now.speed row.now.id loads.now.links) (string_bytes line)) }
+    ensures { IfOk result (λ line. IsSizeOf form (option_map (λ name. name.now) switch.entry) row.now (load_of loads.now.latency row.now.speed row.now.id loads.now.links) (string_bytes line)) }
 {
     longest_shows_links();
     match loads.at(row.id) {
-        Some(load) if load.largest() > 0 => size_line(alloc, row, &load, more),
+        Some(load) if load.largest() > 0 => size_in(alloc, form, switch, row, &load),
         _ => Ok(String::new(alloc)),
     }
 }
 
-/// The lines of the table's ports with links, each with this at its end.
+/// What is written before all ports, of a table alone or of the tables of a network.
+pub(crate) fn size_heading(
+    alloc: Global,
+    form: Form,
+    switch: Option<&str>,
+) -> Result<String, AllocError>
+    ensures { IfOk result (λ text. string_bytes text ≡ size_heading form (option_map (λ name. name.now) switch.entry)) }
+{
+    let mut text = String::new(alloc);
+    match form {
+        Form::Lines => Ok(text),
+        Form::Csv => {
+            put_heading(&mut text, columns_for(switch))?;
+            Ok(text)
+        }
+    }
+}
+
+/// What is written of the ports with links of a switch's table.
 ///
 /// One pass over the links serves all ports: O(p + m) for p ports, of which there are at most 24, and links that
 /// together name m output ports.
-pub(crate) fn sizes_text(alloc: Global, table: &Table, more: &str) -> Result<String, AllocError>
-    ensures { IfOk result (λ text. AreSizesWith more.now table.now (string_bytes text)) }
+pub(crate) fn sizes_text(
+    alloc: Global,
+    form: Form,
+    switch: Option<&str>,
+    table: &Table,
+) -> Result<String, AllocError>
+    ensures { IfOk result (λ text. AreSizesWith form (option_map (λ name. name.now) switch.entry) table.now (string_bytes text)) }
 {
     ports_are_found();
     let loads = loads(table);
     let mut text = String::new(alloc);
     for row in table.ports() {
-        text.push_str(&port_size(alloc, &loads, row, more)?)?;
+        text.push_str(&port_size(alloc, form, switch, &loads, row)?)?;
     }
     Ok(text)
 }
 
-/// Writes for each port of a file's table that has links what they need and what the port has, whether it fits or not.
+/// What is written of a table alone.
+fn table_sizes(alloc: Global, form: Form, table: &Table) -> Result<String, AllocError>
+    ensures { IfOk result (λ text. AreSizesIn form table.now (string_bytes text)) }
+{
+    let mut text = size_heading(alloc, form, None)?;
+    let lines = sizes_text(alloc, form, None, table)?;
+    text.push_str(&lines)?;
+    Ok(text)
+}
+
+/// Writes for each port of a file's table that has links what they need and what the port has, whether it fits or not, in this form.
 ///
 /// # Errors
 ///
@@ -174,17 +282,18 @@ pub(crate) fn sizes_text(alloc: Global, table: &Table, more: &str) -> Result<Str
 pub(crate) fn size<O: Write, F: Folder>(
     alloc: Global,
     path: &str,
+    form: Form,
     out: &mut O,
     folder: &mut F,
 ) -> Result<(), Failure>
     ensures { MatchResult result
-        (λ _. Sizes path.now
+        (λ _. Sizes form path.now
         (world (O.contents out.old) (F.files folder.old) (F.failed folder.old)) (world (O.contents out.new) (F.files folder.new) (F.failed folder.new)))
-        (λ f. FailsToSize f path.now
+        (λ f. FailsToSize f form path.now
         (world (O.contents out.old) (F.files folder.old) (F.failed folder.old)) (world (O.contents out.new) (F.files folder.new) (F.failed folder.new))) }
 {
     let table = get_table(alloc, folder, path)?;
-    let text = sizes_text(alloc, &table, "")?;
+    let text = table_sizes(alloc, form, &table)?;
     write_bytes(out, text.as_bytes())?;
     Ok(())
 }

@@ -7,7 +7,7 @@ from typing import Any
 
 from afdx.campaign.answers import keys_there
 from afdx.campaign.failures import failure
-from afdx.campaign.lines import PORT, rows_of
+from afdx.campaign.rows import PORT, rows_of
 from afdx.campaign.worker.files import locked
 from afdx.campaign.worker.task import Task
 from afdx.campaign.worker.work import answer_at
@@ -124,7 +124,7 @@ def add(base: sqlite3.Connection, task: Task, table: int, answer: dict[str, Any]
          how["processor"], how["memory"], how["tries"], how["host"], how["at"])).lastrowid
     if answer["status"]:
         base.execute("insert into faults values (?, ?, ?, ?)", (run, answer["status"], answer["fault"], answer["line"]))
-    rows = rows_of(answer["text"], bool(task.table.switches))
+    rows = rows_of(answer["text"])
     ports = [(*place, *values) for place, values in rows.ports.items()]
     insert(base, "links", run, rows.links)
     insert(base, "delays", run, rows.delays)

@@ -3,9 +3,8 @@ import csv
 import io
 from dataclasses import dataclass
 
-from afdx.diff.facts import KINDS, Facts, Place
+from afdx.diff.facts import KINDS, NONE, Facts, Place
 
-NONE = "-"
 HEADING = ("switch", "kind", "name", "change", "field", "before", "after")
 # what says that something is refused, by kind, and what it is if nothing is
 REFUSING = {"load": ("breaks", "-"), "need": ("lacks", "0"), "check": ("verdict", "accepted")}

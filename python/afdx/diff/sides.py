@@ -6,7 +6,7 @@ from typing import Any
 
 from afdx import printed, toml
 from afdx.diff import rows
-from afdx.diff.facts import Facts, Place
+from afdx.diff.facts import NONE, Facts, Place
 from afdx.failure import LOAD, Failure
 from afdx.program import Answer, Program
 
@@ -35,11 +35,21 @@ def verdict_of(answer: Answer) -> Facts:
     return {Place("", "check", ""): {"verdict": answer.line.partition("\n")[0] or "accepted"}}
 
 
+def words(field: str) -> str:
+    """Answers a list as it is shown, NONE if it is empty."""
+    return printed.listed(field) or NONE
+
+
+def bound(row: printed.Row, priority: str) -> str:
+    """Answers the bound of a priority; where it has links and the others leave nothing, `none`."""
+    return row[priority] or ("none" if row[f"{priority}_limit"] else NONE)
+
+
 def load_facts(said: str, switch: str = "") -> Facts:
     """Answers what `afdx size` printed: of each port with links what they ask for, and the rules that it breaks."""
-    lines = printed.lines_of(printed.PORT, said)
-    return {Place(switch, "load", line["port"]): {key: line[key] for key in ("rate", "buffer", "high", "low", "breaks")}
-            for line in lines}
+    return {Place(switch, "load", row["port"]):
+            {"rate": row["rate"], "buffer": row["buffer"], "high": bound(row, "high"), "low": bound(row, "low"),
+             "breaks": words(row["breaks"])} for row in printed.rows_of(said)}
 
 
 def ask_table(program: Program, side: Side) -> None:
@@ -47,37 +57,39 @@ def ask_table(program: Program, side: Side) -> None:
     check = program.ask("check", side.path)
     if check.status not in (0, LOAD):
         refuse(program, side.path, check)
-    side.facts |= rows.table_facts(side.content) | load_facts(program.answer("size", side.path)) | verdict_of(check)
+    load = load_facts(program.answer("size", side.path, printed.CSV))
+    side.facts |= rows.table_facts(side.content) | load | verdict_of(check)
 
 
 def need_facts(said: str, facts: Facts) -> Facts:
     """Answers what `afdx network jitter` printed, and by how much the row has less."""
     needs = {}
-    for line in printed.lines_of(printed.JITTER, said):
-        has = int(facts[Place(line["switch"], "link", line["link"])]["jitter_us"])
-        lacks = str(max(0, int(line["jitter_us"]) - has))
-        needs[Place(line["switch"], "need", line["link"])] = {"jitter_us": line["jitter_us"], "lacks": lacks}
+    for row in printed.rows_of(said):
+        has = int(facts[Place(row["switch"], "link", row["link"])]["jitter_us"])
+        lacks = str(max(0, int(row["jitter_us"]) - has))
+        needs[Place(row["switch"], "need", row["link"])] = {"jitter_us": row["jitter_us"], "lacks": lacks}
     return needs
 
 
 def way_facts(said: str) -> Facts:
     """Answers the ways that `afdx network check` printed."""
-    lines = printed.lines_of(printed.WAY, said)
-    return {Place("", "way", f"{line['link']} to {line['end']}"):
-            {key: line[key] for key in ("start", "ways", "least", "most", "jitter")} for line in lines}
+    return {Place("", "way", f"{row['link']} to {row['to']}"):
+            {"start": row["from"], "ways": words(row["ways"]), "least": row["least"], "most": row["most"],
+             "jitter": words(row["jitter"])} for row in printed.rows_of(said)}
 
 
 def ask_network(program: Program, side: Side) -> None:
     """Adds the rows of a network and of its tables, and what the program says of them."""
-    check = program.ask("network", "check", side.path)
+    check = program.ask("network", "check", side.path, printed.CSV)
     if check.status not in (0, LOAD) and not UNFIT.match(check.line):
         refuse(program, side.path, check)
     side.facts |= rows.network_facts(side.content)
     for switch in side.content.get("switch", []):
         table = side.path.parent / switch["table"]
         side.facts |= rows.table_facts(toml.read(program.progress.command, table), switch["name"])
-        side.facts |= load_facts(program.answer("size", table), switch["name"])
-    side.facts |= need_facts(program.ask("network", "jitter", side.path).said, side.facts)
+        side.facts |= load_facts(program.answer("size", table, printed.CSV), switch["name"])
+    jitters = program.ask("network", "jitter", side.path, printed.CSV)
+    side.facts |= need_facts(jitters.said, side.facts)
     side.facts |= way_facts(check.said) | verdict_of(check)
 
 

@@ -37,7 +37,7 @@ def give(tables: dict[str, Table], said: str) -> list[str]:
     """Gives the rows the jitters that `afdx network jitter` printed, as far as a table can have them. Answers the lines
     of rows that need more, with their names."""
     lines = []
-    for need in printed.lines_of(printed.JITTER, said):
+    for need in printed.rows_of(said):
         row, jitter_us = tables[need["switch"]].rows[int(need["link"])], int(need["jitter_us"])
         row.give(min(jitter_us, MOST))
         if jitter_us > MOST:
@@ -49,9 +49,10 @@ def broken_ports(program: Program, folder: Path, tables: dict[str, Table]) -> li
     """Answers the lines that `afdx size` has for ports that break rules, with the names of switch and port."""
     lines = []
     for switch, table in tables.items():
-        said = program.ask("size", folder / f"{switch}.toml").said
-        for line, port in zip(said.splitlines(), printed.lines_of(printed.PORT, said)):
-            if port["breaks"] != "-":
+        file = folder / f"{switch}.toml"
+        ports = printed.rows_of(program.ask("size", file, printed.CSV).said)
+        for line, port in zip(program.ask("size", file).said.splitlines(), ports):
+            if port["breaks"]:
                 lines.append(f"{switch} {line} ({table.names([int(port['port'])])})")
     return lines
 
@@ -62,7 +63,7 @@ def settle(program: Program, tables: dict[str, Table], network: Network) -> Verd
     with temporary_folder(program.progress.command) as room:
         folder = Path(room)
         put_all(program.progress.command, folder, texts_of(tables, network))
-        needs = program.ask("network", "jitter", folder / "network.toml")
+        needs = program.ask("network", "jitter", folder / "network.toml", printed.CSV)
         broken = give(tables, needs.said)
         texts = texts_of(tables, network)
         put_all(program.progress.command, folder, texts)

@@ -9,11 +9,12 @@ from pathlib import Path
 
 from afdx import files
 from afdx.failure import USAGE, Failure
+from afdx.printed import CSV
 from afdx.program import Program
 
-PRINTED = ("size.txt", "measure.txt")
+PRINTED = ("size.csv", "measure.csv")
 TRACED = ("arrivals.csv", "departures.csv")
-COMPARED = ("compare.txt", "differences.csv")
+COMPARED = ("compare.csv", "differences.csv")
 DIFFERS = 1  # the status of `compare` that recordings differ, which is an answer too
 
 
@@ -74,7 +75,7 @@ def need_files(command: str, paths: Sequence[str]) -> None:
 
 def compare(program: Program, table: str, folder: str, recordings: Asked, room: Path) -> Compared:
     """Has the program compare recordings, and put its file into the room."""
-    answer = program.ask("compare", table, folder, recordings.folder, *recordings.options, "--rows", room)
+    answer = program.ask("compare", table, folder, recordings.folder, *recordings.options, "--rows", room, CSV)
     if answer.status not in (0, DIFFERS):
         raise Failure(answer.status, answer.line)
     return Compared(recordings, answer.said, room / COMPARED[1])
@@ -90,12 +91,12 @@ def asked(program: Program, size: str, table: str, folder: str, unchecked: bool 
         room = Path(name)
         compared = compare(program, table, folder, recordings, room) if recordings else None
         program.answer("trace", table, folder, room, *options)
-        yield Answers(size, program.answer("measure", table, folder, *options), room, compared)
+        yield Answers(size, program.answer("measure", table, folder, *options, CSV), room, compared)
 
 
 def kept(command: str, folder: Path, recordings: Asked | None) -> Answers:
-    """Answers what a folder has of an earlier run: size.txt and measure.txt with what these commands printed, the files
-    of `trace`, and of recordings compare.txt and the file of `compare`."""
+    """Answers what a folder has of an earlier run: size.csv and measure.csv with what these commands printed, the files
+    of `trace`, and of recordings compare.csv and the file of `compare`."""
     size, measured = (text_of(command, folder / name) for name in PRINTED)
     said, rows = (folder / name for name in COMPARED)
     return Answers(size, measured, folder,

@@ -20,7 +20,7 @@ def bar(what: str, need: int, limit: int, unit: str, kind: str = "") -> Bar:
     return Bar(what, said, 100 * min(need / limit, 1) if limit else 100, need > limit, kind)
 
 
-def delay_bars(need: dict[str, str]) -> list[Bar]:
+def delay_bars(need: printed.Row) -> list[Bar]:
     """Answers a bar for the bound of each priority that the port has links of."""
     bars = []
     for priority in PRIORITIES:
@@ -32,9 +32,9 @@ def delay_bars(need: dict[str, str]) -> list[Bar]:
     return bars
 
 
-def bars_of(need: dict[str, str], occupied: dict[str, str]) -> list[Bar]:
-    """Answers the bars of a port, from its line of `size` and its line of `measure`."""
+def bars_of(need: printed.Row, occupied: printed.Row) -> list[Bar]:
+    """Answers the bars of a port, from its row of `size` and its row of `measure`."""
     return [bar("rate", int(need["rate"]), int(need["rate_limit"]), "parts"),
             bar("buffer needed", int(need["buffer"]), int(need["buffer_limit"]), "bytes"),
-            bar("buffer used", int(occupied["occupied"]), int(occupied["limit"]), "bytes", "used"),
+            bar("buffer used", int(occupied["occupied"]), int(occupied["buffer"]), "bytes", "used"),
             *delay_bars(need)]

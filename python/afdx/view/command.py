@@ -59,9 +59,9 @@ def options_of(arguments: Sequence[str]) -> argparse.Namespace:
     parser.add_argument("--unchecked", action="store_true",
                         help="run a table that is not accepted too; no bound is promised then")
     parser.add_argument("--answers", metavar="FOLDER",
-                        help="do not run the program: show what FOLDER has of an earlier run, in size.txt and "
-                             "measure.txt what these commands printed, and the two files of trace; with --recorded "
-                             "compare.txt and differences.csv of compare too")
+                        help="do not run the program: show what FOLDER has of an earlier run, in size.csv and "
+                             "measure.csv what these commands printed, and the two files of trace; with --recorded "
+                             "compare.csv and differences.csv of compare too")
     add_comparison(parser)
     options = parser.parse_args(arguments)
     if not options.out.endswith(".html"):

@@ -16,6 +16,7 @@ from typing import TYPE_CHECKING
 
 from afdx import files, signals, toml
 from afdx.failure import DEVICE, USAGE, Failure, failing
+from afdx.printed import CSV
 from afdx.program import Program, Progress
 from afdx.view import answers, provenance
 from afdx.view.answers import Answers
@@ -92,7 +93,7 @@ def recorded_of(options: argparse.Namespace, ports: Sequence[int]) -> list[str]:
 
 
 def sized(program: Program, name: str) -> Sized:
-    size = program.answer("size", name)
+    size = program.answer("size", name, CSV)
     return Sized(name, size, table_of(toml.read(program.progress.command, Path(name))))
 
 

@@ -49,13 +49,13 @@ class PortDelays:
 
 
 def port_cards(run: Run) -> list[PortCard]:
-    occupied = {line["port"]: line for line in run.occupied}
+    occupied = {row["port"]: row for row in run.occupied}
     cards = []
     for need in run.needs:
         seen = occupied[need["port"]]
         at = printed.number(seen["at"])
         fullest = None if at is None or run.fates.first is None else at - run.fates.first
-        cards.append(PortCard(need["port"], need["breaks"], bars_of(need, seen), fullest))
+        cards.append(PortCard(need["port"], printed.listed(need["breaks"]), bars_of(need, seen), fullest))
     return cards
 
 

@@ -36,12 +36,12 @@ class Pair:
 
 
 def pairs_of(measured: str, table: Table, fates: Fates) -> list[Pair]:
-    """Answers the lines `link` of `afdx measure`, with what the frames' fates say of each."""
+    """Answers the delays that `afdx measure` printed, with what the frames' fates say of each link."""
     pairs = []
-    for line in printed.lines_of(printed.DELAYS, measured):
-        link, port = int(line["link"]), int(line["port"])
-        least, greatest, bound = (printed.number(line[key]) for key in ("least", "greatest", "bound"))
+    for row in printed.rows_of(measured, "delays"):
+        link, port = int(row["link"]), int(row["port"])
+        least, greatest, bound = (printed.number(row[key]) for key in ("least", "greatest", "bound"))
         pairs.append(Pair(link, port, table.links[link].priority, int(fates.by_link["passed"][link]),
-                          int(fates.by_link["policed"][link]), int(line["sent"]), fates.full[link, port],
+                          int(fates.by_link["policed"][link]), int(row["sent"]), fates.full[link, port],
                           least, greatest, bound))
     return pairs

@@ -8,13 +8,13 @@ from afdx.view.differences import KINDS, Differences, Place
 from afdx.view.differences import read as read_differences
 from afdx.view.pairs import Pair
 
-ENDS = {"conforms": True, "differs": False}  # the last line of `afdx compare`
+VERDICTS = {"conforms": True, "differs": False}  # of `afdx compare`
 AT_LINKS = KINDS[:-1]  # kinds of differences that are of a link
 
 
 def word_of(conforms: bool) -> str:
     """Answers the word that `afdx compare` has for it."""
-    return next(word for word, means in ENDS.items() if means == conforms)
+    return next(word for word, means in VERDICTS.items() if means == conforms)
 
 
 @dataclass(frozen=True)
@@ -102,25 +102,25 @@ class Recordings:
 
 
 def links_of(said: str, pairs: list[Pair]) -> list[Recorded]:
-    """Answers the lines `link` of `afdx compare`. KeyError is raised if there is one of no pair."""
+    """Answers what `afdx compare` says of links. KeyError is raised if one is of no pair."""
     models = {(pair.link, pair.port): pair for pair in pairs}
     links = []
-    for line in printed.lines_of(printed.RECORDED, said):
-        counts = {word: int(line[word]) for word in (*AT_LINKS, "passed", "seen", "before", "after", "unsure", "bound")}
+    for row in printed.rows_of(said, "link"):
+        counts = {word: int(row[word]) for word in (*AT_LINKS, "passed", "seen", "before", "after", "unsure", "bound")}
         links.append(Recorded(
-            models[int(line["link"]), int(line["port"])], counts["passed"], counts["seen"],
+            models[int(row["link"]), int(row["port"])], counts["passed"], counts["seen"],
             {kind: counts[kind] for kind in AT_LINKS}, counts["before"], counts["after"], counts["unsure"],
-            printed.number(line["least"]), printed.number(line["greatest"]), counts["bound"]))
+            printed.number(row["least"]), printed.number(row["greatest"]), counts["bound"]))
     return links
 
 
 def ports_of(said: str, links: list[Recorded]) -> list[RecordedPort]:
-    """Answers the lines `out` of `afdx compare`, with the sums of the port's links."""
+    """Answers what `afdx compare` says of ports, with the sums of the port's links."""
     ports = []
-    for line in printed.lines_of(printed.SEEN, said):
-        own = [link for link in links if link.model.port == int(line["port"])]
+    for row in printed.rows_of(said, "out"):
+        own = [link for link in links if link.model.port == int(row["port"])]
         sums = {kind: sum(link.differences[kind] for link in own) for kind in AT_LINKS}
-        ports.append(RecordedPort(int(line["port"]), int(line["seen"]), {**sums, "foreign": int(line["foreign"])},
+        ports.append(RecordedPort(int(row["port"]), int(row["seen"]), {**sums, "foreign": int(row["foreign"])},
                                   sum(link.before for link in own), sum(link.after for link in own)))
     return ports
 
@@ -130,13 +130,13 @@ def read(compared: Compared, pairs: list[Pair], shown: list[Pair], fates: Fates,
     ValueError is raised if it is not of these pairs, or its numbers are not those of its file."""
     links = links_of(compared.said, pairs)
     ports = ports_of(compared.said, links)
-    span, *_ = printed.lines_of(printed.SPAN, compared.said)
-    begin, end = int(span["begin"]), int(span["end"])
+    (span,), (verdict,) = (printed.rows_of(compared.said, kind) for kind in ("span", "verdict"))
+    begin, end = int(span["from"]), int(span["until"])
     place = Place(begin, end, begin if fates.first is None else fates.first, fates.span(), parts)
     differences = Differences([port.port for port in ports], shown, compared.recordings.offsets(), place)
     read_differences(compared.rows, differences)
     found = {(port.port, kind): many for port in ports for kind, many in port.differences.items() if many}
-    conforms = ENDS[compared.said.splitlines()[-1]]
+    conforms = VERDICTS[verdict["verdict"]]
     if found != differences.many or conforms == bool(found):
         raise ValueError("other differences than compare counts")
     return Recordings(begin, end, conforms, links, ports, differences)

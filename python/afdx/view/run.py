@@ -37,8 +37,8 @@ Timed = TypeVar("Timed", bound=Sender)
 class Run:
     """Instants are ns after the first frame's stamp."""
     checked: bool
-    needs: list[dict[str, str]]  # the lines of `size`
-    occupied: list[dict[str, str]]  # the lines `out` of `measure`
+    needs: list[printed.Row]  # of `size`
+    occupied: list[printed.Row]  # of `measure`, of ports
     pairs: list[Pair]
     fates: Fates
     policed: Policed
@@ -52,7 +52,7 @@ class Run:
 
     @property
     def accepted(self) -> bool:
-        return all(need["breaks"] == "-" for need in self.needs)
+        return not any(need["breaks"] for need in self.needs)
 
 
 def shown_of(pairs: list[Timed], checked: bool, runs: int) -> list[Timed]:
@@ -98,5 +98,5 @@ def run_of(answers: Answers, table: Table, checked: bool, fates: Fates, runs: in
         columns = departures.columns_of(pairs, drawn, checked)
         departures.read(answers.departures, drawn, columns, fates.first + table.latency)
     recordings = recorded.read(answers.compared, pairs, shown, fates, parts) if answers.compared else None
-    return Run(checked, printed.lines_of(printed.PORT, answers.size),
-               printed.lines_of(printed.OCCUPIED, answers.measured), pairs, fates, policed, drawn, parts, recordings)
+    return Run(checked, printed.rows_of(answers.size), printed.rows_of(answers.measured, "buffer"), pairs, fates,
+               policed, drawn, parts, recordings)

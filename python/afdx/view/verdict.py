@@ -1,6 +1,7 @@
 """Finds what the page says first of a run."""
 from dataclasses import dataclass
 
+from afdx import printed
 from afdx.view.pairs import Pair
 from afdx.view.run import Run
 from afdx.view.spells import Babbling
@@ -33,7 +34,7 @@ class Verdict:
 
 def broken_of(run: Run) -> list[str]:
     """Names the ports that break rules; of many the first ones."""
-    broken = [f"port {need['port']} breaks {need['breaks']}" for need in run.needs if need["breaks"] != "-"]
+    broken = [f"port {need['port']} breaks {printed.listed(need['breaks'])}" for need in run.needs if need["breaks"]]
     more = len(broken) - NAMED
     return broken if more <= 0 else [*broken[:NAMED], f"{more:,} more port{'' if more == 1 else 's'}"]
 

@@ -12,5 +12,5 @@ needs_verdict o = o.verdict || o.fail_on.policed || o.fail_on.filtered || o.fail
 
 -- it has the text, and says whether there is one of what the run is to fail on
 pub record IsReportOf (options : RunOptions) (counts : Tally) (report : Report) : Type 0 where
-  pub text : string_bytes report.text ≡ text_of options.verdict counts
+  pub text : string_bytes report.text ≡ text_of options counts
   pub found : report.is_found ≡ is_found options.fail_on (verdict_of counts)

@@ -1,6 +1,7 @@
-"""Asks the questions that there are of a recording; each is answered by lines that afdx prints."""
+"""Asks the questions that there are of a recording; each is answered by comma-separated values that afdx writes."""
 from __future__ import annotations
 
+import csv
 import os
 import shutil
 from pathlib import Path
@@ -11,6 +12,7 @@ from afdx.campaign.worker.task import Task
 
 ASKS = ("survey", "run", "trace")
 KEEPS = ("none", "policed", "all")
+CSV = "--csv"
 
 
 def ask(task: Task, program: Program, scratch: Path) -> Said:
@@ -18,10 +20,10 @@ def ask(task: Task, program: Program, scratch: Path) -> Said:
     table, folder = task.table.files[0], task.recording.folder
     options = ("--unchecked",) if task.table.unchecked else ()
     if task.table.switches:
-        return run(task, program, scratch, ("network", "run", table, folder), ())
+        return run(task, program, scratch, ("network", "run", table, folder), (CSV,))
     if task.ask == "run":
-        return run(task, program, scratch, ("run", table, folder), options)
-    said = program("survey", table, folder, *options)
+        return run(task, program, scratch, ("run", table, folder), (*options, CSV))
+    said = program("survey", table, folder, *options, CSV)
     if task.ask == "survey" or said.status:
         return said
     traced = run(task, program, scratch, ("trace", table, folder), options, polices(said.text))
@@ -43,7 +45,8 @@ def run(task: Task, program: Program, scratch: Path, arguments: tuple[str, ...],
 
 def polices(report: str) -> bool:
     """Answers whether a report says of a link that its frames were policed."""
-    return any(" policed " in line and not line.endswith(" policed 0") for line in report.splitlines())
+    rows = csv.DictReader(report.splitlines())
+    return any(row["kind"] == "link" and row["policed"] != "0" for row in rows)
 
 
 def wanted(keeps: str, policed: bool) -> bool:

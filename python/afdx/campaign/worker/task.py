@@ -8,7 +8,7 @@ from dataclasses import dataclass
 from pathlib import Path
 from typing import Any
 
-FORM = 1  # of an answer; another form makes other keys
+FORM = 2  # of an answer; another form makes other keys
 PIECE = 1 << 20
 
 

@@ -12,6 +12,7 @@ from pathlib import Path
 
 from afdx import toml
 from afdx.failure import INPUT, Failure, failing
+from afdx.printed import CSV
 from afdx.program import Program
 from afdx.recordings.columns import SECOND, are_stamps, at_any
 from afdx.recordings.pcap import HEADER
@@ -42,22 +43,23 @@ class NetworkAnswers:
 
 
 def sizes_of(said: str) -> dict[str, str]:
-    """Answers the lines of each switch, as `size` prints them of its table."""
-    sizes: dict[str, list[str]] = {}
-    for line in said.splitlines():
-        own, _, switch = line.rpartition(", switch ")
-        sizes.setdefault(switch, []).append(f"{own}\n")
-    return {switch: "".join(lines) for switch, lines in sizes.items()}
+    """Answers the heading and the rows of each switch."""
+    heading, *rows = said.splitlines(keepends=True)
+    sizes: dict[str, str] = {}
+    for row in rows:
+        switch = row.partition(",")[0]
+        sizes[switch] = sizes.get(switch, heading) + row
+    return sizes
 
 
 def ask_size(program: Program, name: str, unchecked: bool) -> Asked:
     """Has the program check a network. One that is refused ends the command, unless it is to run unchecked."""
     if not unchecked:
-        said, refused = program.answer("network", "check", name), []
+        said, refused = program.answer("network", "check", name, CSV), []
     else:
-        answer = program.ask("network", "check", name)
+        answer = program.ask("network", "check", name, CSV)
         said, refused = answer.said, answer.line.splitlines() if answer.status else []
-    sizes = sizes_of(program.answer("network", "size", name))
+    sizes = sizes_of(program.answer("network", "size", name, CSV))
     layout = layout_of(toml.read(program.progress.command, Path(name)), Path(name).parent)
     tables = {switch: table_of(toml.read(program.progress.command, path)) for switch, path in layout.tables.items()}
     return Asked(name, not unchecked, said, refused, {switch: sizes.get(switch, "") for switch in tables}, layout,
@@ -129,7 +131,7 @@ def ask_switch(program: Program, asked: Asked, switch: str, folder: str, room: P
     options = [] if asked.checked else ["--unchecked"]
     traced.mkdir(parents=True)
     program.answer("trace", table, came, traced, *options)
-    return Answers(asked.sizes[switch], program.answer("measure", table, came, *options), traced)
+    return Answers(asked.sizes[switch], program.answer("measure", table, came, *options, CSV), traced)
 
 
 @contextmanager
@@ -140,6 +142,6 @@ def answered(program: Program, asked: Asked, folder: str) -> Iterator[NetworkAns
         room = Path(name)
         for switch in asked.tables:
             (room / "out" / switch).mkdir(parents=True)
-        report = program.answer("network", "run", asked.name, folder, room / "out", *options)
+        report = program.answer("network", "run", asked.name, folder, room / "out", *options, CSV)
         yield NetworkAnswers(report, {switch: ask_switch(program, asked, switch, folder, room)
                                       for switch in asked.tables})

@@ -54,22 +54,22 @@ class NetworkRun:
 
 def totals_of(asked: Asked, report: str) -> Totals:
     into, out_of = asked.layout.into(), asked.layout.out_of()
-    came, copies = printed.lines_of(printed.CAME, report), printed.lines_of(printed.COPIES, report)
-    frames = sum(int(line["seen"]) for line in came if Port(line["switch"], int(line["port"])) not in into)
-    sent = sum(int(line["sent"]) for line in copies if Port(line["switch"], int(line["port"])) not in out_of)
-    lost = sum(int(line["full"]) + int(line["aged"]) for line in copies)
-    policed = sum(int(line["policed"]) for line in printed.lines_of(printed.POLICED, report))
+    came, copies = printed.rows_of(report, "in"), printed.rows_of(report, "out")
+    frames = sum(int(row["seen"]) for row in came if Port(row["switch"], int(row["port"])) not in into)
+    sent = sum(int(row["sent"]) for row in copies if Port(row["switch"], int(row["port"])) not in out_of)
+    lost = sum(int(row["full"]) + int(row["aged"]) for row in copies)
+    policed = sum(int(row["policed"]) for row in printed.rows_of(report, "link"))
     return Totals(frames, sent, lost, policed)
 
 
 def loads_of(asked: Asked, runs: dict[str, Run], report: str) -> list[Load]:
     """Answers the loads of the ports that have links, in the order of the network file."""
     sent: Counter[Port] = Counter()
-    for line in printed.lines_of(printed.COPIES, report):
-        sent[Port(line["switch"], int(line["port"]))] += int(line["sent"])
+    for row in printed.rows_of(report, "out"):
+        sent[Port(row["switch"], int(row["port"]))] += int(row["sent"])
     wired, loads = asked.layout.out_of(), []
     for switch, run in runs.items():
-        held = {line["port"]: int(line["occupied"]) for line in run.occupied}
+        held = {row["port"]: int(row["occupied"]) for row in run.occupied}
         for need in run.needs:
             port = Port(switch, int(need["port"]))
             rate, limit, buffer, has = (int(need[name]) for name in ("rate", "rate_limit", "buffer", "buffer_limit"))
@@ -89,10 +89,10 @@ def share_time(fates: dict[str, Fates]) -> tuple[int | None, int]:
 
 def count_policed(found: list[Way], report: str) -> None:
     """Tells each way what became of its link's frames at the first switch."""
-    lines = {(line["switch"], int(line["link"])): line for line in printed.lines_of(printed.POLICED, report)}
+    rows = {(row["switch"], int(row["link"])): row for row in printed.rows_of(report, "link")}
     for way in found:
-        line = lines[way.start.switch, way.link]
-        way.passed, way.policed = int(line["passed"]), int(line["policed"])
+        row = rows[way.start.switch, way.link]
+        way.passed, way.policed = int(row["passed"]), int(row["policed"])
 
 
 def read(asked: Asked, answers: NetworkAnswers, progress: Progress) -> NetworkRun:

@@ -78,20 +78,22 @@ def measured_of(deliveries: Iterable[Delivered]) -> Measured:
 
 
 def checked_ways(asked: Asked) -> list[Way]:
-    """Answers the ways that `check` printed."""
+    """Answers the ways that `check` printed, but for those over which nothing comes."""
     ways = []
-    for line in printed.lines_of(printed.WAY, asked.said):
-        start, end, link = port_of(line["start"]), port_of(line["end"]), int(line["link"])
-        floor, bound = (int(line["least"]), int(line["most"])) if asked.checked else (None, None)
+    for row in printed.rows_of(asked.said):
+        if not row["ways"]:
+            continue
+        start, end, link = port_of(row["from"]), port_of(row["to"]), int(row["link"])
+        floor, bound = (int(row["least"]), int(row["most"])) if asked.checked else (None, None)
         ways.append(Way(link, start, end, asked.tables[end.switch].links[link].priority,
-                        [port_of(port) for port in line["ways"].split()],
-                        [int(jitter) for jitter in line["jitter"].split()], floor, bound))
+                        [port_of(port) for port in row["ways"].split(";")],
+                        [int(jitter) for jitter in row["jitter"].split(";")], floor, bound))
     return ways
 
 
 def lost_ends(asked: Asked) -> list[LostEnd]:
-    """Answers the ends that get nothing, as `check` printed them."""
-    return [LostEnd(int(line["link"]), port_of(line["end"])) for line in printed.lines_of(printed.LOST, asked.said)]
+    """Answers the ends that get nothing: their rows have no way."""
+    return [LostEnd(int(row["link"]), port_of(row["to"])) for row in printed.rows_of(asked.said) if not row["ways"]]
 
 
 def seen_ways(asked: Asked, frames: Frames, measured: Measured) -> list[Way]:

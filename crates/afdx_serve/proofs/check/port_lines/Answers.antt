@@ -24,7 +24,7 @@ loop-row-preserved c =
 pub returns : goal.returns
 returns c =
     let past : length c.ports-row-items.result.now ≤ c.loop-row.row-index = search rules in
-    subst (λ (ports : List PortRow). AreLinesOf c.args.table.now.latency c.args.table.now.links ports (string_bytes c.loop-row.text)) c.loop-row.invariant.all
+    subst (λ (ports : List PortRow). AreLinesOf c.args.form c.args.table.now.latency c.args.table.now.links ports (string_bytes c.loop-row.text)) c.loop-row.invariant.all
     (last_line _ c.ports-row-items.result.now c.loop-row.row-index _ past c.loop-row.invariant.lines)
 
 pub loop-row-init : goal.loop-row-init

@@ -14,13 +14,13 @@ use Rattle.afdx_serve.proofs.compare.compare.Goals as goal
 pub returns-in_err-table : goal.returns-in_err-table
 returns-in_err-table g c =
     of_error _ _ _ c.in_err-table.field-0.0 c.from_residual.ensures
-    (not_got_varying c.in_err-table.field-0.0 c.args.compare.now c.args.recordings.now _ _ _ _ _ _ c.in_err-table.ensures.same (Keeps-refl _) c.in_err-table.ensures.got)
+    (not_got_varying c.args.form c.in_err-table.field-0.0 c.args.compare.now c.args.recordings.now _ _ _ _ _ _ c.in_err-table.ensures.same (Keeps-refl _) c.in_err-table.ensures.got)
 
 pub returns-in_err-findings : goal.returns-in_err-findings
 returns-in_err-findings g c =
     let got = c.in_ok-table.ensures.got in
     of_error _ _ _ c.in_err-findings.field-0.0 c.from_residual-in_err-findings.ensures
-    (not_found_under c.in_err-findings.field-0.0 c.args.compare.now c.args.recordings.now _ _ _ _ _ _ _ _ _ got.0 c.in_ok-table.ensures.same got.1 c.in_err-findings.ensures.same (Keeps-refl _)
+    (not_found_under c.args.form c.in_err-findings.field-0.0 c.args.compare.now c.args.recordings.now _ _ _ _ _ _ _ _ _ got.0 c.in_ok-table.ensures.same got.1 c.in_err-findings.ensures.same (Keeps-refl _)
     c.in_err-findings.ensures.found)
 
 pub returns-in_err-text : goal.returns-in_err-text
@@ -38,7 +38,7 @@ returns-in_err-put_rows g c =
     is.0.0 c.in_err-put_rows.ensures in
     of_error _ _ _ c.in_err-put_rows.field-0.0 c.from_residual-in_err-put_rows.ensures
     (rows_not_put c.args.compare.now c.args.recordings.now _ _ _ _ _ _ _ _ _ found (KeepsFiles-trans _ _ _ c.in_ok-table.ensures.same c.in_ok-findings.ensures.same) (is.1 ∙ got.1)
-    c.in_err-put_rows.field-0.0 _ _ (Keeps-refl _) fails)
+    c.args.form c.in_err-put_rows.field-0.0 _ _ (Keeps-refl _) fails)
 
 pub returns-in_err-write_bytes : goal.returns-in_err-write_bytes
 returns-in_err-write_bytes g c =
@@ -51,7 +51,7 @@ returns-in_err-write_bytes g c =
     × (g.F.Folder.failed c.put_rows.new.folder ≡ settled_after (length (rows_names c.args.compare.now)) (g.F.Folder.failed c.find.new.folder)))
     is.0.0 c.in_ok-put_rows.ensures in
     let text = c.in_ok-text.ensures
-    ∙ ap (λ (r : Recordings). report_of r c.in_ok-findings.findings.from c.in_ok-findings.findings.until c.in_ok-findings.findings.comparison) is.0.0 in
+    ∙ ap (λ (r : Recordings). report_of c.args.form r c.in_ok-findings.findings.from c.in_ok-findings.findings.until c.in_ok-findings.findings.comparison) is.0.0 in
     let written = rw (c.as_bytes.ensures.value, text) at c.in_err-write_bytes.ensures.prefix in
     of_error _ _ _ Write c.from_residual-in_err-write_bytes.ensures (
       c.in_ok-findings.findings.from,
@@ -72,7 +72,7 @@ returns-then-conforms g c =
     × (g.F.Folder.failed c.put_rows.new.folder ≡ settled_after (length (rows_names c.args.compare.now)) (g.F.Folder.failed c.find.new.folder)))
     is.0.0 c.in_ok-put_rows.ensures in
     let text = c.in_ok-text.ensures
-    ∙ ap (λ (r : Recordings). report_of r c.in_ok-findings.findings.from c.in_ok-findings.findings.until c.in_ok-findings.findings.comparison) is.0.0 in
+    ∙ ap (λ (r : Recordings). report_of c.args.form r c.in_ok-findings.findings.from c.in_ok-findings.findings.until c.in_ok-findings.findings.comparison) is.0.0 in
     let written = rw (c.as_bytes.ensures.value, text) at c.in_ok-write_bytes.ensures.all in (
       c.in_ok-findings.findings.from,
       c.in_ok-findings.findings.until,
@@ -93,7 +93,7 @@ returns g c =
     × (g.F.Folder.failed c.put_rows.new.folder ≡ settled_after (length (rows_names c.args.compare.now)) (g.F.Folder.failed c.find.new.folder)))
     is.0.0 c.in_ok-put_rows.ensures in
     let text = c.in_ok-text.ensures
-    ∙ ap (λ (r : Recordings). report_of r c.in_ok-findings.findings.from c.in_ok-findings.findings.until c.in_ok-findings.findings.comparison) is.0.0 in
+    ∙ ap (λ (r : Recordings). report_of c.args.form r c.in_ok-findings.findings.from c.in_ok-findings.findings.until c.in_ok-findings.findings.comparison) is.0.0 in
     let written = rw (c.as_bytes.ensures.value, text) at c.in_ok-write_bytes.ensures.all in (
       c.in_ok-findings.findings.from,
       c.in_ok-findings.findings.until,

@@ -1,4 +1,4 @@
-use Rattle.std.proofs.Common.{◌≡◌, ◌∙◌, refl, get_or, sym, ap, subst, String, Global, string_bytes, arith}
+use Rattle.std.proofs.Common.{◌≡◌, ◌∙◌, refl, get_or, sym, ap, subst, String, Global, string_bytes}
 use Rattle.afdx_folder.specs.Files.{IsCause}
 use Rattle.afdx_serve.specs.Runs.{FailsToGet}
 use Rattle.afdx_serve.proofs.CompareLemmas.{unread_at, faulty_under}

@@ -1,4 +1,4 @@
-use Rattle.std.proofs.Common.{◌≡◌, ◌∙◌, map, length, String, Global, string_bytes}
+use Rattle.std.proofs.Common.{◌∙◌}
 use Rattle.afdx_serve.proofs.CompareLemmas.{as_many_clocks, found_under, not_opened}
 use Rattle.afdx_serve.proofs.Errors.{of_error}
 use Rattle.afdx_serve.proofs.compare.find.Goals as goal

@@ -1,4 +1,3 @@
-use Rattle.std.proofs.Common.{◌∙◌, sym}
 use Rattle.afdx_serve.proofs.CompareLemmas.{not_varying, is_varying, is_faulty}
 use Rattle.afdx_serve.proofs.Errors.{of_error}
 use Rattle.afdx_serve.proofs.compare.get_varying.Goals as goal

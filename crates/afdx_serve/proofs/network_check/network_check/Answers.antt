@@ -9,13 +9,13 @@ pub returns-in_err-network : goal.returns-in_err-network
 returns-in_err-network g c =
     let fails = c.in_err-network.ensures in
     of_error _ _ _ c.in_err-network.field-0.0 c.from_residual.ensures
-    (not_got c.args.path.now _ _ fails.same (Keeps-refl _) c.in_err-network.field-0.0 fails.got)
+    (not_got c.args.form c.args.path.now _ _ fails.same (Keeps-refl _) c.in_err-network.field-0.0 fails.got)
 
 pub returns-in_err-text : goal.returns-in_err-text
 returns-in_err-text g c =
     let got = c.in_ok-network.ensures in
     of_error _ _ _ c.in_err-text.field-0.0 c.from_residual-in_err-text.ensures
-    (not_accepted c.args.path.now _ _ got.same (Keeps-refl _) c.in_ok-network.network got.got.0 got.got.1 c.in_err-text.field-0.0 c.in_err-text.ensures)
+    (not_accepted c.args.form c.args.path.now _ _ got.same (Keeps-refl _) c.in_ok-network.network got.got.0 got.got.1 c.in_err-text.field-0.0 c.in_err-text.ensures)
 
 pub returns-in_err-write_bytes : goal.returns-in_err-write_bytes
 returns-in_err-write_bytes g c =

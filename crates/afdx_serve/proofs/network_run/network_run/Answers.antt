@@ -8,7 +8,7 @@ use Rattle.afdx_serve.proofs.Errors.{of_error}
 use Rattle.afdx_serve.proofs.FileLemmas.{KeepsFiles-trans}
 use Rattle.afdx_messages.specs.declared.failure.Failure.TheVariants.{Memory, Write}
 use Rattle.afdx_serve.specs.Networks.{names_of}
-use Rattle.afdx_serve.specs.NetworkRuns.{names_at, captures_of, reports_of}
+use Rattle.afdx_serve.specs.NetworkRuns.{names_at, captures_of, runs_text}
 use Rattle.afdx_serve.specs.Serving.{world, PutsNetwork}
 use Rattle.afdx_serve.proofs.NetworkRunLemmas.{IsLed, none_share_a_port, is_led, files_named, no_run, not_given, not_led, not_put_network, puts_network}
 use Rattle.afdx_serve.proofs.network_run.network_run.Given.{Over}
@@ -53,22 +53,22 @@ puts g c l names =
 -- and these are the reports
 text_is : (g : Over) (c : After-deref-11 g)
     → IsLed c.args.paths.now (g.F.Folder.files c.args.folder.now) c.in_ok-network.network (map string_bytes c.in_ok-names.names.items) c.in_ok-outcomes.outcomes.items
-    → c.deref-11.result.now ≡ reports_of (names_of c.in_ok-network.network.layout.switches) c.in_ok-outcomes.outcomes.items
+    → c.deref-11.result.now ≡ runs_text c.args.form (names_of c.in_ok-network.network.layout.switches) c.in_ok-outcomes.outcomes.items
 text_is g c l =
     let report = rw (c.deref-7.ensures.value, c.deref-8.ensures.value) at c.in_ok-text.ensures in
-    c.deref-11.ensures.value ∙ report ∙ ap (λ (all : Names). reports_of all c.in_ok-outcomes.outcomes.items) l.named
+    c.deref-11.ensures.value ∙ report ∙ ap (λ (all : Names). runs_text c.args.form all c.in_ok-outcomes.outcomes.items) l.named
 
 pub returns-in_err-network : goal.returns-in_err-network
 returns-in_err-network g c =
     let fails = c.in_err-network.ensures in
     of_error _ _ _ c.in_err-network.field-0.0 c.from_residual.ensures
-    (no_run c.in_err-network.field-0.0 c.args.paths.now _ _ _ _ fails.same _ _ (Keeps-refl _) (inl fails.got))
+    (no_run c.args.form c.in_err-network.field-0.0 c.args.paths.now _ _ _ _ fails.same _ _ (Keeps-refl _) (inl fails.got))
 
 pub returns-in_err-plan : goal.returns-in_err-plan
 returns-in_err-plan g c =
     let got = c.in_ok-network.ensures in
     of_error _ _ _ c.in_err-plan.field-0.0 c.from_residual-in_err-plan.ensures
-    (no_run c.in_err-plan.field-0.0 c.args.paths.now _ _ _ _ got.same _ _ (Keeps-refl _) (inr (c.in_ok-network.network, got.got.0, inl (c.in_err-plan.ensures, got.got.1))))
+    (no_run c.args.form c.in_err-plan.field-0.0 c.args.paths.now _ _ _ _ got.same _ _ (Keeps-refl _) (inr (c.in_ok-network.network, got.got.0, inl (c.in_err-plan.ensures, got.got.1))))
 
 pub returns-in_err-given : goal.returns-in_err-given
 returns-in_err-given g c =
@@ -76,7 +76,7 @@ returns-in_err-given g c =
     let planned = c.in_ok-plan.ensures in
     let fails = c.in_err-given.ensures in
     of_error _ _ _ c.in_err-given.field-0.0 c.from_residual-in_err-given.ensures
-    (not_given c.in_err-given.field-0.0 c.args.paths.now _ _ _ c.in_ok-network.network _ _ _ _ _ got.got.0 planned.0 c.network-2.ensures planned.2 got.same fails.same got.got.1 _ _
+    (not_given c.args.form c.in_err-given.field-0.0 c.args.paths.now _ _ _ c.in_ok-network.network _ _ _ _ _ got.got.0 planned.0 c.network-2.ensures planned.2 got.same fails.same got.got.1 _ _
     (Keeps-refl _)
     fails.got)
 
@@ -91,7 +91,7 @@ returns-in_err-outcomes g c =
     let planned = c.in_ok-plan.ensures in
     let given = c.in_ok-given.ensures in
     of_error _ _ _ c.in_err-outcomes.field-0.0 c.from_residual-in_err-outcomes.ensures
-    (not_led c.in_err-outcomes.field-0.0 c.args.paths.now _ _ _ c.in_ok-network.network _ _ (given_of c.in_ok-given.given.items) _ _ _ got.got.0 planned.0 c.network-2.ensures planned.2
+    (not_led c.args.form c.in_err-outcomes.field-0.0 c.args.paths.now _ _ _ c.in_ok-network.network _ _ (given_of c.in_ok-given.given.items) _ _ _ got.got.0 planned.0 c.network-2.ensures planned.2
     got.same
     given.same got.got.1 given.got.1 _ _ (Keeps-refl _) given.got.0.0 c.in_err-outcomes.ensures)
 
@@ -106,9 +106,9 @@ returns-in_err-files g c =
     let got = c.in_ok-network.ensures in
     of_error _ _ _ Memory c.from_residual-in_err-files.ensures (inl (KeepsFiles-trans _ _ _ got.same c.in_ok-given.ensures.same), Keeps-refl _)
 
-pub reports-requires : goal.reports-requires
-reports-requires g c =
-    let l = led g (goal.at.reports-requires g c).After-deref-6 in
+pub runs_text-requires : goal.runs_text-requires
+runs_text-requires g c =
+    let l = led g (goal.at.runs_text-requires g c).After-deref-6 in
     ap (λ (l : List (String Global)). length l) c.deref-7.ensures.value ∙ sym (length-map c.in_ok-names.names.items (λ (s : String Global). string_bytes s)) ∙ l.count
     ∙ sym (ap (λ (l : List Results). length l) c.deref-8.ensures.value)
 
@@ -140,7 +140,7 @@ returns-in_err-put_texts g c =
     let fails = rw (c.deref-9.ensures.value, c.deref-10.ensures.value) at c.in_err-put_texts.ensures in
     of_error _ _ _ c.in_err-put_texts.field-0.0 c.from_residual-in_err-put_texts.ensures
     (not_put_network c.args.paths.now c.in_ok-network.network c.in_ok-outcomes.outcomes.items _ _ _ _ _ _ _ _ l.leads (files_are g p.After-deref-8 l) c.in_ok-texts.ensures
-    (KeepsFiles-trans _ _ _ got.same given.same) (given.got.1 ∙ got.got.1) c.in_err-put_texts.field-0.0 _ _ (Keeps-refl _) fails)
+    (KeepsFiles-trans _ _ _ got.same given.same) (given.got.1 ∙ got.got.1) c.args.form c.in_err-put_texts.field-0.0 _ _ (Keeps-refl _) fails)
 
 pub returns-in_err-write_bytes : goal.returns-in_err-write_bytes
 returns-in_err-write_bytes g c =

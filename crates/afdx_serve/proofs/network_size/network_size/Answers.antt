@@ -10,7 +10,7 @@ pub returns-in_err-network : goal.returns-in_err-network
 returns-in_err-network g c =
     let fails = c.in_err-network.ensures in
     of_error _ _ _ c.in_err-network.field-0.0 c.from_residual.ensures
-    (network_not_got c.args.path.now _ _ fails.same (Keeps-refl _) c.in_err-network.field-0.0 fails.got)
+    (network_not_got c.args.form c.args.path.now _ _ fails.same (Keeps-refl _) c.in_err-network.field-0.0 fails.got)
 
 pub returns-in_err-write_bytes : goal.returns-in_err-write_bytes
 returns-in_err-write_bytes g c =

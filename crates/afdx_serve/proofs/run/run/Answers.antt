@@ -37,7 +37,7 @@ returns-in_err-write_bytes g c =
     let puts = rw c.deref-2.ensures.value at c.in_ok-put_all.ensures in
     let keeps = KeepsFiles-trans _ _ _ c.in_ok-plan.ensures.same c.in_ok-files.ensures.same in
     let put = rw l.named at puts (g.F.Folder.files c.args.folder.now) (bytes_of_captures l.results.captures) keeps (l.many ∙ length-map _ _) l.have in
-    let written = rw (c.as_bytes.ensures.value ∙ is.0.2.text ∙ ap (text_of c.args.options.now.verdict) l.counted) at c.in_err-write_bytes.ensures.prefix in
+    let written = rw (c.as_bytes.ensures.value ∙ is.0.2.text ∙ ap (text_of c.args.options.now) l.counted) at c.in_err-write_bytes.ensures.prefix in
     of_error _ _ _ Write c.from_residual-in_err-write_bytes.ensures
     (l.results, all_put c.args.paths.now l.results _ _ _ _ _ _ l.leads (KeepsFiles-refl _) (is.1 ∙ got.1) put.0 put.1 None None, written)
 
@@ -49,7 +49,7 @@ returns-then-report g c =
     let puts = rw c.deref-2.ensures.value at c.in_ok-put_all.ensures in
     let keeps = KeepsFiles-trans _ _ _ c.in_ok-plan.ensures.same c.in_ok-files.ensures.same in
     let put = rw l.named at puts (g.F.Folder.files c.args.folder.now) (bytes_of_captures l.results.captures) keeps (l.many ∙ length-map _ _) l.have in
-    let written = rw (c.as_bytes.ensures.value ∙ is.0.2.text ∙ ap (text_of c.args.options.now.verdict) l.counted) at c.in_ok-write_bytes.ensures.all in
+    let written = rw (c.as_bytes.ensures.value ∙ is.0.2.text ∙ ap (text_of c.args.options.now) l.counted) at c.in_ok-write_bytes.ensures.all in
     let found = sym (is.0.2.found ∙ ap (λ (counts : Tally). is_found c.args.options.now.fail_on (verdict_of counts)) l.counted) ∙ c.if-report.true in
     (l.results, all_put c.args.paths.now l.results _ _ _ _ _ _ l.leads (KeepsFiles-refl _) (is.1 ∙ got.1) put.0 put.1 None None, written, found)
 
@@ -61,6 +61,6 @@ returns g c =
     let puts = rw c.deref-2.ensures.value at c.in_ok-put_all.ensures in
     let keeps = KeepsFiles-trans _ _ _ c.in_ok-plan.ensures.same c.in_ok-files.ensures.same in
     let put = rw l.named at puts (g.F.Folder.files c.args.folder.now) (bytes_of_captures l.results.captures) keeps (l.many ∙ length-map _ _) l.have in
-    let written = rw (c.as_bytes.ensures.value ∙ is.0.2.text ∙ ap (text_of c.args.options.now.verdict) l.counted) at c.in_ok-write_bytes.ensures.all in
+    let written = rw (c.as_bytes.ensures.value ∙ is.0.2.text ∙ ap (text_of c.args.options.now) l.counted) at c.in_ok-write_bytes.ensures.all in
     let found = sym (is.0.2.found ∙ ap (λ (counts : Tally). is_found c.args.options.now.fail_on (verdict_of counts)) l.counted) ∙ c.if-report.false in
     (l.results, all_put c.args.paths.now l.results _ _ _ _ _ _ l.leads (KeepsFiles-refl _) (is.1 ∙ got.1) put.0 put.1 None None, written, found)

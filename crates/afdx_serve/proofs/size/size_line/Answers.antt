@@ -1,7 +1,8 @@
-use Rattle.std.proofs.Common.{ℕ, List, ◌++◌, ap, ◌∙◌}
+use Rattle.std.proofs.Common.{Bor, ℕ, List, ◌++◌, ap, ◌∙◌}
+use Rattle.std.specs.Prelude.{option_map}
 use Rattle.afdx_load.specs.Fits.{broken_rules}
 use Rattle.afdx_wiring.specs.Lines.{as_line}
-use Rattle.afdx_serve.specs.Sizes.{verdict_text, delays_text}
+use Rattle.afdx_serve.specs.Sizes.{verdict_text, delays_text, of_switch}
 use Rattle.afdx_serve.proofs.size.size_line.Goals as goal
 
 pub returns : goal.returns
@@ -10,5 +11,5 @@ returns c =
     let load = c.args.load.now in
     let delays = c.in_ok-push_delays.ensures ∙ ap (λ (t : List ℕ). t ++ delays_text row load) c.in_ok-line.ensures in
     let verdict = c.in_ok-push_verdict.ensures ∙ ap (λ (t : List ℕ). t ++ verdict_text (broken_rules row load)) delays in
-    let more = c.in_ok-push_str.ensures.bytes ∙ ap (λ (t : List ℕ). t ++ c.args.more.now) verdict in
-    (c.least_buffer-least.result, c.least_buffer-least.ensures, c.in_ok-push_str-2.ensures.bytes ∙ ap as_line more)
+    let switch = c.in_ok-push_switch.ensures ∙ ap (λ (t : List ℕ). t ++ of_switch (option_map (λ (name : Bor (List ℕ)). name.now) c.args.switch)) verdict in
+    c.in_ok-push_str.ensures.bytes ∙ ap as_line switch

@@ -1,9 +1,14 @@
-use Rattle.std.proofs.Common.{◌<◌, ◌≤◌, ℕ, List, ◌++◌, length, string_bytes, ap, subst, ◌∙◌, rules}
+use Rattle.std.proofs.Common.{Bor, Option, ◌<◌, ◌≤◌, ℕ, List, ◌++◌, length, string_bytes, ap, subst, ◌∙◌, rules}
+use Rattle.std.specs.Prelude.{option_map}
 use Rattle.std.proofs.lemmas.List.Elements.{Contains-get_or}
 use Rattle.afdx_table.specs.declared.rows.PortRow.{PortRow}
 use Rattle.afdx_serve.specs.Sizes.{AreSizesOf}
 use Rattle.afdx_serve.proofs.CheckLemmas.{one_more_line, last_line}
 use Rattle.afdx_serve.proofs.size.sizes_text.Goals as goal
+
+-- the name of the switch, where there is one
+abbrev named : Option (Bor (List ℕ)) → Option (List ℕ)
+named = option_map (λ name. name.now)
 
 pub port_size-requires : goal.port_size-requires
 port_size-requires c =
@@ -24,5 +29,6 @@ loop-row-preserved c =
 pub returns : goal.returns
 returns c =
     let past : length c.ports-row-items.result.now ≤ c.loop-row.row-index = search rules in
-    subst (λ (ports : List PortRow). AreSizesOf c.args.more.now c.args.table.now.latency c.args.table.now.links ports (string_bytes c.loop-row.text)) c.loop-row.invariant.all
+    subst (λ (ports : List PortRow). AreSizesOf c.args.form (named c.args.switch) c.args.table.now.latency c.args.table.now.links ports (string_bytes c.loop-row.text))
+    c.loop-row.invariant.all
     (last_line _ c.ports-row-items.result.now c.loop-row.row-index _ past c.loop-row.invariant.lines)

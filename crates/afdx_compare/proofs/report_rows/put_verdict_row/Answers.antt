@@ -1,0 +1,11 @@
+use Rattle.std.proofs.Common.{◌≡◌, ◌++◌, ℕ, List, [], ◌∷◌, codes, string_bytes, subst}
+use Rattle.std.specs.Prelude.{OnOk}
+use Rattle.afdx_csv.specs.Csv.{row}
+use Rattle.afdx_compare.specs.ReportRows.{report_columns}
+use Rattle.afdx_compare.proofs.report_rows.put_verdict_row.Goals as goal
+
+pub returns : goal.returns
+returns g c =
+    subst (λ (fields : List (List ℕ × List ℕ)). OnOk c.put_row.result (string_bytes c.put_row.new.text ≡ string_bytes c.args.text.now ++ row report_columns fields))
+    (λ i. (codes "kind", codes "verdict") ∷ (codes "verdict", c.verdict_word.ensures i) ∷ [])
+    c.put_row.ensures

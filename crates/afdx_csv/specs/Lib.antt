@@ -1,0 +1,2 @@
+pub mod Csv
+pub mod Slack

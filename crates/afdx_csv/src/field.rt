@@ -1,0 +1,44 @@
+//! One field.
+
+ghost use Rattle.std.specs.Prelude.{◌≡◌, ◌++◌, string_bytes, OnOk};
+ghost use Rattle.afdx_csv.specs.Csv.{text_of};
+
+use std::alloc::{AllocError, Allocator};
+
+/// What a row has in a column.
+#[derive(Clone, Copy, Debug, PartialEq, Eq)]
+pub enum Field<'a> {
+    /// A number; nothing where there is none.
+    Number(Option<u128>),
+    /// A number below 0 by so much.
+    Below(u128),
+    /// A word, without commas, quotes and line feeds.
+    Word(&'a str),
+}
+
+/// Appends a number; nothing where there is none.
+fn put_number<A: Allocator + Copy>(
+    text: &mut String<A>,
+    number: Option<u128>,
+) -> Result<(), AllocError>
+    ensures { OnOk result (string_bytes text.new ≡ string_bytes text.old ++ text_of (Field.Number number)) }
+{
+    match number {
+        Some(number) => write!(text, "{number}"),
+        None => Ok(()),
+    }
+}
+
+/// Appends a field.
+pub(crate) fn put_field<A: Allocator + Copy>(
+    text: &mut String<A>,
+    field: Field<'_>,
+) -> Result<(), AllocError>
+    ensures { OnOk result (string_bytes text.new ≡ string_bytes text.old ++ text_of field.entry) }
+{
+    match field {
+        Field::Number(number) => put_number(text, number),
+        Field::Below(number) => write!(text, "-{number}"),
+        Field::Word(word) => text.push_str(word),
+    }
+}

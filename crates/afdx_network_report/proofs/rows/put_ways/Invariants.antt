@@ -1,0 +1,8 @@
+use Rattle.std.proofs.Common.{◌≡◌, ◌++◌, drop, map, string_bytes}
+use Rattle.std.specs.Prelude.{flat_map}
+use Rattle.afdx_network_report.specs.Rows.{way_row}
+use Rattle.afdx_network_report.proofs.rows.put_ways.Given as goal
+
+abbrev pub invariant-loop-way : goal.invariant-loop-way
+invariant-loop-way l = string_bytes l.initial.text ++ flat_map (way_row (map string_bytes l.names)) l.ways
+    ≡ string_bytes l.text ++ flat_map (way_row (map string_bytes l.names)) (drop l.way-index l.ways)

@@ -1,0 +1,10 @@
+use Rattle.std.proofs.Common.{◌≡◌, ◌++◌, drop, string_bytes}
+use Rattle.std.specs.Prelude.{flat_map}
+use Rattle.afdx_rows.specs.Spells.{spell_row}
+use Rattle.afdx_rows.proofs.Columns.{names_in}
+use Rattle.afdx_rows.proofs.surveyed.put_spells.Given as goal
+
+abbrev pub invariant-loop-spell : goal.invariant-loop-spell
+invariant-loop-spell g l =
+    string_bytes l.initial.text ++ flat_map (spell_row (names_in l.columns) l.link) l.spells
+    ≡ string_bytes l.text ++ flat_map (spell_row (names_in l.columns) l.link) (drop l.spell-index l.spells)

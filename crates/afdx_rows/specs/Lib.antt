@@ -1,0 +1,4 @@
+pub mod Counts
+pub mod Delays
+pub mod Loads
+pub mod Spells

@@ -1,0 +1,15 @@
+//! What is reported of tables and of runs, as comma-separated values.
+//!
+//! Each row has a field for each thing that the line of a report names, beside the name of its column. A heading names the columns; those
+//! that a row has no field for are empty in it.
+#![tactic(auto)]
+
+mod counted;
+mod delayed;
+mod loaded;
+mod surveyed;
+
+pub use counted::{NETWORK_RUN, RUN, put_counts, put_verdict};
+pub use delayed::{MEASURE, put_measures};
+pub use loaded::{CHECK, NETWORK_SIZE, SIZE, put_check, put_size};
+pub use surveyed::{SURVEY, put_survey};

@@ -1,0 +1,4 @@
+use Rattle.afdx_serve.proofs.serving.perform.Goals as goal
+
+pub returns-in-Survey : goal.returns-in-Survey
+returns-in-Survey g c = rw c.in-Survey.is c.survey.ensures

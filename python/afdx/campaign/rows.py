@@ -1,0 +1,63 @@
+"""Reads the rows that afdx writes of a run, as numbers, all in one pass: there may be millions."""
+import csv
+from dataclasses import dataclass, field
+
+from afdx.printed import number
+
+Number = int | None
+Row = tuple[Number, ...]
+Place = tuple[str, int]  # switch and port
+
+FILTERED = ("cut", "short", "long", "foreign", "no_link", "wrong_port", "too_big")
+INGRESS = ("seen", *FILTERED, "clean")
+EGRESS = ("offered", "full", "aged", "sent")
+HELD = ("occupied", "buffer", "occupied_at")
+PORT = (*INGRESS, *(f"{priority}_{word}" for priority in ("high", "low") for word in EGRESS), *HELD)
+BEGIN = {"in": 0, "high": len(INGRESS), "low": len(INGRESS) + len(EGRESS), "buffer": len(PORT) - len(HELD)}
+COLUMNS = {"in": tuple(word.replace("_", "-") for word in INGRESS), "high": EGRESS, "low": EGRESS,
+           "buffer": ("occupied", "buffer", "at")}
+
+
+@dataclass
+class Rows:
+    """What the rows say. The switch is empty of a single one."""
+    links: list[tuple[str, Number, Number, Number]] = field(default_factory=list)  # switch, link, passed, policed
+    delays: list[tuple[str, Number, Number, Number, Number, Number, Number]] = field(default_factory=list)
+    spells: list[tuple[str, Number, Number, Number, Number, Number, Number]] = field(default_factory=list)
+    ports: dict[Place, list[Number]] = field(default_factory=dict)  # in the order of PORT
+
+    def port(self, switch: str, row: dict[str, str], kind: str) -> None:
+        """Notes some of the numbers of a port."""
+        values = [number(row[column]) for column in COLUMNS[kind]]
+        noted = self.ports.setdefault((switch, int(row["port"])), [None] * len(PORT))
+        noted[BEGIN[kind]:BEGIN[kind] + len(values)] = values
+
+
+def rows_of(text: str) -> Rows:
+    """Reads the rows of the report, of `measure` and of spells; of a network each names its switch."""
+    rows = Rows()
+    reader = csv.reader(text.splitlines())
+    heading: list[str] = next(reader, [])
+    for fields in reader:
+        read(rows, dict(zip(heading, fields)))
+    return rows
+
+
+def read(rows: Rows, row: dict[str, str]) -> None:
+    """Reads a row by its kind; those of another kind are for others."""
+    switch = row.get("switch", "")
+    match row["kind"]:
+        case "in" | "buffer" as kind:
+            rows.port(switch, row, kind)
+        case "out":
+            rows.port(switch, row, row["priority"])
+        case "delays":
+            link, port, sent = (int(row[column]) for column in ("link", "port", "sent"))
+            least, greatest, bound = (number(row[column]) for column in ("least", "greatest", "bound"))
+            rows.delays.append((switch, link, port, sent, least, greatest, bound))
+        case "link":
+            rows.links.append((switch, int(row["link"]), int(row["passed"]), int(row["policed"])))
+        case "spell":
+            link, begin, end, frames, least, greatest = (int(row[column]) for column in (
+                "link", "from", "to", "policed", "least_early", "greatest_early"))
+            rows.spells.append((switch, link, begin, end, frames, least, greatest))
