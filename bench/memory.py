@@ -1,7 +1,8 @@
 #!/usr/bin/env python3
-"""Fails if the memory of `afdx run`, `measure` or `survey` grows with the frames of its captures, or that of `network run` by too much.
+"""Fails if the memory of `afdx run`, `measure`, `survey` or `compare` grows with the frames of captures, or that of `network run` too much.
 
-One link sends a frame each millisecond, so at most one frame is in flight, and whatever is kept of the frames before it shows.
+One link sends a frame each millisecond, so at most one frame is in flight, and whatever is kept of the frames before it shows. `compare`
+reads them beside what the run made of them, so all its bounds close soon after each frame.
 The peak is the greater of the program's and this script's own, about 15 MB, and each count of frames is so large that 4 bytes kept
 for each of them would pass the limit. Then links send bursts of large frames to 23 ports, ten seconds apart: what waits at the ports
 leaves in the silence after each. Last `network run` has the link cross two switches. It keeps all captures, so its memory grows with
@@ -17,7 +18,8 @@ from measure import AFDX, measured, write_capture
 from captures import HEADER, SECOND, frame, record
 
 MILLISECOND = 1_000_000
-COMMANDS: dict[str, list[str]] = {"run": ["out"], "measure": [], "survey": []}  # with their folders beside that of the captures
+# the words behind the table and the captures, in an order in which what `run` writes is there for `compare`
+COMMANDS: dict[str, list[str]] = {"run": ["{}/out"], "measure": [], "survey": [], "compare": ["{}/out", "--stamps", "free"]}
 COUNTS = {64: (2_000_000, 4_000_000), 1518: (100_000, 200_000)}  # frames, by their size: 152 and 304 MB
 MOST = 20.0  # megabytes at the peak
 GROWTH = 1.0  # megabytes between a count and its double
@@ -97,8 +99,8 @@ def peaks_of(afdx: str, room: str, count: int, size: int) -> dict[str, float]:
     """Returns the megabytes that each command takes at its peak for so many frames."""
     write_capture(f"{room}/in/port-1.pcap", count, size, MILLISECOND)
     peaks: dict[str, float] = {}
-    for command, folders in COMMANDS.items():
-        arguments = [afdx, command, f"{room}/table.toml", f"{room}/in", *(f"{room}/{folder}" for folder in folders)]
+    for command, words in COMMANDS.items():
+        arguments = [afdx, command, f"{room}/table.toml", f"{room}/in", *(word.format(room) for word in words)]
         _, _, peaks[command] = measured(arguments, f"{room}/table.toml", f"{room}/report")
     return peaks
 

@@ -211,5 +211,14 @@ def answers_of(link: Link, watch: Watch, came: list[Record], outs: Outs) -> tupl
     return [answer_at(watch, line, own, fates, out) for line, out in outs], unsure
 
 
+def is_clear(watch: Watch, line: Line, own: list[Record]) -> bool:
+    """Whether each record at a port can be of one of these frames only: by the stamps none has left when it comes, whatever these are off
+    by, and frames of the same bytes come a bound apart. Where all is known of the account they may come as they like."""
+    later = all(watch.tolerance < watch.least + (frame.size + model.LINE_OVERHEAD) * line.tick for frame in own)
+    differ = all(one.data != other.data or one.stamp + most(watch, line) <= other.stamp
+                 for place, one in enumerate(own) for other in own[place + 1:])
+    return later and (differ or watch.start is None and watch.tolerance == 0)
+
+
 def conforms(found: Found) -> bool:
     return not any(found[kind] for kind in ("early", "late", "missing", "extra"))

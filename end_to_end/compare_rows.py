@@ -5,7 +5,7 @@ import dataclasses
 import random
 import sys
 
-from compare_model import Line, Watch, answers_of, conforms, is_kept
+from compare_model import Line, Outs, Watch, answers_of, conforms, is_clear, is_kept, within
 from model import Link, Record
 from model_rows import differing, same
 
@@ -87,29 +87,62 @@ def noise() -> None:
     row("unsure, and not seen", Watch(tolerance=25), [A, soon], [good(A)], kept=[(1, 1)], unsure=1)
 
 
-def by_chance(seed: int) -> bool:
-    """Small recordings: what conforms has a witness, and where all bytes differ, what has one conforms."""
+def beyond_what_is_told_apart() -> None:
+    """Records that some choice explains and that differ all the same, since they may be of more frames than one."""
+    one, other = (1_106_169, "A"), (1_106_170, "A")  # at one port a record of either left, at the other only one of the second could
+    for name, watch, came, lefts in (
+            ("equal frames a nanosecond apart", CUT, [one, other], [[good(other)], [(other[0] + LINE.bound, "A")]]),
+            ("a record that left before its frame came, by the stamps", Watch(start=1_000_000, tolerance=20_000), [(1_050_000, "A")],
+             [[(1_040_000, "A"), (1_056_720, "A")]])):
+        frames = records(came)
+        outs: Outs = [(LINE, records(left)) for left in lefts]
+        found, _ = answers_of(LINK, watch, frames, outs)
+        answer = all(conforms(at_port) for at_port in found)
+        same(name, (is_kept(LINK, watch, frames, outs), answer, is_clear(watch, LINE, frames)), (True, False, False))
+
+
+def stamps_by_chance(draw: random.Random) -> list[int]:
+    """Up to five instants, some of them soon after others."""
+    stamps: list[int] = []
+    for _ in range(draw.randrange(6)):
+        soon = [stamp + draw.choice([0, 1, 5_000, 23_000, 40_000, 100_000]) for stamp in stamps]
+        stamps.append(draw.choice(soon) if soon and draw.random() < 0.3 else draw.randrange(700_000, 3_600_000))
+    return sorted(stamps)
+
+
+def out_by_chance(draw: random.Random, watch: Watch, line: Line, came: list[Record]) -> list[Record]:
+    """What left of most of these frames, at the edges of their bounds, and at times a record of none."""
+    gap, left = watch.gap * line.tick, []
+    for frame in came:
+        if draw.random() < 0.75:
+            first = watch.least + 84 * line.tick
+            last = line.bound + watch.tolerance - gap
+            delay = draw.choice([first, first - watch.tolerance, line.bound - gap, line.bound, last, line.bound + 1])
+            left.append(dataclasses.replace(frame, stamp=max(0, frame.stamp + delay)))
+    if draw.random() < 0.2:
+        left += records([(draw.randrange(900_000, 3_600_000), draw.choice("AX"))])
+    return sorted(left, key=lambda record: record.stamp)
+
+
+def by_chance(seed: int) -> tuple[bool, bool]:
+    """Small recordings: what conforms has a witness, and what has one conforms where each record can be of one frame only. Whether it has
+    one, and whether each can."""
     draw = random.Random(seed)
     link = dataclasses.replace(LINK, jitter=draw.choice([0, 300_000]), police=draw.choice(["byte", "frame"]))
-    line = Line(80, draw.choice([22_720, 400_000]))
-    watch = Watch(tolerance=draw.choice([0, 0, 25, 20_000]), gap=draw.choice([0, 12]), start=draw.choice([None, 1_000_000]),
-                  until=draw.choice([None, 3_500_000]))
-    differ = draw.random() < 0.6
-    stamps = sorted(draw.randrange(700_000, 3_600_000) for _ in range(draw.randrange(6)))
-    came = records([(stamp, chr(65 + number) if differ else draw.choice("AB")) for number, stamp in enumerate(stamps)])
-    left = []
-    for frame in came:
-        if draw.random() < 0.7:
-            delay = draw.choice([5_760, 6_720, line.bound - 960, line.bound, line.bound + 1])
-            left.append(dataclasses.replace(frame, stamp=frame.stamp + delay))
-    if draw.random() < 0.2:
-        left += records([(draw.randrange(900_000, 3_600_000), "X")])
-    left.sort(key=lambda record: record.stamp)
-    (found,), _ = answers_of(link, watch, came, [(line, left)])
-    kept = is_kept(link, watch, came, [(line, left)])
-    if conforms(found) and not kept or differ and kept and not conforms(found):
+    watch = Watch(least=draw.choice([0, 0, 5_000]), tolerance=draw.choice([0, 0, 25, 3_000, 20_000]), gap=draw.choice([0, 12]),
+                  start=draw.choice([None, 1_000_000]), until=draw.choice([None, 3_500_000]))
+    differ = draw.random() < 0.4
+    came = records([(stamp, chr(65 + number) if differ else draw.choice("AB")) for number, stamp in enumerate(stamps_by_chance(draw))])
+    lines = [Line(draw.choice([80, 800]), draw.choice([22_720, 70_000, 400_000])) for _ in range(draw.choice([1, 1, 2]))]
+    outs: Outs = [(line, out_by_chance(draw, watch, line, came)) for line in lines]
+    found, _ = answers_of(link, watch, came, outs)
+    answer = all(conforms(at_port) for at_port in found)
+    kept = is_kept(link, watch, came, outs)
+    own, _ = within(watch, came, outs)
+    clear = all(is_clear(watch, line, own) for line in lines)
+    if answer and not kept or clear and kept and not answer:
         differing.append(f"seed {seed}: found {found}, by all choices {kept}")
-    return kept
+    return kept, clear
 
 
 def main() -> int:
@@ -118,11 +151,13 @@ def main() -> int:
     ends_of_recordings()
     levels()
     noise()
+    beyond_what_is_told_apart()
     count = int(sys.argv[1]) if len(sys.argv) > 1 else 3000
-    kept = sum(by_chance(seed) for seed in range(count))
+    by_seed = [by_chance(seed) for seed in range(count)]
     for line in differing:
         print(line)
-    print(f"{count} recordings by chance, {kept} of which conform; {len(differing)} differ")
+    kept, clear = (sum(which) for which in zip(*by_seed))
+    print(f"{count} recordings by chance, {kept} of which conform, {clear} told apart; {len(differing)} differ")
     return 1 if differing else 0
 
 

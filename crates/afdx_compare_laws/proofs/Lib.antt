@@ -1,5 +1,12 @@
+pub mod Alone
+pub mod Comparing
+pub mod Conforming
 pub mod Cutting
+pub mod Fates
+pub mod Fine
 pub mod Fitting
+pub mod Merges
 pub mod Narrowing
 pub mod Spans
 pub mod Surplus
+pub mod Told

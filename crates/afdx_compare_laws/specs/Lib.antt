@@ -1,2 +1,7 @@
+pub mod Alone
+pub mod Comparing
+pub mod Conforming
+pub mod Fates
+pub mod Fine
 pub mod Spans
 pub mod Surplus

@@ -1,12 +1,18 @@
 //! Laws over the definitions: functions that call laws of lower crates, whose contracts are the laws.
 
+ghost use Rattle.afdx_compare_laws.specs.Alone.{RowsAreAlone};
+ghost use Rattle.afdx_compare_laws.specs.Comparing.{KeptIsConforms};
+ghost use Rattle.afdx_compare_laws.specs.Conforming.{KeptLinkConforms};
+ghost use Rattle.afdx_compare_laws.specs.Fates.{ToldFatesExplain};
+ghost use Rattle.afdx_compare_laws.specs.Fine.{KeptIsFine};
 ghost use Rattle.afdx_compare_laws.specs.Spans.{EachSpanIsKept, OurSpansAreKept};
 ghost use Rattle.afdx_compare_laws.specs.Surplus.{NoSurplusHides};
 
 use afdx_compare::laws::exactly_is_isolated;
 use afdx_filter::laws::clean_frames_have_a_link;
-use afdx_levels::laws::surplus_is_jitter;
-use afdx_table::laws::links_are_found;
+use afdx_levels::laws::{at_rest_is_the_account, surplus_is_jitter, told_is_allowed};
+use afdx_load::laws::high_links_leave_a_part;
+use afdx_table::laws::{links_are_at_their_places, links_are_found, ports_are_found};
 
 /// Of what recordings keep to, a link's frames that passed are passed by its policing with a jitter that is twice the tolerance more: no
 /// other surplus hides, whatever its account had where they begin.
@@ -34,4 +40,50 @@ pub fn our_spans_are_kept()
 {
     exactly_is_isolated();
     each_span_is_kept();
+}
+
+/// What is found out of a link, and with it its lines and its rows, rests on what came at its own port and on what left at the ports that it
+/// leads to: whatever other captures hold, it is the same.
+pub fn rows_are_alone()
+    ensures { RowsAreAlone }
+{
+    clean_frames_have_a_link();
+    links_are_at_their_places();
+}
+
+/// Where the records of a port are what left of the passed frames, nothing that is told of it speaks against the switch: the other direction of
+/// what `afdx_pairing` promises, where by the stamps no frame has left when it comes.
+pub fn kept_is_fine()
+    ensures { KeptIsFine }
+{}
+
+/// Where some fates of a link's frames explain what left at its ports, those do that are told, if each record can be of one frame only or all is
+/// known of the account.
+pub fn told_fates_explain()
+    ensures { ToldFatesExplain }
+{
+    told_is_allowed();
+    at_rest_is_the_account();
+}
+
+/// Where some fates of a link's frames explain all records that it was told of, the link conforms: the other direction of what `afdx_following`
+/// promises, if its fates can be told, and it was told of nothing that is more than a bound past the records' end.
+pub fn kept_link_conforms()
+    ensures { KeptLinkConforms }
+{
+    told_is_allowed();
+    at_rest_is_the_account();
+}
+
+/// What recordings keep to is said to conform, where no record is foreign: the other direction of what `afdx_compare` promises, with the premises
+/// of `kept_link_conforms` of each link.
+pub fn kept_is_conforms()
+    ensures { KeptIsConforms }
+{
+    clean_frames_have_a_link();
+    links_are_at_their_places();
+    links_are_found();
+    ports_are_found();
+    high_links_leave_a_part();
+    kept_link_conforms();
 }

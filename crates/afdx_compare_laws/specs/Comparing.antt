@@ -1,0 +1,48 @@
+-- Recordings that keep to what is proved of our switch are said to conform (profile).
+use Rattle.std.specs.Prelude.{◌≡◌, ◌⊎◌, ℕ, ◌-◌, ◌≤◌, ◌==◌, Bool, true, List, Some, slice_get}
+use Rattle.std.specs.List.{AllByRecursion, list_all}
+use Rattle.afdx_pcap.specs.Record.{Record}
+use Rattle.afdx_table.specs.Link.{Link}
+use Rattle.afdx_table.specs.Content.{Content}
+use Rattle.afdx_table.specs.WellFormed.{IsWellFormed}
+use Rattle.afdx_grouping.specs.Scatter.{IsAcceptedWith}
+use Rattle.afdx_pairing.specs.Limits.{most_of}
+use Rattle.afdx_following.specs.declared.watch.Watch.{Watch}
+use Rattle.afdx_following.specs.declared.watch.Start.TheVariants.{Rest}
+use Rattle.afdx_following.specs.Watch.{last_record}
+use Rattle.afdx_following.specs.Output.{last_at}
+use Rattle.afdx_following.specs.Watched.{Watched}
+use Rattle.afdx_merging.specs.Merge.{Arrival, last_instant, IsMergeOf}
+use Rattle.afdx_recordings.specs.declared.recordings.Recordings.{Recordings}
+use Rattle.afdx_compare.specs.Comparison.{Comparison, IsBegun, with_until, with_end, conform}
+use Rattle.afdx_compare.specs.Sources.{sources_of}
+use Rattle.afdx_compare.specs.Arrivals.{with_arrivals}
+use Rattle.afdx_compare.specs.Within.{own_within, IsKeptWithin}
+use Rattle.afdx_compare.specs.Inner.Laws.{watch_within, recorded_ports, came_in, left_out}
+use Rattle.afdx_compare_laws.specs.Fine.{LeavesLater, IsByEnd}
+use Rattle.afdx_compare_laws.specs.Fates.{AllDiffer}
+
+-- all was at rest at first, and stamps are not off
+pub record IsExact (w : Watch) : Type 0 where
+  pub rest : w.start ≡ Rest
+  pub exact : w.tolerance ≡ 0
+
+-- of a link of these own frames, once all arrived: at its ports by the stamps no frame has left when it comes; frames of the same bytes came a bound
+-- apart, or all is exact; and the last of which it was told is at most a bound past the records' end
+pub record IsClear (w : Watch) (own : List Record) (f : Watched) : Type 0 where
+  pub later : AllByRecursion (λ o. AllByRecursion (LeavesLater o.limits) own) f.outputs
+  pub apart : AllByRecursion (λ o. AllDiffer (most_of o.limits) own) f.outputs ⊎ IsExact w
+  pub in_time : AllByRecursion (λ o. IsByEnd o.limits (last_at o.limits (last_record w)) (f.latest - o.limits.tolerance)) f.outputs
+
+abbrev pub AreClear : Watch → Content → List (List Record) → Comparison → Type 0
+AreClear w t captures all = (place : ℕ) (l : Link) (f : Watched) → slice_get t.links place ≡ Some l → slice_get all.links place ≡ Some f
+    → IsClear w (own_within w t l (came_in t.ports captures)) f
+
+-- where no record is foreign, what recordings keep to is said to conform
+abbrev pub KeptIsConforms : Type 0
+KeptIsConforms = (t : Content) (r : Recordings) (from until : ℕ) (keeping : Bool) (captures : List (List Record)) (arrivals : List Arrival) (first : Comparison)
+    → let all = with_arrivals (sources_of t r).captures arrivals (with_until until first) in
+    let w = watch_within t r from until in
+    IsWellFormed t → IsAcceptedWith (t.latency - r.least) t → AllByRecursion (AllByRecursion (λ x. x.stamp ≤ last_instant)) captures
+    → IsBegun t r from keeping first → IsMergeOf (sources_of t r).clocks captures arrivals → list_all (λ p. p.foreign == 0) all.ports ≡ true → AreClear w t captures all
+    → IsKeptWithin w t (recorded_ports t r) (came_in t.ports captures) (left_out t r captures) → conform (with_end all) ≡ true
