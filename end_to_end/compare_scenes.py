@@ -2,8 +2,8 @@
 """Recordings of a switch with a fault of each kind, and what was worked out of them by hand: the lines, and the rows of differences.csv.
 
 Links 9 and 7 lead from ports 3 and 1 to port 2, with a frame of 64 bytes in each millisecond and no jitter. Such a frame takes 6720 ns on
-the line, and both at once take 13,440, which is the bound. A letter fills a frame. Run as a script with a program or the model, it says
-what of their answers differs.
+the line, and both at once take 13,440, which is the bound. A letter fills a frame. The last recording has a table of its own. Run as a
+script with a program or the model, it says what of their answers differs.
 """
 import argparse
 import subprocess
@@ -17,6 +17,10 @@ from captures import HEADER, frame, record
 PORT = "[[port]]\nid = {}\nmbit = 100\nbuffer = 100000\nmax_delay_us = 500000\n"
 LINK = '[[link]]\nid = {}\nfrom = {}\nto = [2]\nbag_ms = 1\njitter_us = 0\nmax_size = 64\npriority = "low"\n'
 TABLE = "version = 1\n" + "".join(PORT.format(port) for port in (1, 2, 3)) + LINK.format(9, 3) + LINK.format(7, 1)
+# Link 7 leads from port 1 to a fast port and to a slow one, whose gap of 12 bytes takes 9600 ns.
+LINES = "version = 3\n" + "".join(
+    f"[[port]]\nid = {port}\nmbit = {mbit}\nbuffer = 100000\nmax_delay_us = 500000\n" for port, mbit in ((1, 1000), (2, 1000), (3, 10))
+) + LINK.format(7, 1).replace("[2]", "[2, 3]").replace("jitter_us = 0", "jitter_us = 1000")
 HEADING = "port,link,kind,record_in,stamp_in,record_out,stamp_out,delay,bound"
 # A stamp, a link, and the letter that fills the frame.
 Sight = tuple[int, int, str]
@@ -30,10 +34,11 @@ class Scene:
     options: list[str]
     lines: list[str]
     rows: list[str]
+    table: str = TABLE
 
     def write(self, folder: Path) -> None:
         """Writes the table and the captures of what came and of what left."""
-        (folder / "table.toml").write_text(TABLE, encoding="utf-8")
+        (folder / "table.toml").write_text(self.table, encoding="utf-8")
         for name, captures in (("in", self.came), ("out", self.left)):
             (folder / name).mkdir()
             for port in (1, 2, 3):
@@ -121,7 +126,24 @@ FIRST = Scene(
      "differs"],
     ["2,,foreign,,,1,1000,,"])
 
-SCENES = [FAULTY, CUT, PAST, FIRST]
+# The last bit of A leaves the fast port 576 ns after it came, and the slow one 57,600 ns after; then the recordings end, and B, which came
+# at the end, may leave both ports later.
+SLOWER = Scene(
+    "a frame that came at the end, and a record of a slower port",
+    {1: [(1_000_000, 7, "A"), (1_057_600, 7, "B")]},
+    {2: [(1_000_576, 7, "A")], 3: [(1_057_600, 7, "A")]},
+    ["--rest"],
+    ["span 1000000 to 1057600",
+     "link 7 out 2 passed 2 seen 1 missing 0 extra 0 early 0 late 0 before 0 after 1 unsure 0 least 672 greatest 672 bound 1344",
+     "link 7 out 3 passed 2 seen 1 missing 0 extra 0 early 0 late 0 before 0 after 1 unsure 0 least 67200 greatest 67200 bound 134400",
+     "out 1 seen 0 foreign 0",
+     "out 2 seen 1 foreign 0",
+     "out 3 seen 1 foreign 0",
+     "conforms"],
+    [],
+    LINES)
+
+SCENES = [FAULTY, CUT, PAST, FIRST, SLOWER]
 
 
 def answer_of(command: list[str], scene: Scene, folder: Path) -> tuple[list[str], list[str], int]:

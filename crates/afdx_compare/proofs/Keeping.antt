@@ -7,7 +7,7 @@ use Rattle.afdx_pairing.specs.Events.{Numbered}
 use Rattle.afdx_pairing.specs.Kept.{Sight, Left}
 use Rattle.afdx_following.specs.Output.{Output, with_waiting, with_sights, settled, paired_up_to}
 use Rattle.afdx_following.specs.Watched.{Watched, can_tell, outlook_at, with_told, decided, first_unknown, with_paired, with_gone, settled_by}
-use Rattle.afdx_following.specs.Watched.{with_own, changed_at, left_by_at, with_record, with_ends}
+use Rattle.afdx_following.specs.Watched.{with_own, changed_at, left_by_at, stamped_by_at, with_record, with_ends}
 
 -- a port's number, and the limits there
 pub record Setting : Type 0 where
@@ -82,9 +82,8 @@ own_like n f =
 
 pub record_like : (place : ℕ) (n : Numbered) (f : Watched) → IsLike (with_record place n f) f
 record_like place n f =
-    let at = left_by_at place n f in
-    let changed : Watched = record f { outputs = changed_at place (λ o. with_waiting n o) f.outputs; latest = at } in
-    like_more _ _ _ (settled_like (Some at) changed) (record { account = refl; settings = one_kept (λ o. with_waiting n o) (λ o. refl) place f.outputs })
+    let changed : Watched = record f { outputs = changed_at place (λ o. with_waiting n o) f.outputs; latest = left_by_at place n f } in
+    like_more _ _ _ (settled_like (Some (stamped_by_at place n f)) changed) (record { account = refl; settings = one_kept (λ o. with_waiting n o) (λ o. refl) place f.outputs })
 
 pub ends_like : (last : Option ℕ) (f : Watched) → IsLike (with_ends last f) f
 ends_like last f = like_more _ _ _ (record { account = refl; settings = all_kept _ (λ o. refl) (settled_by None f).outputs }) (settled_like None f)
@@ -114,5 +113,5 @@ own_latest n f = decided_latest (Some n.frame.stamp) (f.undecided ++ n ∷ []) (
 
 pub record_latest : (place : ℕ) (n : Numbered) (f : Watched) → (with_record place n f).latest ≡ left_by_at place n f
 record_latest place n f =
-    let at = left_by_at place n f in
-    decided_latest (Some at) f.undecided (record f { outputs = changed_at place (λ o. with_waiting n o) f.outputs; latest = at })
+    decided_latest (Some (stamped_by_at place n f)) f.undecided
+    (record f { outputs = changed_at place (λ o. with_waiting n o) f.outputs; latest = left_by_at place n f })

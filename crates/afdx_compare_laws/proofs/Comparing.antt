@@ -4,7 +4,7 @@ use Rattle.std.proofs.Common.{Option, Some, None, refl, sym, ap, subst, ◌∙�
 use Rattle.std.specs.Prelude.{◌==◌, ◌&&◌, nat_le, nat_eq, if◌then◌else◌, find, option_map, slice_get, Contains}
 use Rattle.std.specs.List.{AllByRecursion, IsDistinct, list_all, position, position_or_len}
 use Rattle.std.specs.Option.{option_map_or}
-use Rattle.std.proofs.lemmas.Bool.{and_from, eqb-true, eqb-false, eq-eqb, ne_eqb, lt-ltb, true≢false}
+use Rattle.std.proofs.lemmas.Bool.{and_from, and_parts, leb-true, eqb-true, eqb-false, eq-eqb, ne_eqb, lt-ltb, true≢false}
 use Rattle.std.proofs.lemmas.Option.{same_Some, slice_get-map, slice_get-get_or, slice_get_within}
 use Rattle.afdx_pcap.specs.Record.{Record}
 use Rattle.afdx_frame.specs.Address.{link_of}
@@ -23,29 +23,31 @@ use Rattle.afdx_filter.specs.Inner.Clean.{CleanFramesHaveALink}
 use Rattle.afdx_load.specs.Inner.Laws.{HighLinksLeaveAPart}
 use Rattle.afdx_grouping.specs.Scatter.{IsAcceptedWith}
 use Rattle.afdx_pairing.specs.declared.limits.Limits.{Limits}
+use Rattle.afdx_pairing.specs.Events.{Numbered}
 use Rattle.afdx_pairing.specs.Limits.{most_of}
 use Rattle.afdx_pairing.specs.Kept.{IsKeptFor}
 use Rattle.afdx_following.specs.declared.watch.Watch.{Watch}
-use Rattle.afdx_following.specs.Watch.{limits_of, unknown_since, unknown_from, last_record}
+use Rattle.afdx_following.specs.Watch.{has_begun, has_not_ended, has_frame, has_record, limits_of, unknown_since, unknown_from, last_record}
 use Rattle.afdx_following.specs.declared.watch.Start.{Start}
 use Rattle.afdx_following.specs.declared.watch.Start.TheVariants.{Rest}
 use Rattle.afdx_following.specs.Output.{Output, last_at}
 use Rattle.afdx_following.specs.Watched.{Watched, levels_at_first, conforms, with_ends}
-use Rattle.afdx_following.specs.Followed.{Notice, with_notices, AreNext, own_in, left_in, judged}
+use Rattle.afdx_following.specs.Followed.{Notice, Arrived, Departed, with_notices, AreNext, own_in, left_in, judged}
 use Rattle.afdx_core.specs.Merge.{Capture}
 use Rattle.afdx_session.specs.Headline.{records_for}
 use Rattle.afdx_merging.specs.Merge.{Arrival, last_instant, IsMergeOf}
 use Rattle.afdx_recordings.specs.declared.recordings.Recordings.{Recordings}
 use Rattle.afdx_recordings.specs.declared.outputs.Outputs.{Outputs}
 use Rattle.afdx_recordings.specs.Recordings.{is_recorded}
-use Rattle.afdx_compare.specs.Comparison.{Comparison, watch_of, bound_in, output_first, outputs_first, IsFirstOf, IsBegun, link_among, place_of_named, link_at, with_until, with_end, conform}
+use Rattle.afdx_compare.specs.Comparison.{Comparison, watch_of, bound_in, output_first, outputs_first, IsFirstOf, IsBegun}
+use Rattle.afdx_compare.specs.Comparison.{place_of_own, link_among, place_of_named, link_at, with_until, with_end, conform}
 use Rattle.afdx_compare.specs.Sources.{Sources, sources_of}
 use Rattle.afdx_compare.specs.Arrivals.{with_arrival, with_arrivals}
 use Rattle.afdx_compare.specs.Within.{levels_since, own_within, recorded, IsKeptWithin}
 use Rattle.afdx_compare.specs.Inner.Laws.{watch_within, recorded_ports, came_in, left_out}
 use Rattle.afdx_compare.specs.Inner.Own.{own_of}
 use Rattle.afdx_compare.specs.Inner.Sound.{IsSound}
-use Rattle.afdx_compare.specs.Inner.Told.{told}
+use Rattle.afdx_compare.specs.Inner.Told.{told_own, told_record, told_came, told_left, told_of, told}
 use Rattle.afdx_compare.specs.Inner.Due.{AreDue}
 use Rattle.afdx_compare.proofs.Beginning.{first_each, first_at, begun_sound, begun_by, all_from}
 use Rattle.afdx_compare.proofs.Bounding.{bounded}
@@ -64,9 +66,9 @@ use Rattle.afdx_compare.proofs.Ported.{HasLimits, all_have, names_all, all_lead}
 use Rattle.afdx_compare.proofs.Strangers.{none_foreign, IsLed, all_led}
 use Rattle.afdx_compare.proofs.Telling.{links_are_told}
 use Rattle.afdx_compare.proofs.Turns.{at_port, among, among_links}
-use Rattle.afdx_compare_laws.specs.Fine.{LeavesLater, IsByEnd}
+use Rattle.afdx_compare_laws.specs.Fine.{LeavesLater}
 use Rattle.afdx_compare_laws.specs.Fates.{Recorded, AllDiffer, LeaveLater, AreApart, CanBeTold, IsKeptBy}
-use Rattle.afdx_compare_laws.specs.Conforming.{recorded_from, IsToldByEnd, KeptLinkConforms}
+use Rattle.afdx_compare_laws.specs.Conforming.{recorded_from, IsOffBy, IsByLast, KeptLinkConforms}
 use Rattle.afdx_compare_laws.specs.Comparing.{IsExact, IsClear, AreClear, KeptIsConforms}
 use Rattle.afdx_compare_laws.proofs.Conforming.{recorded_at, recorded_limits, list_all_from}
 use Rattle.afdx_compare_laws.proofs.Fine.{first_is, rest_is}
@@ -113,6 +115,10 @@ find_in {X} test (y ∷ xs) x is = by (test y) refl (λ rest. find_in test xs x 
   by : (b : Bool) → test y ≡ b → (find test xs ≡ Some x → (k : ℕ) × (slice_get xs k ≡ Some x)) → (k : ℕ) × (slice_get (y ∷ xs) k ≡ Some x)
   by true here rest = (0, sym (ap (λ (b : Bool). cond b (Some y) (find test xs)) here) ∙ is)
   by false other rest = (let later = rest (sym (ap (λ (b : Bool). cond b (Some y) (find test xs)) other) ∙ is) in (suc later.0, later.1))
+
+all_joined : {X : Type 0} (P : X → Type 0) (xs ys : List X) → AllByRecursion P xs → AllByRecursion P ys → AllByRecursion P (xs ++ ys)
+all_joined P [] ys first second = second
+all_joined P (x ∷ xs) ys first second = (first.0, all_joined P xs ys first.1 second)
 
 all_from_each : {X : Type 0} (P : X → Type 0) (xs : List X) → ((k : ℕ) (x : X) → slice_get xs k ≡ Some x → P x) → AllByRecursion P xs
 all_from_each P [] each = tt
@@ -237,6 +243,58 @@ led_alike found places t c l place k port f r table at there is link output led 
       ap (λ (x : Option (ℕ × ℕ)). is_at place k x) led
       ∙ ap (λ (b : Bool). b && (output == k)) (ne_eqb link place (λ link_is. absurd (eqb-false (link_of r.bytes) l.id other
       (sym (number_at found places t l place (link_of r.bytes) at.there (one.named ∙ ap (λ (n : ℕ). Some n) link_is))))))
+
+-- ---- what a link is told of is within the span
+
+ended_frame : (w : Watch) (n : Numbered) → has_frame w n.frame.stamp ≡ true → IsByLast w.tolerance (last_record w) (Arrived n)
+ended_frame w n has = by w.until (and_parts (has_begun w.start w.tolerance n.frame.stamp) (has_not_ended w.until n.frame.stamp) has).1 where
+  by : (until : Option ℕ) → has_not_ended until n.frame.stamp ≡ true → IsByLast w.tolerance (option_map (λ at. at - w.tolerance) until) (Arrived n)
+  by None is = tt
+  by (Some until) is = let le = leb-true n.frame.stamp until is in omega (arith, le)
+
+ended_record : (w : Watch) (place : ℕ) (n : Numbered) → has_record w n.frame.stamp ≡ true → IsByLast w.tolerance (last_record w) (Departed place n)
+ended_record w place n has = by w.until (and_parts (has_begun w.start 0 n.frame.stamp) (has_not_ended w.until (n.frame.stamp + w.tolerance)) has).1 where
+  by : (until : Option ℕ) → has_not_ended until (n.frame.stamp + w.tolerance) ≡ true → IsByLast w.tolerance (option_map (λ at. at - w.tolerance) until) (Departed place n)
+  by None is = tt
+  by (Some until) is = let le = leb-true (n.frame.stamp + w.tolerance) until is in omega (arith, le)
+
+abbrev AreByLast : Watch → List Notice → Type 0
+AreByLast w xs = AllByRecursion (IsByLast w.tolerance (last_record w)) xs
+
+own_by_last : (w : Watch) (place : ℕ) (o : Option ℕ) (n : Numbered) (b : Bool) → has_frame w n.frame.stamp ≡ b → AreByLast w (if b then told_own place o n else [])
+own_by_last w place o n false has = tt
+own_by_last w place None n true has = tt
+own_by_last w place (Some link) n true has = elim (link == place) as (λ b. AreByLast w (if b then Arrived n ∷ [] else [])) [
+  | true ↦ (ended_frame w n has, tt)
+  | false ↦ tt
+]
+
+record_by_last : (w : Watch) (place : ℕ) (o : Option (ℕ × ℕ)) (n : Numbered) (b : Bool) → has_record w n.frame.stamp ≡ b → AreByLast w (if b then told_record place o n else [])
+record_by_last w place o n false has = tt
+record_by_last w place None n true has = tt
+record_by_last w place (Some (link, output)) n true has = elim (link == place) as (λ b. AreByLast w (if b then Departed output n ∷ [] else [])) [
+  | true ↦ (ended_record w output n has, tt)
+  | false ↦ tt
+]
+
+side_by_last : (place : ℕ) (leaves : Bool) (port : ℕ) (n : Numbered) (c : Comparison) → AreByLast c.watch (if leaves then told_left place port n c else told_came place port n c)
+side_by_last place true port n c = record_by_last c.watch place (link_at port n.frame.bytes c) n (has_record c.watch n.frame.stamp) refl
+side_by_last place false port n c = own_by_last c.watch place (place_of_own c.table port n.frame) n (has_frame c.watch n.frame.stamp) refl
+
+one_by_last : (place : ℕ) (s : Sources) (k : ℕ) (n : Numbered) (c : Comparison) → AreByLast c.watch (told_of place (slice_get s.captures k) n c)
+one_by_last place s k n c = elim (slice_get s.captures k) as (λ of. AreByLast c.watch (told_of place of n c)) [
+  | None ↦ tt
+  | Some x ↦ side_by_last place x.leaves x.port n c
+]
+
+told_by_last : (place : ℕ) (s : Sources) (arrivals : List Arrival) (c : Comparison) → AreByLast c.watch (told place s.captures arrivals c)
+told_by_last place s [] c = tt
+told_by_last place s (a ∷ arrivals) c =
+    let next = with_arrival s.captures a c in
+    let same = arrival_same (slice_get s.captures a.place) a c in
+    all_joined (IsByLast c.watch.tolerance (last_record c.watch)) (told_of place (slice_get s.captures a.place) a.head c) (told place s.captures arrivals next)
+    (one_by_last place s a.place a.head c)
+    (subst (λ (x : Watch). AreByLast x (told place s.captures arrivals next)) same.watch (told_by_last place s arrivals next))
 
 -- ---- what is known of an account at first
 
@@ -439,14 +497,13 @@ module _ (lower : Lower) (t : Content) (r : Recordings) (from until : ℕ) (keep
         subst (λ (rs : List Record). AllByRecursion (LeaveLater rs) ports) own_is_told
         (by_limits (λ m. AllByRecursion (LeavesLater m) own) told_last.outputs ports same_told clear_here.later)
 
-    in_time : AllByRecursion (IsToldByEnd told_last.latest) ports
-    in_time =
-        let soon = by_limits (λ m. IsByEnd m (last_at m (last_record w)) (told_last.latest - m.tolerance)) told_last.outputs ports same_told clear_here.in_time in
-        all_from_each (IsToldByEnd told_last.latest) ports (λ k p at_p.
-        let of = recorded_at last (notices place) 0 outputs k p at_p in
-        let is : last_at p.limits (last_record w) ≡ p.last = last_is p.limits ∙ sym of.last_is in
-        subst (λ (e : Option ℕ). IsByEnd p.limits e (told_last.latest - p.limits.tolerance)) is
-        (all_at (λ q. IsByEnd q.limits (last_at q.limits (last_record w)) (told_last.latest - q.limits.tolerance)) ports k p at_p soon))
+    off : AllByRecursion (IsOffBy r.tolerance) outputs
+    off = all_from_each (IsOffBy r.tolerance) outputs (λ k o here.
+        let at_port = at_output k o here in
+        ap (λ (m : Limits). m.tolerance) (at_port.limits (bound_in (t.latency - r.least) t at_port.row l.priority) refl))
+
+    ended : AllByRecursion (IsByLast r.tolerance last) (notices place)
+    ended = subst (λ (x : Watch). AllByRecursion (IsByLast x.tolerance (last_record c.watch)) (notices place)) watch_is (told_by_last place sources arrivals c)
 
     abbrev levels : Levels
     levels = levels_at_first one.account r.tolerance (unknown_since w)
@@ -492,8 +549,7 @@ module _ (lower : Lower) (t : Content) (r : Recordings) (from until : ℕ) (keep
     link_conforms =
         ap (λ (x : Watched). conforms (with_ends last (with_notices (notices place) x))) one.first
         ∙ lower.link one.account r.tolerance (unknown_since w) outputs (notices place) last (kept.fates l) r.tolerance_limit (first_fresh (watch_of t r from) t r.outputs keeping l.priority l.to)
-        (subst (λ (x : Watched). AreNext x (notices place)) one.first (next_told place f get)) later
-        (subst (λ (x : Watched). AllByRecursion (IsToldByEnd (with_notices (notices place) x).latest) ports) one.first in_time) can allowed kept_there
+        off (subst (λ (x : Watched). AreNext x (notices place)) one.first (next_told place f get)) ended later can allowed kept_there
 
   -- ---- each of them
 

@@ -27,11 +27,12 @@ use Rattle.afdx_following.proofs.Ports.{records, IsPort}
 use Rattle.afdx_compare.proofs.Places.{all_at}
 use Rattle.afdx_compare_laws.specs.Fine.{LeavesLater, IsByEnd, AreByEnd}
 use Rattle.afdx_compare_laws.specs.Fates.{Recorded, LeaveLater, IsKeptBy, is_seen, fates_seen}
-use Rattle.afdx_compare_laws.specs.Conforming.{recorded_from, IsToldByEnd, KeptLinkConforms}
-use Rattle.afdx_compare_laws.proofs.Fine.{kept_is_fine}
+use Rattle.afdx_compare_laws.specs.Conforming.{recorded_from, IsOffBy, KeptLinkConforms}
+use Rattle.afdx_compare_laws.proofs.Ending.{Ends}
+use Rattle.afdx_compare_laws.proofs.Fine.{kept_is_fine, first_is, rest_is}
 use Rattle.afdx_compare_laws.proofs.Fates.{told_fates_explain}
 use Rattle.afdx_compare_laws.proofs.Narrowing.{all_map}
-use Rattle.afdx_compare_laws.proofs.Told.{limits_in, limits_at, settled_limits, notices_limits, decided_latest, same_limits, same_many, port_there, next_order, get_mapped}
+use Rattle.afdx_compare_laws.proofs.Told.{limits_in, limits_at, settled_limits, notices_limits, same_limits, same_many, port_there, next_order, get_mapped}
 use Rattle.afdx_compare_laws.proofs.Told.{Slow, fates_of, settled_told, notices_told, first_told}
 
 -- ---- lists
@@ -111,7 +112,7 @@ by_end m last at end (Left n ∷ ss) up = (sooner_by_end m last (left_at m n.fra
 by_end m last at end (Until i ∷ ss) up = (sooner_by_end m last i at up.0 end, by_end m last at end ss up.1)
 
 ends_fine : (latest : ℕ) (passed own out : List Record) (o : Output) (p : Recorded) (last : Option ℕ) → IsPort latest passed own [] out o → o.waiting ≡ [] → o.limits ≡ p.limits
-    → p.last ≡ last_at p.limits last → p.out ≡ out → IsToldByEnd latest p → AllByRecursion (LeavesLater p.limits) own → IsKeptFor p.limits p.last own passed p.out
+    → p.last ≡ last_at p.limits last → p.out ≡ out → Ends last o.limits latest → AllByRecursion (LeavesLater p.limits) own → IsKeptFor p.limits p.last own passed p.out
     → conforms_in (with_end last o).found.tally ≡ true
 ends_fine latest passed own out o p last h none limits last_is out_is told later kept =
     let m = o.limits in
@@ -126,9 +127,7 @@ ends_fine latest passed own out o p last h none limits last_is out_is told later
     subst (λ (rs : List Record). IsKeptFor m end rs (passed_of ss) (left_of ss)) (sym h.own_is)
     (subst (λ (rs : List Record). IsKeptFor m end own rs (left_of ss)) (sym h.passed_is) (subst (λ (rs : List Record). IsKeptFor m end own passed rs) left here)) in
     let slow = subst (λ (rs : List Record). AllByRecursion (LeavesLater m) rs) (sym h.own_is) (subst (λ (x : Limits). AllByRecursion (LeavesLater x) own) (sym limits) later) in
-    let soon : IsByEnd m end (latest - m.tolerance) =
-    subst (λ (x : Limits). IsByEnd x (last_at x last) (latest - x.tolerance)) (sym limits) (subst (λ (e : Option ℕ). IsByEnd p.limits e (latest - p.limits.tolerance)) last_is told) in
-    let fine = kept_is_fine m end ss h.order (by_end m end (latest - m.tolerance) soon ss h.up_to) slow seen in
+    let fine = kept_is_fine m end ss h.order (by_end m end (latest - m.tolerance) told ss h.up_to) slow seen in
     let tally : tallied (end_told o.pairing end) o.found.tally ≡ tally_of (all_told first end ss) =
     ap (λ (q : Pairing). tallied (end_told q end) o.found.tally) h.pairing
     ∙ ap (λ (t : Tally). tallied (end_told (after_all first ss) end) t) h.tally
@@ -137,8 +136,18 @@ ends_fine latest passed own out o p last h none limits last_is out_is told later
 
 -- ---- the link
 
+even_ports : (os : List Output) (ports : List Recorded) (tolerance : ℕ) → limits_in os ≡ limits_at ports → AllByRecursion (IsOffBy tolerance) os
+    → AllByRecursion (λ p. p.limits.tolerance ≡ tolerance) ports
+even_ports [] [] tolerance same off = tt
+even_ports [] (p ∷ ports) tolerance same off = absurd (let never = same in cc)
+even_ports (o ∷ os) [] tolerance same off = tt
+even_ports (o ∷ os) (p ∷ ports) tolerance same off = (
+  ap (λ (m : Limits). m.tolerance) (sym (first_is o.limits p.limits (limits_in os) (limits_at ports) same)) ∙ off.0,
+  even_ports os ports tolerance (rest_is o.limits p.limits (limits_in os) (limits_at ports) same) off.1,
+)
+
 pub kept_link_conforms : FateMayBe → AtRestIsTheAccount → KeptLinkConforms
-kept_link_conforms may rest account tolerance since outputs notices last fates bounded fresh next later told can allowed kept =
+kept_link_conforms may rest account tolerance since outputs notices last fates bounded fresh off next ended later can allowed kept =
     let t = account_terms account in
     let first = at_first account tolerance since outputs in
     let l = levels_at_first account tolerance since in
@@ -153,20 +162,23 @@ kept_link_conforms may rest account tolerance since outputs notices last fates b
     all_across own ports later in
     let still : (k : ℕ) (p : Recorded) → slice_get ports k ≡ Some p → p.out ≡ left_in k notices =
     λ k p at. (recorded_at last notices 0 outputs k p at).out_is ∙ ap (λ (i : ℕ). left_in i notices) (let here : 0 + k ≡ k = omega arith in here) in
-    let h = notices_told t tolerance l ports [] (λ place. []) notices first (first_told account tolerance since outputs ports bounded fresh) next same slow still in
-    let e = settled_told t tolerance l ports own (λ place. left_in place notices) (λ place. []) None f h now (λ k p at. still k p at ∙ sym (append-nil (left_in k notices))) (λ k p at. tt) tt in
+    let even = even_ports outputs ports tolerance same off in
+    let h = notices_told t tolerance l ports last [] (λ place. []) (λ place. 0) notices first (first_told account tolerance since outputs ports last bounded fresh) next same even slow
+    ended still in
+    let e = settled_told t tolerance l ports last own (λ place. left_in place notices) (λ place. []) h.0 None f h.1 now (λ k p at. still k p at ∙ sym (append-nil (left_in k notices)))
+    (λ k p at. tt) (λ place. tt) in
     let none : all.undecided ≡ [] = none_undecided f.undecided f in
     let done : e.done ≡ own = sym (append-nil e.done) ∙ ap (λ (ns : List Numbered). e.done ++ records ns) (sym none) ∙ sym e.own_is in
-    let latest : all.latest ≡ f.latest = decided_latest None f.undecided f in
     let passed = chosen (fates_seen t tolerance (is_seen ports) l own) own in
     let seen = told_fates_explain may rest t tolerance l own fates ports (next_order notices first 0 (omega arith) next).1 later can allowed kept in
     list_all_from (λ (o : Output). conforms_in o.found.tally) (map (λ o. with_end last o) all.outputs) (λ k o get.
     let old = get_mapped (λ x. with_end last x) all.outputs k o get in
     let p = port_there all.outputs ports k old.0 (same_many all.outputs ports end) old.1.0 in
     let of = recorded_at last notices 0 outputs k p.0 p.1 in
-    let port = subst (λ (rs : List Record). IsPort all.latest (chosen (fates_of t tolerance l ports rs) rs) rs [] (left_in k notices) old.0) done
-    (subst (λ (ns : List Numbered). IsPort all.latest (chosen (fates_of t tolerance l ports e.done) e.done) e.done ns (left_in k notices) old.0) none (e.at_port k old.0 old.1.0)) in
-    let soon = subst (λ (i : ℕ). IsToldByEnd i p.0) (sym latest) (all_at (IsToldByEnd f.latest) ports k p.0 p.1 told) in
+    let late = h.0 k in
+    let told = e.at_port k old.0 old.1.0 in
+    let port = subst (λ (rs : List Record). IsPort late (chosen (fates_of t tolerance l ports rs) rs) rs [] (left_in k notices) old.0) done
+    (subst (λ (ns : List Numbered). IsPort late (chosen (fates_of t tolerance l ports e.done) e.done) e.done ns (left_in k notices) old.0) none told.port) in
     ap (λ (x : Output). conforms_in x.found.tally) (sym old.1.1)
-    ∙ ends_fine all.latest passed own (left_in k notices) old.0 p.0 last port (nothing_waits f k old.0 old.1.0) (same_limits all.outputs ports k old.0 p.0 end old.1.0 p.1)
-    of.last_is (still k p.0 p.1) soon (all_at (LeaveLater own) ports k p.0 p.1 later) (all_at (IsKeptBy own (fates_seen t tolerance (is_seen ports) l own)) ports k p.0 p.1 seen))
+    ∙ ends_fine late passed own (left_in k notices) old.0 p.0 last port (nothing_waits f k old.0 old.1.0) (same_limits all.outputs ports k old.0 p.0 end old.1.0 p.1)
+    of.last_is (still k p.0 p.1) told.ends (all_at (LeaveLater own) ports k p.0 p.1 later) (all_at (IsKeptBy own (fates_seen t tolerance (is_seen ports) l own)) ports k p.0 p.1 seen))

@@ -2,6 +2,7 @@ pub mod Alone
 pub mod Comparing
 pub mod Conforming
 pub mod Cutting
+pub mod Ending
 pub mod Fates
 pub mod Fine
 pub mod Fitting

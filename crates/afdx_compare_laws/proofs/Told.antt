@@ -20,9 +20,9 @@ use Rattle.afdx_pairing.specs.declared.limits.Limits.{Limits}
 use Rattle.afdx_pairing.specs.Events.{Numbered}
 use Rattle.afdx_pairing.specs.Limits.{left_at, most_of, is_early, in_bound}
 use Rattle.afdx_pairing.specs.Kept.{Sight, Came, Left, Until, left_of, passed_of}
-use Rattle.afdx_following.specs.Output.{Output, IsFresh, has, is_over, left_by, with_came, with_waiting, with_sight, with_sights, settled, paired_up_to, gone_on}
+use Rattle.afdx_following.specs.Output.{Output, IsFresh, has, is_over, left_by, stamped_by, with_came, with_waiting, with_sight, with_sights, settled, paired_up_to, gone_on}
 use Rattle.afdx_following.specs.Watched.{Watched, levels_at_first, at_first, frame_size, Fits, outlook_at, can_tell, counted, fate_of, with_fate, with_told, decided}
-use Rattle.afdx_following.specs.Watched.{first_unknown, with_paired, with_gone, settled_by, with_own, changed_at, left_by_at, with_record}
+use Rattle.afdx_following.specs.Watched.{first_unknown, with_paired, with_gone, settled_by, with_own, changed_at, left_by_at, stamped_by_at, with_record}
 use Rattle.afdx_following.specs.Inner.InStep.{WaitsBy, IsInStep}
 use Rattle.afdx_following.specs.Followed.{Notice, Arrived, Departed, with_notice, with_notices, AreNext, own_in, left_in, judged}
 use Rattle.afdx_following.proofs.Growing.{HaveLeftBy}
@@ -31,6 +31,8 @@ use Rattle.afdx_following.proofs.Ports.{records, IsPort, fate_follows, pairs_fol
 use Rattle.afdx_compare.proofs.Places.{all_at}
 use Rattle.afdx_compare_laws.specs.Fine.{LeavesLater}
 use Rattle.afdx_compare_laws.specs.Fates.{Recorded, is_seen_at, is_seen, fates_seen, OwnInOrder}
+use Rattle.afdx_compare_laws.specs.Conforming.{IsByLast}
+use Rattle.afdx_compare_laws.proofs.Ending.{later_of, Ends, first_ends, later_ends, frame_ends, record_ends, stamp_ends, stamped_first, waits_later, paired_waits, fresh_waits}
 use Rattle.afdx_compare_laws.proofs.Fine.{early_least}
 use Rattle.afdx_compare_laws.proofs.Narrowing.{all_map}
 
@@ -141,15 +143,14 @@ settled_limits at f =
 notice_limits : (x : Notice) (f : Watched) → limits_in (with_notice x f).outputs ≡ limits_in f.outputs
 notice_limits (Arrived n) f = settled_limits (Some n.frame.stamp) (record f { undecided = f.undecided ++ n ∷ []; latest = n.frame.stamp })
 notice_limits (Departed place n) f =
-    let at = left_by_at place n f in
-    settled_limits (Some at) (record f { outputs = changed_at place (λ o. with_waiting n o) f.outputs; latest = at })
+    settled_limits (Some (stamped_by_at place n f)) (record f { outputs = changed_at place (λ o. with_waiting n o) f.outputs; latest = left_by_at place n f })
     ∙ limits_one (λ o. with_waiting n o) (λ o. refl) place f.outputs
 
 pub notices_limits : (xs : List Notice) (f : Watched) → limits_in (with_notices xs f).outputs ≡ limits_in f.outputs
 notices_limits [] f = refl
 notices_limits (x ∷ xs) f = notices_limits xs (with_notice x f) ∙ notice_limits x f
 
-pub decided_latest : (at : Option ℕ) (ns : List Numbered) (f : Watched) → (decided at ns f).latest ≡ f.latest
+decided_latest : (at : Option ℕ) (ns : List Numbered) (f : Watched) → (decided at ns f).latest ≡ f.latest
 decided_latest at [] f = refl
 decided_latest at (n ∷ ns) f = elim (cases_Bool (can_tell at f.outputs n (outlook_at f n))) [
   | inl told ↦ rw told (decided_latest at ns (with_told n f))
@@ -163,9 +164,8 @@ own_latest n f =
 
 record_latest : (place : ℕ) (n : Numbered) (f : Watched) → (with_record place n f).latest ≡ left_by_at place n f
 record_latest place n f =
-    let at = left_by_at place n f in
-    let more : Watched = record f { outputs = changed_at place (λ o. with_waiting n o) f.outputs; latest = at } in
-    decided_latest (Some at) more.undecided more
+    let more : Watched = record f { outputs = changed_at place (λ o. with_waiting n o) f.outputs; latest = left_by_at place n f } in
+    decided_latest (Some (stamped_by_at place n f)) more.undecided more
 
 -- ---- places of ports
 
@@ -385,8 +385,14 @@ module _ (t : Terms) (tolerance : ℕ) (l : Levels) (ports : List Recorded) wher
   abbrev pub Slow : Record → Type 0
   Slow r = AllByRecursion (λ p. LeavesLater p.limits r) ports
 
-  -- what is known of a link that was told of these frames and of these records at its ports
-  pub record IsSoTold (own : List Record) (outs : ℕ → List Record) (f : Watched) : Type 0 where
+  -- of a port at which nothing was told of past an instant
+  pub record IsAtPort (last : Option ℕ) (done : List Record) (undecided : List Numbered) (out : List Record) (late : ℕ) (o : Output) : Type 0 where
+    pub wait : WaitsBy late o
+    pub ends : Ends last o.limits late
+    pub port : IsPort late (chosen (fates_of done) done) done undecided out o
+
+  -- what is known of a link that was told of these frames and of these records at its ports, at each up to an instant of its own
+  pub record IsSoTold (last : Option ℕ) (own : List Record) (outs : ℕ → List Record) (lates : ℕ → ℕ) (f : Watched) : Type 0 where
     pub done : List Record
     pub own_is : own ≡ done ++ records f.undecided
     pub levels : f.levels ≡ levels_of done
@@ -394,13 +400,14 @@ module _ (t : Terms) (tolerance : ℕ) (l : Levels) (ports : List Recorded) wher
     pub tolerances : f.tolerance ≡ tolerance
     pub slow : AllByRecursion (λ n. Slow n.frame) f.undecided
     pub in_step : IsInStep f
-    pub at_port : (place : ℕ) (o : Output) → slice_get f.outputs place ≡ Some o → IsPort f.latest (chosen (fates_of done) done) done f.undecided (outs place) o
+    pub soon : (place : ℕ) → lates place ≤ f.latest
+    pub at_port : (place : ℕ) (o : Output) → slice_get f.outputs place ≡ Some o → IsAtPort last done f.undecided (outs place) (lates place) o
 
   -- the fate of a frame is told
-  fate_step : (own : List Record) (outs : ℕ → List Record) (n : Numbered) (ns : List Numbered) (passes : Bool) (unsure : ℕ) (f : Watched)
-      → (h : IsSoTold own outs (record f { undecided = n ∷ ns })) → passes ≡ fate_next t tolerance (is_seen ports) (levels_of h.done) n.frame
-      → IsSoTold own outs (record (with_fate n passes (record f { unsure = unsure })) { undecided = ns })
-  fate_step own outs n ns passes unsure f h passes_is =
+  fate_step : (last : Option ℕ) (own : List Record) (outs : ℕ → List Record) (lates : ℕ → ℕ) (n : Numbered) (ns : List Numbered) (passes : Bool) (unsure : ℕ) (f : Watched)
+      → (h : IsSoTold last own outs lates (record f { undecided = n ∷ ns })) → passes ≡ fate_next t tolerance (is_seen ports) (levels_of h.done) n.frame
+      → IsSoTold last own outs lates (record (with_fate n passes (record f { unsure = unsure })) { undecided = ns })
+  fate_step last own outs lates n ns passes unsure f h passes_is =
       let done = h.done in
       let more = done ++ n.frame ∷ [] in
       let size = frame_size n in
@@ -423,11 +430,16 @@ module _ (t : Terms) (tolerance : ℕ) (l : Levels) (ports : List Recorded) wher
         tolerances = h.tolerances;
         slow = h.slow.1;
         in_step = fate_in_step n ns passes unsure f h.in_step;
+        soon = h.soon;
         at_port = λ place o get.
             let old = get_mapped (λ x. with_came n passes x) f.outputs place o get in
-            subst (λ (x : Output). IsPort f.latest (chosen (fates_of more) more) more ns (outs place) x) old.1.1
-            (subst (λ (rs : List Record). IsPort f.latest rs more ns (outs place) (with_came n passes old.0)) (sym now)
-            (fate_follows f.latest (chosen fates done) done n ns (outs place) old.0 passes (h.at_port place old.0 old.1.0)));
+            let before = h.at_port place old.0 old.1.0 in
+            subst (λ (x : Output). IsAtPort last more ns (outs place) (lates place) x) old.1.1 (record {
+              wait = before.wait;
+              ends = before.ends;
+              port = subst (λ (rs : List Record). IsPort (lates place) rs more ns (outs place) (with_came n passes old.0)) (sym now)
+                  (fate_follows (lates place) (chosen fates done) done n ns (outs place) old.0 passes before.port);
+            });
       }
 
   fate_is : (at : Option ℕ) (f : Watched) (n : Numbered) (k : Levels) → account_terms f.account ≡ t → f.tolerance ≡ tolerance → f.levels ≡ k
@@ -441,18 +453,19 @@ module _ (t : Terms) (tolerance : ℕ) (l : Levels) (ports : List Recorded) wher
       ∙ ap (λ (x : ℕ). fate_told (outlook_of t x size (credited t f.levels stamp)) (is_seen ports n.frame)) tolerances
       ∙ ap (λ (x : Levels). fate_told (outlook_of t tolerance size (credited t x stamp)) (is_seen ports n.frame)) levels
 
-  decided_told : (own : List Record) (outs : ℕ → List Record) (at : Option ℕ) (ns : List Numbered) (f : Watched) → IsSoTold own outs (record f { undecided = ns })
-      → Tells ports at f.outputs ns → IsSoTold own outs (decided at ns f)
-  decided_told own outs at [] f h all = h
-  decided_told own outs at (n ∷ ns) f h all = elim (cases_Bool (can_tell at f.outputs n (outlook_at f n))) [
-    | inl told ↦ rw told (decided_told own outs at ns (with_told n f)
-        (fate_step own outs n ns (fate_of f n) (counted (outlook_at f n) f.unsure) f h (fate_is at f n (levels_of h.done) h.terms h.tolerances h.levels told all.0))
+  decided_told : (last : Option ℕ) (own : List Record) (outs : ℕ → List Record) (lates : ℕ → ℕ) (at : Option ℕ) (ns : List Numbered) (f : Watched)
+      → IsSoTold last own outs lates (record f { undecided = ns }) → Tells ports at f.outputs ns → IsSoTold last own outs lates (decided at ns f)
+  decided_told last own outs lates at [] f h all = h
+  decided_told last own outs lates at (n ∷ ns) f h all = elim (cases_Bool (can_tell at f.outputs n (outlook_at f n))) [
+    | inl told ↦ rw told (decided_told last own outs lates at ns (with_told n f)
+        (fate_step last own outs lates n ns (fate_of f n) (counted (outlook_at f n) f.unsure) f h (fate_is at f n (levels_of h.done) h.terms h.tolerances h.levels told all.0))
         (tells_on ports at f.outputs n (fate_of f n) ns all.1))
     | inr unknown ↦ rw unknown h
   ]
 
-  paired_told : (own : List Record) (outs : ℕ → List Record) (f : Watched) → IsSoTold own outs f → IsSoTold own outs (with_paired f)
-  paired_told own outs f h =
+  paired_told : (last : Option ℕ) (own : List Record) (outs : ℕ → List Record) (lates : ℕ → ℕ) (f : Watched) → IsSoTold last own outs lates f
+      → IsSoTold last own outs lates (with_paired f)
+  paired_told last own outs lates f h =
       let unknown = first_unknown f.undecided in
       record {
         done = h.done;
@@ -462,20 +475,25 @@ module _ (t : Terms) (tolerance : ℕ) (l : Levels) (ports : List Recorded) wher
         tolerances = h.tolerances;
         slow = h.slow;
         in_step = paired_in_step f h.in_step;
+        soon = h.soon;
         at_port = λ place o get.
             let old = get_mapped (λ x. paired_up_to unknown x) f.outputs place o get in
-            subst (λ (x : Output). IsPort f.latest (chosen (fates_of h.done) h.done) h.done f.undecided (outs place) x) old.1.1
-            (pairs_follow f.latest (chosen (fates_of h.done) h.done) h.done f.undecided (outs place) old.0 (h.at_port place old.0 old.1.0) h.in_step.in_order
-            (all_at (WaitsBy f.latest) f.outputs place old.0 old.1.0 h.in_step.wait));
+            let before = h.at_port place old.0 old.1.0 in
+            subst (λ (x : Output). IsAtPort last h.done f.undecided (outs place) (lates place) x) old.1.1 (record {
+              wait = paired_waits (lates place) unknown old.0 before.wait;
+              ends = subst (λ (m : Limits). Ends last m (lates place)) (sym (paired_limits unknown old.0)) before.ends;
+              port = pairs_follow (lates place) (chosen (fates_of h.done) h.done) h.done f.undecided (outs place) old.0 before.port h.in_step.in_order before.wait;
+            });
       }
 
   abbrev IsBy : Option ℕ → ℕ → Type 0
-  IsBy None latest = Unit {0}
-  IsBy (Some at) latest = at ≤ latest
+  IsBy None late = Unit {0}
+  IsBy (Some at) late = at ≤ late
 
-  gone_told : (own : List Record) (outs : ℕ → List Record) (at : Option ℕ) (f : Watched) → IsSoTold own outs f → IsBy at f.latest → IsSoTold own outs (with_gone at f)
-  gone_told own outs None f h by = h
-  gone_told own outs (Some at) f h by = record {
+  gone_told : (last : Option ℕ) (own : List Record) (outs : ℕ → List Record) (lates : ℕ → ℕ) (at : Option ℕ) (f : Watched) → IsSoTold last own outs lates f
+      → ((place : ℕ) → IsBy at (lates place)) → IsSoTold last own outs lates (with_gone at f)
+  gone_told last own outs lates None f h by = h
+  gone_told last own outs lates (Some at) f h by = record {
     done = h.done;
     own_is = h.own_is;
     levels = h.levels;
@@ -483,10 +501,15 @@ module _ (t : Terms) (tolerance : ℕ) (l : Levels) (ports : List Recorded) wher
     tolerances = h.tolerances;
     slow = h.slow;
     in_step = gone_in_step (Some at) f h.in_step;
+    soon = h.soon;
     at_port = λ place o get.
         let old = get_mapped (λ x. gone_on at x) f.outputs place o get in
-        subst (λ (x : Output). IsPort f.latest (chosen (fates_of h.done) h.done) h.done f.undecided (outs place) x) old.1.1
-        (goes_on f.latest (chosen (fates_of h.done) h.done) h.done f.undecided (outs place) old.0 at (h.at_port place old.0 old.1.0) by);
+        let before = h.at_port place old.0 old.1.0 in
+        subst (λ (x : Output). IsAtPort last h.done f.undecided (outs place) (lates place) x) old.1.1 (record {
+          wait = before.wait;
+          ends = before.ends;
+          port = goes_on (lates place) (chosen (fates_of h.done) h.done) h.done f.undecided (outs place) old.0 at before.port (by place);
+        });
   }
 
   -- of all that left at its ports these are still to be told
@@ -496,12 +519,12 @@ module _ (t : Terms) (tolerance : ℕ) (l : Levels) (ports : List Recorded) wher
   abbrev AreFrom : Option ℕ → (ℕ → List Record) → Type 0
   AreFrom at futures = (k : ℕ) (p : Recorded) → slice_get ports k ≡ Some p → AllByRecursion (IsFrom at p.limits) (futures k)
 
-  pub settled_told : (own : List Record) (outs futures : ℕ → List Record) (at : Option ℕ) (f : Watched) → IsSoTold own outs f → limits_in f.outputs ≡ limits_at ports
-      → AreStill outs futures → AreFrom at futures → IsBy at f.latest → IsSoTold own outs (settled_by at f)
-  settled_told own outs futures at f h same still from by =
+  pub settled_told : (last : Option ℕ) (own : List Record) (outs futures : ℕ → List Record) (lates : ℕ → ℕ) (at : Option ℕ) (f : Watched) → IsSoTold last own outs lates f
+      → limits_in f.outputs ≡ limits_at ports → AreStill outs futures → AreFrom at futures → ((place : ℕ) → IsBy at (lates place)) → IsSoTold last own outs lates (settled_by at f)
+  settled_told last own outs futures lates at f h same still from by =
       let d = decided at f.undecided f in
       let all = tells ports at f.outputs futures f.undecided (same_many f.outputs ports same) (λ k o p get there.
-      let port = h.at_port k o get in
+      let port = (h.at_port k o get).port in
       let m = same_limits f.outputs ports k o p same get there in
       record {
         limits = m;
@@ -512,17 +535,19 @@ module _ (t : Terms) (tolerance : ℕ) (l : Levels) (ports : List Recorded) wher
         slow = all_map (λ n. Slow n.frame) (λ n. LeavesLater o.limits n.frame)
             (λ n one. subst (λ (x : Limits). LeavesLater x n.frame) (sym m) (all_at (λ q. LeavesLater q.limits n.frame) ports k p there one)) f.undecided h.slow;
       }) in
-      gone_told own outs at (with_paired d) (paired_told own outs d (decided_told own outs at f.undecided f h all)) (subst (λ (i : ℕ). IsBy at i) (sym (decided_latest at f.undecided f)) by)
+      gone_told last own outs lates at (with_paired d) (paired_told last own outs lates d (decided_told last own outs lates at f.undecided f h all)) by
 
   -- ---- what it is told of
 
-  own_told : (own : List Record) (outs futures : ℕ → List Record) (f : Watched) (n : Numbered) → IsSoTold own outs f → limits_in f.outputs ≡ limits_at ports → AreStill outs futures
-      → AreFrom (Some n.frame.stamp) futures → Slow n.frame → f.latest ≤ n.frame.stamp → Fits f.account n → IsSoTold (own ++ n.frame ∷ []) outs (with_own n f)
-  own_told own outs futures f n h same still from slow le fits =
+  own_told : (last : Option ℕ) (own : List Record) (outs futures : ℕ → List Record) (lates : ℕ → ℕ) (f : Watched) (n : Numbered) → IsSoTold last own outs lates f
+      → limits_in f.outputs ≡ limits_at ports → AreStill outs futures → AreFrom (Some n.frame.stamp) futures → Slow n.frame → f.latest ≤ n.frame.stamp → Fits f.account n
+      → ((place : ℕ) (o : Output) → slice_get f.outputs place ≡ Some o → Ends last o.limits n.frame.stamp)
+      → IsSoTold last (own ++ n.frame ∷ []) outs (λ place. n.frame.stamp) (with_own n f)
+  own_told last own outs futures lates f n h same still from slow le fits ended =
       let at = n.frame.stamp in
       let done = h.done in
       let more : Watched = record f { undecided = f.undecided ++ n ∷ []; latest = at } in
-      settled_told (own ++ n.frame ∷ []) outs futures (Some at) more (record {
+      settled_told last (own ++ n.frame ∷ []) outs futures (λ place. at) (Some at) more (record {
         done = done;
         own_is = ap (λ (rs : List Record). rs ++ n.frame ∷ []) h.own_is ∙ append_assoc done (records f.undecided) (n.frame ∷ [])
             ∙ ap (λ (rs : List Record). done ++ rs) (sym (map-append (λ (x : Numbered). x.frame) f.undecided (n ∷ [])));
@@ -531,8 +556,17 @@ module _ (t : Terms) (tolerance : ℕ) (l : Levels) (ports : List Recorded) wher
         tolerances = h.tolerances;
         slow = all_more (λ x. Slow x.frame) f.undecided n h.slow slow;
         in_step = own_in_step f n h.in_step le fits;
-        at_port = λ place o get. own_follows f.latest (chosen (fates_of done) done) done f.undecided (outs place) o n (h.at_port place o get) le;
-      }) same still from (omega arith)
+        soon = λ place. omega arith;
+        at_port = λ place o get.
+            let before = h.at_port place o get in
+            let soon = h.soon place in
+            let by : lates place ≤ at = omega (arith, soon, le) in
+            record {
+              wait = waits_later (lates place) at by o before.wait;
+              ends = ended place o get;
+              port = own_follows (lates place) (chosen (fates_of done) done) done f.undecided (outs place) o n before.port by;
+            };
+      }) same still from (λ place. omega arith)
 
   abbrev one_at : ℕ → ℕ → Numbered → List Record
   one_at at place n = cond (at == place) (n.frame ∷ []) []
@@ -543,15 +577,41 @@ module _ (t : Terms) (tolerance : ℕ) (l : Levels) (ports : List Recorded) wher
   none_here : (at place : ℕ) (n : Numbered) → (at ≡ place → ⊥) → one_at at place n ≡ []
   none_here at place n apart = rw (ne_eqb at place apart) refl
 
-  record_told : (own : List Record) (outs futures : ℕ → List Record) (f : Watched) (at : ℕ) (n : Numbered) → IsSoTold own outs f → limits_in f.outputs ≡ limits_at ports
-      → AreStill (λ place. outs place ++ one_at at place n) futures → AreFrom (Some (left_by_at at n f)) futures → f.latest ≤ left_by_at at n f
-      → IsSoTold own (λ place. outs place ++ one_at at place n) (with_record at n f)
-  record_told own outs futures f at n h same still from le =
+  -- up to which instant ports were told, after a record at one of them
+  abbrev lates_by : (at place : ℕ) (now by : ℕ) (lates : ℕ → ℕ) → ℕ
+  lates_by at place now by lates = cond (at == place) now (later_of (lates place) by)
+
+  late_here : (at place now by : ℕ) (lates : ℕ → ℕ) → at ≡ place → lates_by at place now by lates ≡ now
+  late_here at place now by lates same = rw (eq-eqb at place same) refl
+
+  late_there : (at place now by : ℕ) (lates : ℕ → ℕ) → (at ≡ place → ⊥) → lates_by at place now by lates ≡ later_of (lates place) by
+  late_there at place now by lates apart = rw (ne_eqb at place apart) refl
+
+  late_by : (at place now by latest : ℕ) (lates : ℕ → ℕ) → lates place ≤ latest → latest ≤ now → by ≤ now → lates_by at place now by lates ≤ now
+  late_by at place now by latest lates soon le first = elim (cases_Bool (at == place)) [
+    | inl same ↦ rw same (omega arith)
+    | inr apart ↦ rw apart (omega (arith, soon, le, first))
+  ]
+
+  late_from : (at place now by : ℕ) (lates : ℕ → ℕ) → by ≤ now → by ≤ lates_by at place now by lates
+  late_from at place now by lates first = elim (cases_Bool (at == place)) [
+    | inl same ↦ rw same first
+    | inr apart ↦ rw apart (omega arith)
+  ]
+
+  record_told : (last : Option ℕ) (own : List Record) (outs futures : ℕ → List Record) (lates : ℕ → ℕ) (f : Watched) (at : ℕ) (n : Numbered) → IsSoTold last own outs lates f
+      → limits_in f.outputs ≡ limits_at ports → AreStill (λ place. outs place ++ one_at at place n) futures → AreFrom (Some (stamped_by_at at n f)) futures
+      → f.latest ≤ left_by_at at n f
+      → ((place : ℕ) (o : Output) → slice_get f.outputs place ≡ Some o → Ends last o.limits (left_by n o) × Ends last o.limits (stamped_by_at at n f))
+      → IsSoTold last own (λ place. outs place ++ one_at at place n) (λ place. lates_by at place (left_by_at at n f) (stamped_by_at at n f) lates) (with_record at n f)
+  record_told last own outs futures lates f at n h same still from le ended =
       let done = h.done in
       let passed = chosen (fates_of done) done in
       let now = left_by_at at n f in
+      let by = stamped_by_at at n f in
+      let first = stamped_first at n f in
       let more : Watched = record f { outputs = changed_at at (λ o. with_waiting n o) f.outputs; latest = now } in
-      settled_told own (λ place. outs place ++ one_at at place n) futures (Some now) more (record {
+      settled_told last own (λ place. outs place ++ one_at at place n) futures (λ place. lates_by at place now by lates) (Some by) more (record {
         done = done;
         own_is = h.own_is;
         levels = h.levels;
@@ -559,25 +619,39 @@ module _ (t : Terms) (tolerance : ℕ) (l : Levels) (ports : List Recorded) wher
         tolerances = h.tolerances;
         slow = h.slow;
         in_step = record_in_step f at n now h.in_step refl le;
+        soon = λ place. late_by at place now by f.latest lates (h.soon place) le first;
         at_port = λ place o get.
             elim (get_changed at place (λ x. with_waiting n x) f.outputs o get) [
               | inl here ↦ (
-                  let old = h.at_port place here.old here.get in
+                  let before = h.at_port place here.old here.get in
                   let there : slice_get f.outputs at ≡ Some here.old = ap (λ (i : ℕ). slice_get f.outputs i) here.same ∙ here.get in
-                  let by : now ≡ left_by n here.old = ap (λ (one : Option Output). option_map_or (λ x. left_by n x) one 0) there in
-                  let wait = all_at (WaitsBy f.latest) f.outputs place here.old here.get h.in_step.wait in
-                  subst (λ (x : Output). IsPort now passed done f.undecided (outs place ++ one_at at place n) x) here.is
-                  (subst (λ (rs : List Record). IsPort now passed done f.undecided (outs place ++ rs) (with_waiting n here.old)) (sym (here_is at place n here.same))
-                  (record_follows f.latest passed done f.undecided (outs place) here.old n now old le by wait)))
+                  let is : now ≡ left_by n here.old = ap (λ (one : Option Output). option_map_or (λ x. left_by n x) one 0) there in
+                  let soon = h.soon place in
+                  let up : lates place ≤ now = omega (arith, soon, le) in
+                  subst (λ (i : ℕ). IsAtPort last done f.undecided (outs place ++ one_at at place n) i o) (sym (late_here at place now by lates here.same))
+                  (subst (λ (x : Output). IsAtPort last done f.undecided (outs place ++ one_at at place n) now x) here.is (record {
+                    wait = all_more (λ x. left_by x here.old ≤ now) here.old.waiting n (waits_later (lates place) now up here.old before.wait) (omega (arith, is));
+                    ends = subst (λ (i : ℕ). Ends last here.old.limits i) (sym is) (ended place here.old here.get).0;
+                    port = subst (λ (rs : List Record). IsPort now passed done f.undecided (outs place ++ rs) (with_waiting n here.old)) (sym (here_is at place n here.same))
+                        (record_follows (lates place) passed done f.undecided (outs place) here.old n now before.port up is before.wait);
+                  })))
               | inr there ↦ (
-                  let old = other_follows f.latest passed done f.undecided (outs place) o now (h.at_port place o there.get) le in
-                  subst (λ (rs : List Record). IsPort now passed done f.undecided rs o)
-                  (sym (append-nil (outs place)) ∙ ap (λ (rs : List Record). outs place ++ rs) (sym (none_here at place n there.apart))) old)
+                  let before = h.at_port place o there.get in
+                  let late = later_of (lates place) by in
+                  let up : lates place ≤ late = omega arith in
+                  subst (λ (i : ℕ). IsAtPort last done f.undecided (outs place ++ one_at at place n) i o) (sym (late_there at place now by lates there.apart)) (record {
+                    wait = waits_later (lates place) late up o before.wait;
+                    ends = later_ends last o.limits (lates place) by before.ends (ended place o there.get).1;
+                    port = subst (λ (rs : List Record). IsPort late passed done f.undecided rs o)
+                        (sym (append-nil (outs place)) ∙ ap (λ (rs : List Record). outs place ++ rs) (sym (none_here at place n there.apart)))
+                        (other_follows (lates place) passed done f.undecided (outs place) o late before.port up);
+                  }))
             ];
-      }) (limits_one (λ o. with_waiting n o) (λ o. refl) at f.outputs ∙ same) still from (omega arith)
+      }) (limits_one (λ o. with_waiting n o) (λ o. refl) at f.outputs ∙ same) still from (λ place. late_from at place now by lates first)
 
-  with_outs : (own : List Record) (outs new : ℕ → List Record) (f : Watched) → ((place : ℕ) → outs place ≡ new place) → IsSoTold own outs f → IsSoTold own new f
-  with_outs own outs new f same h = record {
+  with_outs : (last : Option ℕ) (own : List Record) (outs new : ℕ → List Record) (lates : ℕ → ℕ) (f : Watched) → ((place : ℕ) → outs place ≡ new place)
+      → IsSoTold last own outs lates f → IsSoTold last own new lates f
+  with_outs last own outs new lates f same h = record {
     done = h.done;
     own_is = h.own_is;
     levels = h.levels;
@@ -585,7 +659,8 @@ module _ (t : Terms) (tolerance : ℕ) (l : Levels) (ports : List Recorded) wher
     tolerances = h.tolerances;
     slow = h.slow;
     in_step = h.in_step;
-    at_port = λ place o get. subst (λ (rs : List Record). IsPort f.latest (chosen (fates_of h.done) h.done) h.done f.undecided rs o) (same place) (h.at_port place o get);
+    soon = h.soon;
+    at_port = λ place o get. subst (λ (rs : List Record). IsAtPort last h.done f.undecided rs (lates place) o) (same place) (h.at_port place o get);
   }
 
   left_joins : (at place : ℕ) (n : Numbered) (xs : List Notice) (out : List Record) → (out ++ one_at at place n) ++ left_in place xs ≡ out ++ left_in place (Departed at n ∷ xs)
@@ -596,27 +671,57 @@ module _ (t : Terms) (tolerance : ℕ) (l : Levels) (ports : List Recorded) wher
       ] in
       append_assoc out (one_at at place n) (left_in place xs) ∙ ap (λ (rs : List Record). out ++ rs) joins
 
-  pub notices_told : (own : List Record) (outs : ℕ → List Record) (xs : List Notice) (f : Watched) → IsSoTold own outs f → AreNext f xs → limits_in f.outputs ≡ limits_at ports
-      → AllByRecursion Slow (own_in xs) → AreStill outs (λ place. left_in place xs) → IsSoTold (own ++ own_in xs) (λ place. outs place ++ left_in place xs) (with_notices xs f)
-  notices_told own outs [] f h next same slow still =
-      subst (λ (rs : List Record). IsSoTold rs (λ place. outs place ++ []) f) (sym (append-nil own))
-      (with_outs own outs (λ place. outs place ++ []) f (λ place. sym (append-nil (outs place))) h)
-  notices_told own outs (Arrived n ∷ xs) f h next same slow still =
+  abbrev EvenPorts : Type 0
+  EvenPorts = AllByRecursion (λ p. p.limits.tolerance ≡ tolerance) ports
+
+  even_at : (f : Watched) → limits_in f.outputs ≡ limits_at ports → EvenPorts → (place : ℕ) (o : Output) → slice_get f.outputs place ≡ Some o → o.limits.tolerance ≡ tolerance
+  even_at f same even place o get =
+      let p = port_there f.outputs ports place o (same_many f.outputs ports same) get in
+      ap (λ (m : Limits). m.tolerance) (same_limits f.outputs ports place o p.0 same get p.1) ∙ all_at (λ q. q.limits.tolerance ≡ tolerance) ports place p.0 p.1 even
+
+  stamped_is : (f : Watched) → limits_in f.outputs ≡ limits_at ports → EvenPorts → (at : ℕ) (n : Numbered) → stamped_by_at at n f ≤ n.frame.stamp + tolerance
+  stamped_is f same even at n = by (slice_get f.outputs at) refl where
+    by : (one : Option Output) → slice_get f.outputs at ≡ one → option_map_or (λ o. stamped_by n o) one 0 ≤ n.frame.stamp + tolerance
+    by None get = omega arith
+    by (Some o) get = let is = even_at f same even at o get in omega (arith, is)
+
+  abbrev AreTold : Option ℕ → List Record → (ℕ → List Record) → Watched → Type 0
+  AreTold last own outs f = (lates : ℕ → ℕ) × IsSoTold last own outs lates f
+
+  pub notices_told : (last : Option ℕ) (own : List Record) (outs : ℕ → List Record) (lates : ℕ → ℕ) (xs : List Notice) (f : Watched) → IsSoTold last own outs lates f → AreNext f xs
+      → limits_in f.outputs ≡ limits_at ports → EvenPorts → AllByRecursion Slow (own_in xs) → AllByRecursion (IsByLast tolerance last) xs → AreStill outs (λ place. left_in place xs)
+      → AreTold last (own ++ own_in xs) (λ place. outs place ++ left_in place xs) (with_notices xs f)
+  notices_told last own outs lates [] f h next same even slow ended still = (
+    lates,
+    subst (λ (rs : List Record). IsSoTold last rs (λ place. outs place ++ []) lates f) (sym (append-nil own))
+        (with_outs last own outs (λ place. outs place ++ []) lates f (λ place. sym (append-nil (outs place))) h),
+  )
+  notices_told last own outs lates (Arrived n ∷ xs) f h next same even slow ended still =
       let now = with_own n f in
       let after = notice_limits (Arrived n) f ∙ same in
       let latest = own_latest n f in
       let from = next_from ports xs now n.frame.stamp (omega (arith, latest)) after next.1 in
-      subst (λ (rs : List Record). IsSoTold rs (λ place. outs place ++ left_in place xs) (with_notices xs now)) (append_assoc own (n.frame ∷ []) (own_in xs))
-      (notices_told (own ++ n.frame ∷ []) outs xs now (own_told own outs (λ place. left_in place xs) f n h same still from slow.0 next.0.0 next.0.1) next.1 after slow.1 still)
-  notices_told own outs (Departed at n ∷ xs) f h next same slow still =
+      subst (λ (rs : List Record). AreTold last rs (λ place. outs place ++ left_in place xs) (with_notices xs now)) (append_assoc own (n.frame ∷ []) (own_in xs))
+      (notices_told last (own ++ n.frame ∷ []) outs (λ place. n.frame.stamp) xs now
+      (own_told last own outs (λ place. left_in place xs) lates f n h same still from slow.0 next.0.0 next.0.1
+      (λ place o get. frame_ends tolerance last o.limits n (even_at f same even place o get) ended.0)) next.1 after even slow.1 ended.1 still)
+  notices_told last own outs lates (Departed at n ∷ xs) f h next same even slow ended still =
       let now = with_record at n f in
       let after = notice_limits (Departed at n) f ∙ same in
       let latest = record_latest at n f in
-      let from = next_from ports xs now (left_by_at at n f) (omega (arith, latest)) after next.1 in
+      let soon = stamped_first at n f in
+      let from = next_from ports xs now (stamped_by_at at n f) (omega (arith, latest, soon)) after next.1 in
       let rest : AreStill (λ place. outs place ++ one_at at place n) (λ place. left_in place xs) = λ k p there. still k p there ∙ sym (left_joins at k n xs (outs k)) in
-      with_outs (own ++ own_in xs) (λ place. (outs place ++ one_at at place n) ++ left_in place xs) (λ place. outs place ++ left_in place (Departed at n ∷ xs))
-      (with_notices xs now) (λ place. left_joins at place n xs (outs place))
-      (notices_told own (λ place. outs place ++ one_at at place n) xs now (record_told own outs (λ place. left_in place xs) f at n h same rest from next.0.1) next.1 after slow rest)
+      let told = notices_told last own (λ place. outs place ++ one_at at place n) (λ place. lates_by at place (left_by_at at n f) (stamped_by_at at n f) lates) xs now
+      (record_told last own outs (λ place. left_in place xs) lates f at n h same rest from next.0.1 (λ place o get. (
+        record_ends tolerance last o.limits at n ended.0,
+        stamp_ends tolerance last o.limits at n (stamped_by_at at n f) (even_at f same even place o get) (stamped_is f same even at n) ended.0,
+      )))
+      next.1 after even slow ended.1 rest in (
+        told.0,
+        with_outs last (own ++ own_in xs) (λ place. (outs place ++ one_at at place n) ++ left_in place xs) (λ place. outs place ++ left_in place (Departed at n ∷ xs)) told.0
+            (with_notices xs now) (λ place. left_joins at place n xs (outs place)) told.1,
+      )
 
 -- ---- at first
 
@@ -637,9 +742,10 @@ fresh_told latest o fresh =
       rise = tt;
     })
 
-pub first_told : (account : Account) (tolerance : ℕ) (since : Option ℕ) (outputs : List Output) (ports : List Recorded) → tolerance ≤ 1000000000 → AllByRecursion IsFresh outputs
-    → IsSoTold (account_terms account) tolerance (levels_at_first account tolerance since) ports [] (λ place. []) (at_first account tolerance since outputs)
-first_told account tolerance since outputs ports bounded fresh = record {
+pub first_told : (account : Account) (tolerance : ℕ) (since : Option ℕ) (outputs : List Output) (ports : List Recorded) (last : Option ℕ) → tolerance ≤ 1000000000
+    → AllByRecursion IsFresh outputs
+    → IsSoTold (account_terms account) tolerance (levels_at_first account tolerance since) ports last [] (λ place. []) (λ place. 0) (at_first account tolerance since outputs)
+first_told account tolerance since outputs ports last bounded fresh = record {
   done = [];
   own_is = refl;
   levels = refl;
@@ -647,5 +753,8 @@ first_told account tolerance since outputs ports bounded fresh = record {
   tolerances = refl;
   slow = tt;
   in_step = first_in_step account tolerance since outputs bounded fresh;
-  at_port = λ place o get. fresh_told (option_map_or (λ at. at) since 0) o (all_at IsFresh outputs place o get fresh);
+  soon = λ place. omega arith;
+  at_port = λ place o get.
+      let one = all_at IsFresh outputs place o get fresh in
+      record { wait = fresh_waits o one; ends = first_ends last o.limits; port = fresh_told 0 o one };
 }

@@ -9,8 +9,6 @@ use Rattle.afdx_grouping.specs.Scatter.{IsAcceptedWith}
 use Rattle.afdx_pairing.specs.Limits.{most_of}
 use Rattle.afdx_following.specs.declared.watch.Watch.{Watch}
 use Rattle.afdx_following.specs.declared.watch.Start.TheVariants.{Rest}
-use Rattle.afdx_following.specs.Watch.{last_record}
-use Rattle.afdx_following.specs.Output.{last_at}
 use Rattle.afdx_following.specs.Watched.{Watched}
 use Rattle.afdx_merging.specs.Merge.{Arrival, last_instant, IsMergeOf}
 use Rattle.afdx_recordings.specs.declared.recordings.Recordings.{Recordings}
@@ -19,7 +17,7 @@ use Rattle.afdx_compare.specs.Sources.{sources_of}
 use Rattle.afdx_compare.specs.Arrivals.{with_arrivals}
 use Rattle.afdx_compare.specs.Within.{own_within, IsKeptWithin}
 use Rattle.afdx_compare.specs.Inner.Laws.{watch_within, recorded_ports, came_in, left_out}
-use Rattle.afdx_compare_laws.specs.Fine.{LeavesLater, IsByEnd}
+use Rattle.afdx_compare_laws.specs.Fine.{LeavesLater}
 use Rattle.afdx_compare_laws.specs.Fates.{AllDiffer}
 
 -- all was at rest at first, and stamps are not off
@@ -27,12 +25,11 @@ pub record IsExact (w : Watch) : Type 0 where
   pub rest : w.start ≡ Rest
   pub exact : w.tolerance ≡ 0
 
--- of a link of these own frames, once all arrived: at its ports by the stamps no frame has left when it comes; frames of the same bytes came a bound
--- apart, or all is exact; and the last of which it was told is at most a bound past the records' end
+-- of a link of these own frames, once all arrived: at its ports by the stamps no frame has left when it comes; and frames of the same bytes came a
+-- bound apart, or all is exact
 pub record IsClear (w : Watch) (own : List Record) (f : Watched) : Type 0 where
   pub later : AllByRecursion (λ o. AllByRecursion (LeavesLater o.limits) own) f.outputs
   pub apart : AllByRecursion (λ o. AllDiffer (most_of o.limits) own) f.outputs ⊎ IsExact w
-  pub in_time : AllByRecursion (λ o. IsByEnd o.limits (last_at o.limits (last_record w)) (f.latest - o.limits.tolerance)) f.outputs
 
 abbrev pub AreClear : Watch → Content → List (List Record) → Comparison → Type 0
 AreClear w t captures all = (place : ℕ) (l : Link) (f : Watched) → slice_get t.links place ≡ Some l → slice_get all.links place ≡ Some f

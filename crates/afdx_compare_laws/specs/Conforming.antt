@@ -1,13 +1,12 @@
 -- A link whose records are what left of its frames has nothing that speaks against the switch, whatever order it was told of them in (profile).
-use Rattle.std.specs.Prelude.{◌≡◌, ℕ, ◌+◌, ◌-◌, ◌≤◌, Bool, true, List, [], ◌∷◌, map, Option}
+use Rattle.std.specs.Prelude.{◌≡◌, ℕ, ◌+◌, ◌≤◌, Bool, true, List, [], ◌∷◌, map, Option, Some, None}
 use Rattle.std.specs.List.{AllByRecursion}
 use Rattle.afdx_account.specs.declared.account.Account.{Account}
 use Rattle.afdx_account.specs.Account.{account_terms}
 use Rattle.afdx_levels.specs.Levels.{Allowed}
 use Rattle.afdx_following.specs.Output.{Output, IsFresh, last_at}
 use Rattle.afdx_following.specs.Watched.{at_first, levels_at_first, with_ends, conforms}
-use Rattle.afdx_following.specs.Followed.{Notice, with_notices, AreNext, own_in, left_in, judged}
-use Rattle.afdx_compare_laws.specs.Fine.{IsByEnd}
+use Rattle.afdx_following.specs.Followed.{Notice, Arrived, Departed, with_notices, AreNext, own_in, left_in, judged}
 use Rattle.afdx_compare_laws.specs.Fates.{Recorded, LeaveLater, CanBeTold, IsKeptBy}
 
 -- what left for a link at these ports, of which the first is at a place, where records were recorded up to an instant
@@ -16,17 +15,23 @@ recorded_from last notices place [] = []
 recorded_from last notices place (o ∷ outputs) =
     record { limits = o.limits; last = last_at o.limits last; out = left_in place notices } ∷ recorded_from last notices (place + 1) outputs
 
--- all that a link was told of is of instants that are at most a bound past the end of the records
-abbrev pub IsToldByEnd : ℕ → Recorded → Type 0
-IsToldByEnd latest p = IsByEnd p.limits p.last (latest - p.limits.tolerance)
+-- stamps at a port are off by the tolerance
+abbrev pub IsOffBy : ℕ → Output → Type 0
+IsOffBy tolerance o = o.limits.tolerance ≡ tolerance
+
+-- where recordings end at an instant no record is later, and no frame by more than the tolerance
+abbrev pub IsByLast : ℕ → Option ℕ → Notice → Type 0
+IsByLast tolerance None x = Unit {0}
+IsByLast tolerance (Some last) (Arrived n) = n.frame.stamp ≤ last + tolerance
+IsByLast tolerance (Some last) (Departed place n) = n.frame.stamp ≤ last
 
 -- where some fates explain all records, nothing speaks against the switch
 abbrev pub KeptLinkConforms : Type 0
 KeptLinkConforms = (account : Account) (tolerance : ℕ) (since : Option ℕ) (outputs : List Output) (notices : List Notice) (last : Option ℕ) (fates : List Bool)
     → let first = at_first account tolerance since outputs in
     let ports = recorded_from last notices 0 outputs in
-    tolerance ≤ 1000000000 → AllByRecursion IsFresh outputs → AreNext first notices
-    → AllByRecursion (LeaveLater (own_in notices)) ports → AllByRecursion (IsToldByEnd (with_notices notices first).latest) ports
+    tolerance ≤ 1000000000 → AllByRecursion IsFresh outputs → AllByRecursion (IsOffBy tolerance) outputs → AreNext first notices
+    → AllByRecursion (IsByLast tolerance last) notices → AllByRecursion (LeaveLater (own_in notices)) ports
     → CanBeTold (account_terms account) tolerance (levels_at_first account tolerance since) (own_in notices) ports
     → Allowed (account_terms account) tolerance (levels_at_first account tolerance since) (map judged (own_in notices)) fates
     → AllByRecursion (IsKeptBy (own_in notices) fates) ports → conforms (with_ends last (with_notices notices first)) ≡ true

@@ -67,7 +67,7 @@ pub fn told_fates_explain()
 }
 
 /// Where some fates of a link's frames explain all records that it was told of, the link conforms: the other direction of what `afdx_following`
-/// promises, if its fates can be told, and it was told of nothing that is more than a bound past the records' end.
+/// promises, if its fates can be told, and no record is past the instant at which the recordings end, nor a frame by more than the tolerance.
 pub fn kept_link_conforms()
     ensures { KeptLinkConforms }
 {

@@ -9,8 +9,8 @@ use Rattle.std.proofs.lemmas.Option.{slice_get-get_or}
 use Rattle.std.proofs.lemmas.List.Edits.{map_over_more}
 use Rattle.std.proofs.lemmas.List.Quantifiers.{position-Some}
 use Rattle.afdx_pairing.specs.Events.{Numbered}
-use Rattle.afdx_following.specs.Output.{Output, left_by, with_waiting, paired_up_to, gone_on, with_end}
-use Rattle.afdx_following.specs.Watched.{Watched, Fits, decided, first_unknown, with_paired, with_gone, settled_by, with_own, changed_at, left_by_at, with_record, with_ends}
+use Rattle.afdx_following.specs.Output.{Output, left_by, stamped_by, with_waiting, paired_up_to, gone_on, with_end}
+use Rattle.afdx_following.specs.Watched.{Watched, Fits, decided, first_unknown, with_paired, with_gone, settled_by, with_own, changed_at, left_by_at, stamped_by_at, with_record, with_ends}
 use Rattle.afdx_following.specs.Inner.InStep.{IsInStep}
 use Rattle.afdx_following.proofs.InStep.{own_in_step, record_in_step}
 
@@ -61,6 +61,9 @@ same_item xs i x y lt first second = (let both : Some x ≡ Some y = sym (item_t
 pub left_by_is : (place : ℕ) (n : Numbered) (f : Watched) (o : Output) → slice_get f.outputs place ≡ Some o → left_by n o ≡ left_by_at place n f
 left_by_is place n f o get = sym (ap (λ (one : Option Output). option_map_or (λ x. left_by n x) one 0) get)
 
+pub stamped_by_is : (place : ℕ) (n : Numbered) (f : Watched) (o : Output) → slice_get f.outputs place ≡ Some o → stamped_by n o ≡ stamped_by_at place n f
+stamped_by_is place n f o get = sym (ap (λ (one : Option Output). option_map_or (λ x. stamped_by n x) one 0) get)
+
 -- ---- a frame, and a record
 
 pub own_made : (f : Watched) (n : Numbered) (us : List Numbered) (at : ℕ) → us ≡ f.undecided ++ n ∷ [] → at ≡ n.frame.stamp
@@ -75,11 +78,13 @@ own_made_in_step f n us at us_is at_is kept le fits =
     subst (λ (xs : List Numbered). IsInStep (record f { undecided = xs; latest = at })) (sym us_is)
     (subst (λ (i : ℕ). IsInStep (record f { undecided = f.undecided ++ n ∷ []; latest = i })) (sym at_is) (own_in_step f n kept le fits))
 
-pub record_made : (f : Watched) (place : ℕ) (n : Numbered) (o : Output) (at : ℕ) (os : List Output) → slice_get f.outputs place ≡ Some o → at ≡ left_by n o
-    → os ≡ set f.outputs place (with_waiting n o) → settled_by (Some at) (record f { outputs = os; latest = at }) ≡ with_record place n f
-record_made f place n o at os get at_is os_is =
-    ap (λ (xs : List Output). settled_by (Some at) (record f { outputs = xs; latest = at })) (os_is ∙ set_changes place (λ x. with_waiting n x) f.outputs o get)
-    ∙ ap (λ (i : ℕ). settled_by (Some i) (record f { outputs = changed_at place (λ x. with_waiting n x) f.outputs; latest = i })) (at_is ∙ left_by_is place n f o get)
+pub record_made : (f : Watched) (place : ℕ) (n : Numbered) (o : Output) (by at : ℕ) (os : List Output) → slice_get f.outputs place ≡ Some o → by ≡ stamped_by n o
+    → at ≡ left_by n o → os ≡ set f.outputs place (with_waiting n o) → settled_by (Some by) (record f { outputs = os; latest = at }) ≡ with_record place n f
+record_made f place n o by at os get by_is at_is os_is =
+    ap (λ (xs : List Output). settled_by (Some by) (record f { outputs = xs; latest = at })) (os_is ∙ set_changes place (λ x. with_waiting n x) f.outputs o get)
+    ∙ ap (λ (i : ℕ). settled_by (Some by) (record f { outputs = changed_at place (λ x. with_waiting n x) f.outputs; latest = i })) (at_is ∙ left_by_is place n f o get)
+    ∙ ap (λ (i : ℕ). settled_by (Some i) (record f { outputs = changed_at place (λ x. with_waiting n x) f.outputs; latest = left_by_at place n f }))
+    (by_is ∙ stamped_by_is place n f o get)
 
 pub record_made_in_step : (f : Watched) (place : ℕ) (n : Numbered) (o : Output) (at : ℕ) (os : List Output) → slice_get f.outputs place ≡ Some o → at ≡ left_by n o
     → os ≡ set f.outputs place (with_waiting n o) → IsInStep f → f.latest ≤ left_by_at place n f → IsInStep (record f { outputs = os; latest = at })

@@ -18,9 +18,9 @@ use Rattle.afdx_levels.specs.Inner.Laws.{chosen, FateMayBe}
 use Rattle.afdx_pairing.specs.Events.{Numbered}
 use Rattle.afdx_pairing.specs.Kept.{IsKeptFor, Came, Left, passed_of, FineIsKept}
 use Rattle.afdx_following.specs.Tally.{conforms_in}
-use Rattle.afdx_following.specs.Output.{Output, IsFresh, has, left_by, with_came, with_waiting, paired_up_to, gone_on, last_at, with_end}
+use Rattle.afdx_following.specs.Output.{Output, IsFresh, has, left_by, stamped_by, with_came, with_waiting, paired_up_to, gone_on, last_at, with_end}
 use Rattle.afdx_following.specs.Watched.{Watched, levels_at_first, at_first, frame_size, Fits, levels_at, outlook_at, can_tell, counted, fate_of, with_fate, with_told, decided}
-use Rattle.afdx_following.specs.Watched.{first_unknown, with_paired, with_gone, settled_by, with_own, changed_at, left_by_at, with_record}
+use Rattle.afdx_following.specs.Watched.{first_unknown, with_paired, with_gone, settled_by, with_own, changed_at, left_by_at, stamped_by_at, with_record}
 use Rattle.afdx_following.specs.Inner.InStep.{WaitsBy, IsInStep}
 use Rattle.afdx_following.specs.Followed.{Notice, Arrived, Departed, with_notices, AreNext, own_in, left_in, judged, FollowedIsKept}
 use Rattle.afdx_following.proofs.InStep.{fate_in_step, paired_in_step, gone_in_step, own_in_step, record_in_step, first_in_step}
@@ -264,6 +264,14 @@ here_is at place n same = rw (eq-eqb at place same) refl
 none_is : (at place : ℕ) (n : Numbered) → (at ≡ place → ⊥) → one_at at place n ≡ []
 none_is at place n apart = rw (ne_eqb at place apart) refl
 
+-- a record was recorded no later than the line was free again after it
+stamped_soon : (n : Numbered) (one : Option Output) → option_map_or (λ o. stamped_by n o) one 0 ≤ option_map_or (λ o. left_by n o) one 0
+stamped_soon n None = omega arith
+stamped_soon n (Some o) = omega arith
+
+stamped_first : (place : ℕ) (n : Numbered) (f : Watched) → stamped_by_at place n f ≤ left_by_at place n f
+stamped_first place n f = stamped_soon n (slice_get f.outputs place)
+
 record_told : FateMayBe → (t : Terms) (tolerance : ℕ) (l : Levels) (own : List Record) (outs : ℕ → List Record) (f : Watched) (at : ℕ) (n : Numbered) → IsTold t tolerance l own outs f
     → f.latest ≤ left_by_at at n f → IsTold t tolerance l own (λ place. outs place ++ one_at at place n) (with_record at n f)
 record_told may t tolerance l own outs f at n h le =
@@ -271,7 +279,7 @@ record_told may t tolerance l own outs f at n h le =
     let passed = chosen h.fates done in
     let now = left_by_at at n f in
     let more : Watched = record f { outputs = changed_at at (λ o. with_waiting n o) f.outputs; latest = now } in
-    settled_told may t tolerance l own (λ place. outs place ++ one_at at place n) (Some now) more (record {
+    settled_told may t tolerance l own (λ place. outs place ++ one_at at place n) (Some (stamped_by_at at n f)) more (record {
       decided_ones = done;
       fates = h.fates;
       own_is = h.own_is;
@@ -297,7 +305,7 @@ record_told may t tolerance l own outs f at n h le =
                 subst (λ (rs : List Record). IsPort now passed done f.undecided rs o)
                 (sym (append-nil (outs place)) ∙ ap (λ (rs : List Record). outs place ++ rs) (sym (none_is at place n there.apart))) old)
           ];
-    }) (omega arith)
+    }) (stamped_first at n f)
 
 with_outs : (t : Terms) (tolerance : ℕ) (l : Levels) (own : List Record) (outs new : ℕ → List Record) (f : Watched) → ((place : ℕ) → outs place ≡ new place)
     → IsTold t tolerance l own outs f → IsTold t tolerance l own new f

@@ -54,6 +54,10 @@ is_over at frame o = nat_lt (frame.frame.stamp + most_of o.limits + o.limits.tol
 abbrev pub left_by : Numbered → Output → ℕ
 left_by n o = left_at o.limits n.frame + o.limits.tolerance
 
+-- the latest instant at which by the stamps a record was recorded
+abbrev pub stamped_by : Numbered → Output → ℕ
+stamped_by n o = n.frame.stamp + o.limits.tolerance
+
 -- after a record that left
 abbrev pub with_waiting : Numbered → Output → Output
 with_waiting n o = record o { waiting = o.waiting ++ n ∷ [] }

@@ -9,7 +9,7 @@ use Rattle.afdx_levels.specs.declared.outlook.Outlook.{Outlook}
 use Rattle.afdx_levels.specs.declared.outlook.Outlook.TheVariants.{Must, Never, Unsure}
 use Rattle.afdx_levels.specs.Levels.{Levels, at_rest, unknown, credited, outlook_of, after, fate_told}
 use Rattle.afdx_pairing.specs.Events.{Numbered}
-use Rattle.afdx_following.specs.Output.{Output, has, is_over, left_by, with_came, with_waiting, paired_up_to, gone_on, with_end}
+use Rattle.afdx_following.specs.Output.{Output, has, is_over, left_by, stamped_by, with_came, with_waiting, paired_up_to, gone_on, with_end}
 use Rattle.afdx_following.specs.Tally.{up, conforms_in}
 
 -- a link that is watched: how it is policed and by how much stamps may be off, what is known of its account's level, the frames of which the
@@ -128,11 +128,14 @@ changed_at (suc place) change (x ∷ xs) = x ∷ changed_at place change xs
 abbrev pub left_by_at : ℕ → Numbered → Watched → ℕ
 left_by_at place n f = option_map_or (λ o. left_by n o) (slice_get f.outputs place) 0
 
--- a record that left there
+-- the latest instant at which by the stamps a record at the port at a place was recorded
+abbrev pub stamped_by_at : ℕ → Numbered → Watched → ℕ
+stamped_by_at place n f = option_map_or (λ o. stamped_by n o) (slice_get f.outputs place) 0
+
+-- a record that left there: of what is told, the line's gap has no part, as no line that is faster has it
 abbrev pub with_record : ℕ → Numbered → Watched → Watched
 with_record place n f =
-    let at = left_by_at place n f in
-    settled_by (Some at) (record f { outputs = changed_at place (λ o. with_waiting n o) f.outputs; latest = at })
+    settled_by (Some (stamped_by_at place n f)) (record f { outputs = changed_at place (λ o. with_waiting n o) f.outputs; latest = left_by_at place n f })
 
 -- the end: records were recorded up to an instant, or all had left
 abbrev pub with_ends : Option ℕ → Watched → Watched

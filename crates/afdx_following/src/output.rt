@@ -3,7 +3,7 @@
 ghost use Rattle.std.specs.Prelude.{◌≡◌, ◌≤◌, [], length, slice_get, OnOk};
 ghost use Rattle.std.specs.List.{AllByRecursion};
 ghost use Rattle.afdx_pairing.specs.Kept.{Left};
-ghost use Rattle.afdx_following.specs.Output.{output_at, has, is_over, left_by, HasComeBy, with_came, with_waiting, with_sight, settled, paired_up_to, earliest};
+ghost use Rattle.afdx_following.specs.Output.{output_at, has, is_over, left_by, stamped_by, HasComeBy, with_came, with_waiting, with_sight, settled, paired_up_to, earliest};
 ghost use Rattle.afdx_following.specs.Output.{gone_on, last_at, with_end};
 
 use crate::found::Found;
@@ -102,6 +102,13 @@ impl<'a, A: Allocator + Copy> Output<'a, A> {
         ensures { result ≡ left_by left.now self.now }
     {
         self.limits.left_at(left) + u128::from(self.limits.tolerance)
+    }
+
+    /// The latest instant, in nanoseconds, at which by the stamps a record was recorded.
+    pub(crate) fn stamped_by(&self, left: &Numbered<'a, A>) -> u128
+        ensures { result ≡ stamped_by left.now self.now }
+    {
+        u128::from(left.stamp().ns()) + u128::from(self.limits.tolerance)
     }
 
     /// Takes a frame that came no sooner than those that are held, and its fate.

@@ -162,9 +162,10 @@ impl<'a, A: Allocator + Copy> Watched<'a, A> {
         ensures in_step { OnOk result (IsInStep self.new) }
     {
         let at = self.outputs[place].left_by(&left);
+        let by = self.outputs[place].stamped_by(&left);
         self.outputs[place].left(left)?;
         self.latest = at;
-        self.settle(Some(at))
+        self.settle(Some(by))
     }
 
     /// Ends, where all frames and records were taken.
