@@ -5,6 +5,7 @@ a text it is not known whether it is TOML if something in it may be of 1.1 alone
 `\\e`, `\\xHH`, a time without seconds) or a date that Python does not have (the year 0, a leap second). Nor is it known
 of what lies deep in one another: the page has limits of a text's arrays and keys, which its tree does not show.
 """
+import math
 import re
 import tomllib
 from collections.abc import Iterator
@@ -40,6 +41,17 @@ def leaves_of(value: Any, depth: int = 0) -> Iterator[Any]:
         yield value
 
 
+def float_of(text: str) -> float:
+    """Reads a number with a fraction or an exponent.
+
+    Raises `ValueError` if it is past those of 64 bits, which Python takes for infinite.
+    """
+    number = float(text)
+    if math.isinf(number) and "inf" not in text:
+        raise ValueError(text)
+    return number
+
+
 def may_be_newer(text: str) -> bool:
     """Says whether something in a text may be of TOML 1.1 alone, or a date that Python does not have."""
     begin = text.find("{")
@@ -57,7 +69,7 @@ def tree_of(data: bytes) -> Tree:
     except UnicodeDecodeError as fault:
         raise NoToml from fault
     try:
-        tree = tomllib.loads(text)
+        tree = tomllib.loads(text, parse_float=float_of)
         numbers = [leaf for leaf in leaves_of(tree) if type(leaf) is int]
     except RecursionError as fault:
         raise Unknown from fault
