@@ -1,11 +1,12 @@
 -- Recordings that keep to what is proved of our switch are said to conform.
 use Rattle.std.proofs.Common.{◌≡◌, ℕ, zero, suc, ◌+◌, ◌-◌, ◌≤◌, min, cond, Bool, true, false, List, [], ◌∷◌, ◌++◌, map, filter, length}
 use Rattle.std.proofs.Common.{Option, Some, None, refl, sym, ap, subst, ◌∙◌, arith, inl, inr}
-use Rattle.std.specs.Prelude.{◌==◌, ◌&&◌, nat_le, nat_eq, if◌then◌else◌, find, option_map, slice_get, Contains}
+use Rattle.std.specs.Prelude.{◌==◌, nat_eq, if◌then◌else◌, find, option_map, slice_get, Contains}
 use Rattle.std.specs.List.{AllByRecursion, IsDistinct, list_all, position, position_or_len}
 use Rattle.std.specs.Option.{option_map_or}
-use Rattle.std.proofs.lemmas.Bool.{and_from, and_parts, leb-true, eqb-true, eqb-false, eq-eqb, ne_eqb, lt-ltb, true≢false}
-use Rattle.std.proofs.lemmas.Option.{same_Some, slice_get-map, slice_get-get_or, slice_get_within}
+use Rattle.std.proofs.lemmas.Bool.{and_from, and_parts, leb-true, eq-eqb, lt-ltb, true≢false}
+use Rattle.std.proofs.lemmas.Option.{same_Some, slice_get-map, slice_get_within}
+use Rattle.afdx_units.specs.Time.{last_instant}
 use Rattle.afdx_pcap.specs.Record.{Record}
 use Rattle.afdx_frame.specs.Address.{link_of}
 use Rattle.afdx_units.specs.declared.line.Priority.{Priority}
@@ -16,7 +17,7 @@ use Rattle.afdx_levels.specs.Levels.{Levels, at_rest, Allowed}
 use Rattle.afdx_levels.specs.Inner.Laws.{chosen, AllFit}
 use Rattle.afdx_table.specs.declared.rows.PortRow.{PortRow}
 use Rattle.afdx_table.specs.Link.{Link, names_port, leads_to}
-use Rattle.afdx_table.specs.Content.{Content, port_row, link_place}
+use Rattle.afdx_table.specs.Content.{Content, port_row}
 use Rattle.afdx_table.specs.WellFormed.{IsPort, IsLink, IsWellFormed}
 use Rattle.afdx_table.specs.Inner.Found.{LinksAreFound, LinksAreAtTheirPlaces, PortsAreFound}
 use Rattle.afdx_filter.specs.Inner.Clean.{CleanFramesHaveALink}
@@ -35,12 +36,12 @@ use Rattle.afdx_following.specs.Watched.{Watched, levels_at_first, conforms, wit
 use Rattle.afdx_following.specs.Followed.{Notice, Arrived, Departed, with_notices, AreNext, own_in, left_in, judged}
 use Rattle.afdx_core.specs.Merge.{Capture}
 use Rattle.afdx_session.specs.Headline.{records_for}
-use Rattle.afdx_merging.specs.Merge.{Arrival, last_instant, IsMergeOf}
+use Rattle.afdx_merging.specs.Merge.{Arrival, IsMergeOf}
 use Rattle.afdx_recordings.specs.declared.recordings.Recordings.{Recordings}
 use Rattle.afdx_recordings.specs.declared.outputs.Outputs.{Outputs}
 use Rattle.afdx_recordings.specs.Recordings.{is_recorded}
 use Rattle.afdx_compare.specs.Comparison.{Comparison, watch_of, bound_in, output_first, outputs_first, IsFirstOf, IsBegun}
-use Rattle.afdx_compare.specs.Comparison.{place_of_own, link_among, place_of_named, link_at, with_until, with_end, conform}
+use Rattle.afdx_compare.specs.Comparison.{place_of_own, place_of_named, link_at, with_until, with_end, conform}
 use Rattle.afdx_compare.specs.Sources.{Sources, sources_of}
 use Rattle.afdx_compare.specs.Arrivals.{with_arrival, with_arrivals}
 use Rattle.afdx_compare.specs.Within.{levels_since, own_within, recorded, IsKeptWithin}
@@ -52,14 +53,13 @@ use Rattle.afdx_compare.specs.Inner.Due.{AreDue}
 use Rattle.afdx_compare.proofs.Beginning.{first_each, first_at, begun_sound, begun_by, all_from}
 use Rattle.afdx_compare.proofs.Bounding.{bounded}
 use Rattle.afdx_compare.proofs.Clocked.{all_due}
-use Rattle.afdx_compare.proofs.Conforming.{IsLedBy}
 use Rattle.afdx_compare.proofs.Explaining.{until_sound}
 use Rattle.afdx_compare.proofs.Gathered.{merge_clocked, left_is_recorded}
 use Rattle.afdx_compare.proofs.Leading.{is_at, IsPortAt, all_left, left_here}
 use Rattle.afdx_compare.proofs.Making.{first_fresh, row_number}
 use Rattle.afdx_compare.proofs.Next.{Laws, arrival_same, links_are_next}
 use Rattle.afdx_compare.proofs.Owned.{own_is}
-use Rattle.afdx_compare.proofs.Owning.{IsPlaced, placed, number_at, own_is_within}
+use Rattle.afdx_compare.proofs.Owning.{IsPlaced, placed, own_is_within}
 use Rattle.afdx_compare.proofs.Picking.{filter_alike}
 use Rattle.afdx_compare.proofs.Places.{get_there, all_at, same_get, item_contained}
 use Rattle.afdx_compare.proofs.Ported.{HasLimits, all_have, names_all, all_lead}
@@ -74,7 +74,9 @@ use Rattle.afdx_compare_laws.proofs.Conforming.{recorded_at, recorded_limits, li
 use Rattle.afdx_compare_laws.proofs.Fine.{first_is, rest_is}
 use Rattle.afdx_compare_laws.proofs.Fitting.{own_fit}
 use Rattle.afdx_compare_laws.proofs.Narrowing.{all_map}
-use Rattle.afdx_compare_laws.proofs.Told.{limits_in, limits_at, notices_limits, same_limits, same_many, port_there, get_mapped}
+use Rattle.afdx_compare_laws.proofs.Told.{limits_in, limits_at, notices_limits, same_limits, same_many, port_there}
+use Rattle.afdx_compare.proofs.Conforming.{contained_at, led_alike}
+use Rattle.afdx_following.proofs.Explained.{get_mapped}
 
 -- the laws of lower crates that are needed
 pub record Lower : Type 0 where
@@ -87,10 +89,7 @@ pub record Lower : Type 0 where
 
 -- ---- lists
 
-contained_at : {X : Type 0} (xs : List X) (x : X) → Contains xs x → (k : ℕ) × (slice_get xs k ≡ Some x)
-contained_at {X} xs x has = (has.0, slice_get-get_or xs has.0 x has.1 ∙ ap (λ (y : X). Some y) has.2)
-
-filter_there : {X : Type 0} (test : X → Bool) (xs : List X) (k : ℕ) (x : X) → slice_get xs k ≡ Some x → test x ≡ true → (j : ℕ) × (slice_get (filter test xs) j ≡ Some x)
+pub filter_there : {X : Type 0} (test : X → Bool) (xs : List X) (k : ℕ) (x : X) → slice_get xs k ≡ Some x → test x ≡ true → (j : ℕ) × (slice_get (filter test xs) j ≡ Some x)
 filter_there test [] k x at is = absurd (let never = at in cc)
 filter_there {X} test (y ∷ xs) zero x at is =
     let same : test y ≡ true = ap test (same_Some y x at) ∙ is in
@@ -100,7 +99,7 @@ filter_there {X} test (y ∷ xs) (suc k) x at is = by (test y) refl (filter_ther
   by true keeps rest = (suc rest.0, ap (λ (b : Bool). slice_get (cond b (y ∷ filter test xs) (filter test xs)) (suc rest.0)) keeps ∙ rest.1)
   by false drops rest = (rest.0, ap (λ (b : Bool). slice_get (cond b (y ∷ filter test xs) (filter test xs)) rest.0) drops ∙ rest.1)
 
-filter_of : {X : Type 0} (test : X → Bool) (xs : List X) (j : ℕ) (x : X) → slice_get (filter test xs) j ≡ Some x → (k : ℕ) × (slice_get xs k ≡ Some x)
+pub filter_of : {X : Type 0} (test : X → Bool) (xs : List X) (j : ℕ) (x : X) → slice_get (filter test xs) j ≡ Some x → (k : ℕ) × (slice_get xs k ≡ Some x)
 filter_of test [] j x at = absurd (let never = at in cc)
 filter_of {X} test (y ∷ xs) j x at = by (test y) refl j at (λ i get. filter_of test xs i x get) where
   by : (b : Bool) → test y ≡ b → (i : ℕ) → slice_get (cond b (y ∷ filter test xs) (filter test xs)) i ≡ Some x
@@ -109,7 +108,7 @@ filter_of {X} test (y ∷ xs) j x at = by (test y) refl j at (λ i get. filter_o
   by true is (suc i) get rest = (let later = rest i get in (suc later.0, later.1))
   by false is i get rest = (let later = rest i get in (suc later.0, later.1))
 
-find_in : {X : Type 0} (test : X → Bool) (xs : List X) (x : X) → find test xs ≡ Some x → (k : ℕ) × (slice_get xs k ≡ Some x)
+pub find_in : {X : Type 0} (test : X → Bool) (xs : List X) (x : X) → find test xs ≡ Some x → (k : ℕ) × (slice_get xs k ≡ Some x)
 find_in test [] x is = absurd (let never = is in cc)
 find_in {X} test (y ∷ xs) x is = by (test y) refl (λ rest. find_in test xs x rest) where
   by : (b : Bool) → test y ≡ b → (find test xs ≡ Some x → (k : ℕ) × (slice_get xs k ≡ Some x)) → (k : ℕ) × (slice_get (y ∷ xs) k ≡ Some x)
@@ -120,7 +119,7 @@ all_joined : {X : Type 0} (P : X → Type 0) (xs ys : List X) → AllByRecursion
 all_joined P [] ys first second = second
 all_joined P (x ∷ xs) ys first second = (first.0, all_joined P xs ys first.1 second)
 
-all_from_each : {X : Type 0} (P : X → Type 0) (xs : List X) → ((k : ℕ) (x : X) → slice_get xs k ≡ Some x → P x) → AllByRecursion P xs
+pub all_from_each : {X : Type 0} (P : X → Type 0) (xs : List X) → ((k : ℕ) (x : X) → slice_get xs k ≡ Some x → P x) → AllByRecursion P xs
 all_from_each P [] each = tt
 all_from_each P (x ∷ xs) each = (each 0 x refl, all_from_each P xs (λ k y at. each (suc k) y at))
 
@@ -204,45 +203,6 @@ port_place os distinct k o get =
     (lt-ltb (position_or_len (λ (x : Output). x.port == o.port) os) (length os) (omega (arith, is, lt))) ∙ ap (λ (n : ℕ). Some n) is
 
 -- ---- the link that a record names
-
-named_if : (b : Bool) (o : Option ℕ) (x : ℕ) → (if b then o else None) ≡ Some x → o ≡ Some x
-named_if true o x is = is
-named_if false o x is = absurd (let never = is in cc)
-
-led_by : (t : Content) (links : List Watched) (port : ℕ) (bytes : List ℕ) (link output : ℕ) → link_among port links (place_of_named t bytes) ≡ Some (link, output)
-    → IsLedBy t links port bytes link output
-led_by t links port bytes link output is =
-    let by = among_links port link output links (place_of_named t bytes) is in
-    record {
-      named = named_if (nat_le 6 (length bytes)) (link_place t (link_of bytes)) link (same (place_of_named t bytes) is);
-      followed = by.0;
-      there = by.1;
-      place = by.2;
-    } where
-      same : (o : Option ℕ) → link_among port links o ≡ Some (link, output) → o ≡ Some link
-      same None is = absurd (let never = is in cc)
-      same (Some at) is = ap (λ (n : ℕ). Some n) (among port link output at (slice_get links at) is).2
-
-led_alike : LinksAreFound → LinksAreAtTheirPlaces → (t : Content) (c : Comparison) (l : Link) (place k port : ℕ) (f : Watched) (r : Record) → c.table ≡ t → IsPlaced t l place
-    → slice_get c.links place ≡ Some f → position (λ o. o.port == port) f.outputs ≡ Some k → (link output : ℕ) → link_at port r.bytes c ≡ Some (link, output)
-    → is_at place k (link_at port r.bytes c) ≡ (link_of r.bytes == l.id)
-led_alike found places t c l place k port f r table at there is link output led = by (link_of r.bytes == l.id) refl where
-  one : IsLedBy t c.links port r.bytes link output
-  one = led_by t c.links port r.bytes link output (subst (λ (x : Content). link_among port c.links (place_of_named x r.bytes) ≡ Some (link, output)) table led)
-
-  by : (b : Bool) → (link_of r.bytes == l.id) ≡ b → is_at place k (link_at port r.bytes c) ≡ b
-  by true same =
-      let links : Some link ≡ Some place = sym one.named ∙ ap (λ (n : ℕ). link_place t n) (eqb-true (link_of r.bytes) l.id same) ∙ at.named in
-      let link_is : link ≡ place = same_Some link place links in
-      let followed : one.followed ≡ f = same_get c.links place one.followed f (ap (λ (n : ℕ). slice_get c.links n) (sym link_is) ∙ one.there) there in
-      let outputs : Some output ≡ Some k = sym one.place ∙ ap (λ (x : Watched). position (λ o. o.port == port) x.outputs) followed ∙ is in
-      ap (λ (x : Option (ℕ × ℕ)). is_at place k x) led
-      ∙ ap (λ (b : Bool). b && (output == k)) (eq-eqb link place link_is)
-      ∙ eq-eqb output k (same_Some output k outputs)
-  by false other =
-      ap (λ (x : Option (ℕ × ℕ)). is_at place k x) led
-      ∙ ap (λ (b : Bool). b && (output == k)) (ne_eqb link place (λ link_is. absurd (eqb-false (link_of r.bytes) l.id other
-      (sym (number_at found places t l place (link_of r.bytes) at.there (one.named ∙ ap (λ (n : ℕ). Some n) link_is))))))
 
 -- ---- what a link is told of is within the span
 

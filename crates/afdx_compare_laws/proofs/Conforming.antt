@@ -1,5 +1,5 @@
 -- A link whose records are what left of its frames has nothing that speaks against the switch, whatever order it was told of them in.
-use Rattle.std.proofs.Common.{◌≡◌, ℕ, zero, suc, ◌+◌, ◌-◌, ◌≤◌, Bool, true, List, [], ◌∷◌, ◌++◌, map, take, drop, length}
+use Rattle.std.proofs.Common.{◌≡◌, ℕ, zero, suc, ◌+◌, ◌-◌, ◌≤◌, Bool, true, List, [], ◌∷◌, ◌++◌, map}
 use Rattle.std.proofs.Common.{Option, Some, None, refl, sym, ap, subst, ◌∙◌, arith}
 use Rattle.std.specs.Prelude.{slice_get}
 use Rattle.std.specs.List.{AllByRecursion, list_all}
@@ -7,8 +7,6 @@ use Rattle.std.proofs.lemmas.Bool.{and_from}
 use Rattle.std.proofs.lemmas.List.{append-nil}
 use Rattle.afdx_pcap.specs.Record.{Record}
 use Rattle.afdx_account.specs.Account.{account_terms}
-use Rattle.afdx_levels.specs.declared.outlook.Outlook.{Outlook}
-use Rattle.afdx_levels.specs.declared.outlook.Outlook.TheVariants.{Must, Never, Unsure}
 use Rattle.afdx_levels.specs.Inner.Laws.{chosen, FateMayBe, AtRestIsTheAccount}
 use Rattle.afdx_pairing.specs.declared.limits.Limits.{Limits}
 use Rattle.afdx_pairing.specs.Events.{Numbered}
@@ -17,12 +15,11 @@ use Rattle.afdx_pairing.specs.Pairing.{Pairing, at_first as pairing_at_first, en
 use Rattle.afdx_pairing.specs.Kept.{IsKeptFor, Sight, Came, Left, Until, own_of, passed_of, left_of, after_all, told_by_all, all_told}
 use Rattle.afdx_following.specs.declared.tally.Tally.{Tally}
 use Rattle.afdx_following.specs.Tally.{no_events, tallied, tally_of, conforms_in}
-use Rattle.afdx_following.specs.Output.{Output, paired_up_to, last_at, with_end}
-use Rattle.afdx_following.specs.Watched.{Watched, levels_at_first, at_first, outlook_at, can_tell, with_told, decided, first_unknown, settled_by}
+use Rattle.afdx_following.specs.Output.{Output, last_at, with_end}
+use Rattle.afdx_following.specs.Watched.{levels_at_first, at_first, settled_by}
 use Rattle.afdx_following.specs.Followed.{Notice, with_notices, own_in, left_in}
 use Rattle.afdx_following.proofs.Counting.{tallied_more, conforms_where_fine}
 use Rattle.afdx_following.proofs.Growing.{AreUpTo}
-use Rattle.afdx_following.proofs.Paired.{sights_keep}
 use Rattle.afdx_following.proofs.Ports.{records, IsPort}
 use Rattle.afdx_compare.proofs.Places.{all_at}
 use Rattle.afdx_compare_laws.specs.Fine.{LeavesLater, IsByEnd, AreByEnd}
@@ -32,8 +29,9 @@ use Rattle.afdx_compare_laws.proofs.Ending.{Ends}
 use Rattle.afdx_compare_laws.proofs.Fine.{kept_is_fine, first_is, rest_is}
 use Rattle.afdx_compare_laws.proofs.Fates.{told_fates_explain}
 use Rattle.afdx_compare_laws.proofs.Narrowing.{all_map}
-use Rattle.afdx_compare_laws.proofs.Told.{limits_in, limits_at, settled_limits, notices_limits, same_limits, same_many, port_there, next_order, get_mapped}
+use Rattle.afdx_compare_laws.proofs.Told.{limits_in, limits_at, settled_limits, notices_limits, same_limits, same_many, port_there, next_order}
 use Rattle.afdx_compare_laws.proofs.Told.{Slow, fates_of, settled_told, notices_told, first_told}
+use Rattle.afdx_following.proofs.Explained.{none_undecided, nothing_waits, get_mapped}
 
 -- ---- lists
 
@@ -72,32 +70,6 @@ recorded_at last notices place (o ∷ os) (suc k) p at =
     subst (λ (i : ℕ). IsOf last notices i p) next (recorded_at last notices (place + 1) os k p at)
 
 -- ---- in the end all fates are told, and no record waits
-
-told_in_the_end : (os : List Output) (n : Numbered) (o : Outlook) → can_tell None os n o ≡ true
-told_in_the_end os n Must = refl
-told_in_the_end os n Never = refl
-told_in_the_end os n Unsure = refl
-
-none_undecided : (ns : List Numbered) (f : Watched) → (decided None ns f).undecided ≡ []
-none_undecided [] f = refl
-none_undecided (n ∷ ns) f = rw (told_in_the_end f.outputs n (outlook_at f n)) (none_undecided ns (with_told n f))
-
-all_dropped : {X : Type 0} (xs : List X) → drop (length xs) xs ≡ []
-all_dropped [] = refl
-all_dropped {X} (x ∷ xs) =
-    let next : length (x ∷ xs) ≡ suc (length xs) = omega arith in
-    ap (λ (k : ℕ). drop k (x ∷ xs)) next ∙ all_dropped xs
-
-none_wait : (unknown : Option ℕ) (o : Output) → unknown ≡ None → (paired_up_to unknown o).waiting ≡ []
-none_wait None o none = sights_keep (map Left (take (length o.waiting) o.waiting)) (record o { waiting = drop (length o.waiting) o.waiting }) ∙ all_dropped o.waiting
-none_wait (Some at) o none = absurd (let never = none in cc)
-
-nothing_waits : (f : Watched) (place : ℕ) (o : Output) → slice_get (settled_by None f).outputs place ≡ Some o → o.waiting ≡ []
-nothing_waits f place o get =
-    let d = decided None f.undecided f in
-    let unknown = first_unknown d.undecided in
-    let old = get_mapped (λ x. paired_up_to unknown x) d.outputs place o get in
-    ap (λ (x : Output). x.waiting) (sym old.1.1) ∙ none_wait unknown old.0 (ap (λ (ns : List Numbered). first_unknown ns) (none_undecided f.undecided f))
 
 -- ---- a port
 

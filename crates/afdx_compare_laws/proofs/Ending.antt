@@ -1,16 +1,11 @@
 -- Up to which instants ports are told of what left, where recordings end at one.
-use Rattle.std.proofs.Common.{◌≡◌, ℕ, ◌+◌, ◌-◌, ◌≤◌, List, [], ◌∷◌, map, take, drop, Option, Some, None, sym, subst, arith}
-use Rattle.std.specs.Prelude.{slice_get}
-use Rattle.std.specs.Option.{option_map_or}
+use Rattle.std.proofs.Common.{◌≡◌, ℕ, ◌+◌, ◌-◌, ◌≤◌, [], Option, Some, None, sym, subst, arith}
 use Rattle.afdx_pairing.specs.declared.limits.Limits.{Limits}
 use Rattle.afdx_pairing.specs.Events.{Numbered}
 use Rattle.afdx_pairing.specs.Limits.{left_at}
-use Rattle.afdx_pairing.specs.Kept.{Sight, Left}
-use Rattle.afdx_following.specs.Output.{Output, IsFresh, left_by, stamped_by, with_sight, with_sights, settled, paired_up_to, last_at}
-use Rattle.afdx_following.specs.Watched.{Watched, left_by_at, stamped_by_at}
+use Rattle.afdx_following.specs.Output.{Output, IsFresh, left_by, last_at}
 use Rattle.afdx_following.specs.Inner.InStep.{WaitsBy}
 use Rattle.afdx_following.specs.Followed.{Arrived, Departed}
-use Rattle.afdx_following.proofs.InStep.{all_dropped}
 use Rattle.afdx_compare_laws.specs.Fine.{IsByEnd}
 use Rattle.afdx_compare_laws.specs.Conforming.{IsByLast}
 use Rattle.afdx_compare_laws.proofs.Narrowing.{all_map}
@@ -44,27 +39,9 @@ pub stamp_ends : (tolerance : ℕ) (last : Option ℕ) (m : Limits) (place : ℕ
 stamp_ends tolerance None m place n late even le by = tt
 stamp_ends tolerance (Some last) m place n late even le by = omega (arith, even, le, by)
 
--- a record was recorded no later than the line was free again after it
-stamped_soon : (n : Numbered) (one : Option Output) → option_map_or (λ o. stamped_by n o) one 0 ≤ option_map_or (λ o. left_by n o) one 0
-stamped_soon n None = omega arith
-stamped_soon n (Some o) = omega arith
-
-pub stamped_first : (place : ℕ) (n : Numbered) (f : Watched) → stamped_by_at place n f ≤ left_by_at place n f
-stamped_first place n f = stamped_soon n (slice_get f.outputs place)
-
 -- records that wait left by an instant
 pub waits_later : (at later : ℕ) → at ≤ later → (o : Output) → WaitsBy at o → WaitsBy later o
 waits_later at later le o wait = all_map (λ n. left_by n o ≤ at) (λ n. left_by n o ≤ later) (λ n by. omega (arith, le, by)) o.waiting wait
-
-sights_wait : (at : ℕ) (ss : List Sight) (o : Output) → WaitsBy at o → WaitsBy at (with_sights ss o)
-sights_wait at [] o wait = wait
-sights_wait at (s ∷ ss) o wait = sights_wait at ss (with_sight s o) wait
-
-pub paired_waits : (at : ℕ) (unknown : Option ℕ) (o : Output) → WaitsBy at o → WaitsBy at (paired_up_to unknown o)
-paired_waits at unknown o wait =
-    let k = settled unknown o in
-    let rest : Output = record o { waiting = drop k o.waiting } in
-    sights_wait at (map Left (take k o.waiting)) rest (all_dropped (λ n. left_by n o ≤ at) k o.waiting wait)
 
 pub fresh_waits : (o : Output) → IsFresh o → WaitsBy 0 o
 fresh_waits o fresh = subst (λ (x : Output). WaitsBy 0 x) (sym fresh) tt

@@ -1,10 +1,10 @@
 -- Where some fates of a link's frames explain what left at its ports, those do that are told.
-use Rattle.std.proofs.Common.{◌≡◌, ℕ, ◌+◌, ◌*◌, ◌≤◌, nat_le, not, Bool, true, false, ◌&&◌, IsTrue}
+use Rattle.std.proofs.Common.{◌≡◌, ℕ, ◌+◌, ◌≤◌, nat_le, not, Bool, true, false, ◌&&◌}
 use Rattle.std.proofs.Common.{List, [], ◌∷◌, ◌++◌, map, length, Option, Some, None, refl, sym, ap, subst, ◌∙◌, arith, inl, inr}
 use Rattle.std.specs.Prelude.{if◌then◌else◌}
 use Rattle.std.specs.List.{AllByRecursion, AllZip, list_any}
 use Rattle.std.specs.Str.{bytes_eq}
-use Rattle.std.proofs.lemmas.Bool.{and_parts, and_from, or_from, or_parts, or_right, not_from_false, true≢false, leb-true, ltb-true, le-ltb, le-leb, false_from_ne_true}
+use Rattle.std.proofs.lemmas.Bool.{and_parts, and_from, or_from, or_parts, or_right, not_from_false, true≢false, leb-true, le-ltb, le-leb, false_from_ne_true}
 use Rattle.std.proofs.lemmas.List.{append_assoc}
 use Rattle.std.proofs.lemmas.Slice.Eq.{bytes_eq-Decides}
 use Rattle.afdx_units.specs.Line.{size_of, cost_of}
@@ -12,7 +12,7 @@ use Rattle.afdx_pcap.specs.Record.{Record}
 use Rattle.afdx_account.specs.Policing.{Terms}
 use Rattle.afdx_levels.specs.declared.outlook.Outlook.{Outlook}
 use Rattle.afdx_levels.specs.declared.outlook.Outlook.TheVariants.{Must, Never, Unsure}
-use Rattle.afdx_levels.specs.Levels.{Levels, slack_of, at_rest, credited, may_be, outlook_of, after, fate_told, Allowed}
+use Rattle.afdx_levels.specs.Levels.{Levels, at_rest, credited, may_be, outlook_of, after, fate_told, Allowed}
 use Rattle.afdx_levels.specs.Inner.Laws.{chosen, AllFit, FateMayBe, AtRestIsTheAccount}
 use Rattle.afdx_pairing.specs.declared.limits.Limits.{Limits}
 use Rattle.afdx_pairing.specs.Limits.{left_at, most_of, is_early, in_bound}
@@ -23,6 +23,7 @@ use Rattle.afdx_compare_laws.specs.Fine.{LeavesLater}
 use Rattle.afdx_compare_laws.specs.Fates.{Recorded, is_seen_at, is_seen, fates_seen, AllDiffer, OwnInOrder, LeaveLater, AreApart, IsKnown, IsKeptBy, ToldFatesExplain}
 use Rattle.afdx_compare_laws.proofs.Narrowing.{all_map, all_first, all_both, all_chosen}
 use Rattle.afdx_compare_laws.proofs.Fine.{first_is, rest_is, none_is, none_after, not_within, early_least}
+use Rattle.afdx_following.proofs.Explained.{known_after}
 
 -- ---- lists
 
@@ -360,11 +361,6 @@ unseen_each ports = from ports (λ r none. none_of_any (λ (p : Recorded). is_se
   from (p ∷ ps) none = (λ r is. (none r is).0, from ps (λ r is. (none r is).1))
 
 -- ---- fates of an account of which all is known
-
-known_after : (t : Terms) (tolerance size : ℕ) (l : Levels) (passes : Bool) → t.price size ≤ t.cap → l.least ≤ l.most → IsTrue (may_be t tolerance size l passes)
-    → (after t tolerance size passes l).least ≤ (after t tolerance size passes l).most
-known_after t tolerance size l true fits order may = let m = leb-true (t.price size) l.most may in omega arith
-known_after t tolerance size l false fits order may = let m = ltb-true l.least (t.price size + 2 * slack_of t tolerance) may in omega arith
 
 seen_allowed : FateMayBe → (t : Terms) (tolerance : ℕ) (seen : Record → Bool) (l : Levels) (rs : List Record) → l.least ≤ l.most → AllFit t (map judged rs)
     → Allowed t tolerance l (map judged rs) (fates_seen t tolerance seen l rs)

@@ -32,10 +32,6 @@ state m waiting policed begun = record { limits = m; waiting = waiting; policed 
 
 -- ---- lists
 
-fine_join : (xs ys : List Event) → AllFine xs → AllFine ys → AllFine (xs ++ ys)
-fine_join [] ys first second = second
-fine_join (x ∷ xs) ys first second = (first.0, fine_join xs ys first.1 second)
-
 pushed : (ns : List Numbered) (n : Numbered) (rs : List Record) → frames (ns ++ n ∷ []) ++ rs ≡ frames ns ++ n.frame ∷ rs
 pushed [] n rs = refl
 pushed (x ∷ ns) n rs = ap (λ (ys : List Record). x.frame ∷ ys) (pushed ns n rs)

@@ -6,8 +6,11 @@ pub mod Ending
 pub mod Fates
 pub mod Fine
 pub mod Fitting
+pub mod Foreign
 pub mod Merges
 pub mod Narrowing
+pub mod OurRuns
+pub mod Runs
 pub mod Spans
 pub mod Surplus
 pub mod Told

@@ -5,7 +5,6 @@ use Rattle.std.specs.List.{AllByRecursion}
 use Rattle.std.proofs.Math.Nat.{mul-le-mul_left}
 use Rattle.std.proofs.lemmas.Bool.{cases_Bool, and_from, and_left, and_right, leb-true, leb-false, le-leb, lt-leb, ltb-true, lt-ltb}
 use Rattle.afdx_pcap.specs.Record.{Record}
-use Rattle.afdx_account.specs.declared.frame.Frame.{Frame}
 use Rattle.afdx_account.specs.Policing.{Terms}
 use Rattle.afdx_account.specs.Level.{InOrder}
 use Rattle.afdx_filter.specs.Frame.{frame_of}
@@ -14,6 +13,7 @@ use Rattle.afdx_levels.specs.Inner.Laws.{chosen, AllFit}
 use Rattle.afdx_following.specs.declared.watch.Start.{Start}
 use Rattle.afdx_following.specs.declared.watch.Start.TheVariants.{Rest, Cut}
 use Rattle.afdx_following.specs.Watch.{has_begun, has_not_ended}
+use Rattle.afdx_compare.proofs.OwnRuns.{order_from}
 
 -- ---- instants of a span
 
@@ -68,17 +68,6 @@ all_chosen P [] xs all = tt
 all_chosen P (b ∷ fates) [] all = tt
 all_chosen P (true ∷ fates) (x ∷ xs) all = (all.0, all_chosen P fates xs all.1)
 all_chosen P (false ∷ fates) (x ∷ xs) all = all_chosen P fates xs all.1
-
-pub order_from : (since later : ℕ) (fs : List Frame) → since ≤ later → InOrder later fs → InOrder since fs
-order_from since later [] le order = tt
-order_from since later (f ∷ fs) le order = let first = order.0 in (omega (arith, le, first), order.1)
-
-pub order_filter : (p : Record → Bool) (since : ℕ) (rs : List Record) → InOrder since (map frame_of rs) → InOrder since (map frame_of (filter p rs))
-order_filter p since [] order = tt
-order_filter p since (r ∷ rs) order = elim (p r) as (λ b. InOrder since (map frame_of (cond b (r ∷ filter p rs) (filter p rs)))) [
-  | true ↦ (order.0, order_filter p r.stamp rs order.1)
-  | false ↦ order_from since r.stamp (map frame_of (filter p rs)) order.0 (order_filter p r.stamp rs order.1)
-]
 
 pub order_chosen : (fates : List Bool) (since : ℕ) (rs : List Record) → InOrder since (map frame_of rs) → InOrder since (map frame_of (chosen fates rs))
 order_chosen [] since rs order = tt

@@ -6,6 +6,7 @@ use Rattle.std.proofs.ByRecursion.{all_kept_by}
 use Rattle.std.proofs.Math.Nat.{min-le_left, min-eq_left, le_trans}
 use Rattle.std.proofs.lemmas.Bool.{and_parts, and_from, leb-true, le-leb}
 use Rattle.std.proofs.lemmas.List.Elements.{All-filter, All-contains_itself, recursion_from_All}
+use Rattle.afdx_units.specs.Time.{last_instant}
 use Rattle.afdx_pcap.specs.Record.{Record}
 use Rattle.afdx_frame.specs.Address.{link_of}
 use Rattle.afdx_account.specs.Policing.{Terms}
@@ -25,13 +26,14 @@ use Rattle.afdx_pairing.specs.Kept.{MayCome, IsKeptFor}
 use Rattle.afdx_following.specs.declared.watch.Watch.{Watch}
 use Rattle.afdx_following.specs.declared.watch.Start.{Start}
 use Rattle.afdx_following.specs.declared.watch.Start.TheVariants.{Rest, Cut}
-use Rattle.afdx_following.specs.Watch.{has_begun, has_not_ended, has_frame, has_record, before_of, limits_of, last_instant, unknown_from}
+use Rattle.afdx_following.specs.Watch.{has_begun, has_not_ended, has_frame, has_record, before_of, limits_of, unknown_from}
 use Rattle.afdx_core.specs.Merge.{Capture}
 use Rattle.afdx_session.specs.Headline.{own_records, records_for}
 use Rattle.afdx_compare.specs.Within.{levels_since, levels_of, own_within, recorded, last_at, exactly, IsKeptAt, IsKeptWithin}
 use Rattle.afdx_compare.specs.Inner.Laws.{ComeInOrder, ExactlyIsIsolated}
 use Rattle.afdx_compare_laws.specs.Spans.{cut, BeginsWithin, EndsWithin, BeginsInTime, IsSpanOf, DifferWithinBounds, LeaveInOrder, EachSpanIsKept, OurSpansAreKept}
-use Rattle.afdx_compare_laws.proofs.Narrowing.{is_within, fates_within, chosen_within, all_map, all_chosen, order_filter, order_chosen, filter_narrows, filter_swaps, after_begun, before_begun}
+use Rattle.afdx_compare_laws.proofs.Narrowing.{is_within, fates_within, chosen_within, all_map, all_chosen, order_chosen, filter_narrows, filter_swaps, after_begun, before_begun}
+use Rattle.afdx_compare.proofs.OwnRuns.{order_filter}
 use Rattle.afdx_compare_laws.proofs.Cutting.{is_seen, IsLong, limits_within, last_within, IsLone, kept_within}
 use Rattle.afdx_compare_laws.proofs.Fitting.{own_fit}
 

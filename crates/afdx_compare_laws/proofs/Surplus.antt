@@ -8,7 +8,7 @@ use Rattle.std.proofs.lemmas.Bool.{and_parts, leb-true}
 use Rattle.afdx_units.specs.declared.bag.Bag.{Bag}
 use Rattle.afdx_units.specs.declared.police.Police.{Police}
 use Rattle.afdx_units.specs.declared.police.Police.TheVariants.{Byte, Frame as ByFrames}
-use Rattle.afdx_units.specs.Time.{bag_ns}
+use Rattle.afdx_units.specs.Time.{bag_ns, last_instant}
 use Rattle.afdx_pcap.specs.Record.{Record}
 use Rattle.afdx_account.specs.declared.frame.Frame.{Frame}
 use Rattle.afdx_account.specs.Policing.{Terms, terms_by, passed_frames}
@@ -21,12 +21,13 @@ use Rattle.afdx_levels.specs.Levels.{slack_of}
 use Rattle.afdx_levels.specs.Inner.Laws.{chosen, loosened, SurplusIsJitter}
 use Rattle.afdx_following.specs.declared.watch.Start.{Start}
 use Rattle.afdx_following.specs.declared.watch.Start.TheVariants.{Rest, Cut}
-use Rattle.afdx_following.specs.Watch.{has_begun, has_not_ended, has_frame, last_instant, unknown_from}
+use Rattle.afdx_following.specs.Watch.{has_begun, has_not_ended, has_frame, unknown_from}
 use Rattle.afdx_session.specs.Headline.{own_records}
 use Rattle.afdx_compare.specs.Within.{levels_since, levels_of, own_within}
 use Rattle.afdx_compare_laws.specs.Surplus.{with_jitter, NoSurplusHides}
 use Rattle.afdx_compare_laws.proofs.Fitting.{own_fit}
-use Rattle.afdx_compare_laws.proofs.Narrowing.{is_within, all_map, order_filter}
+use Rattle.afdx_compare_laws.proofs.Narrowing.{is_within, all_map}
+use Rattle.afdx_compare.proofs.OwnRuns.{order_filter}
 
 -- an account is known to hold no more than its cap and twice the slack
 most_known : (t : Terms) (tolerance : ℕ) (start : Start) → (levels_since t tolerance (unknown_from tolerance start)).most ≤ t.cap + 2 * slack_of t tolerance

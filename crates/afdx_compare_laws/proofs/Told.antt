@@ -1,5 +1,5 @@
 -- Which fates are told of a link's frames: by all that left at its ports, whatever was told when.
-use Rattle.std.proofs.Common.{◌≡◌, ◌⊎◌, ℕ, zero, suc, ◌+◌, ◌<◌, ◌≤◌, nat_le, ◌==◌, not, Bool, true, false, ◌&&◌, ◌||◌, cond}
+use Rattle.std.proofs.Common.{◌≡◌, ℕ, zero, suc, ◌+◌, ◌<◌, ◌≤◌, nat_le, ◌==◌, not, Bool, true, false, ◌&&◌, ◌||◌, cond}
 use Rattle.std.proofs.Common.{List, [], ◌∷◌, ◌++◌, map, take, drop, length, Option, Some, None, refl, sym, ap, subst, ◌∙◌, arith, inl, inr}
 use Rattle.std.specs.Prelude.{slice_get, if◌then◌else◌}
 use Rattle.std.specs.List.{AllByRecursion, list_all, list_any}
@@ -26,15 +26,17 @@ use Rattle.afdx_following.specs.Watched.{first_unknown, with_paired, with_gone, 
 use Rattle.afdx_following.specs.Inner.InStep.{WaitsBy, IsInStep}
 use Rattle.afdx_following.specs.Followed.{Notice, Arrived, Departed, with_notice, with_notices, AreNext, own_in, left_in, judged}
 use Rattle.afdx_following.proofs.Growing.{HaveLeftBy}
-use Rattle.afdx_following.proofs.InStep.{all_more, fate_in_step, paired_in_step, gone_in_step, own_in_step, record_in_step, first_in_step}
+use Rattle.afdx_following.proofs.InStep.{all_more, fate_in_step, paired_in_step, gone_in_step, own_in_step, record_in_step, first_in_step, paired_waits}
 use Rattle.afdx_following.proofs.Ports.{records, IsPort, fate_follows, pairs_follow, goes_on, own_follows, other_follows, record_follows}
 use Rattle.afdx_compare.proofs.Places.{all_at}
 use Rattle.afdx_compare_laws.specs.Fine.{LeavesLater}
 use Rattle.afdx_compare_laws.specs.Fates.{Recorded, is_seen_at, is_seen, fates_seen, OwnInOrder}
 use Rattle.afdx_compare_laws.specs.Conforming.{IsByLast}
-use Rattle.afdx_compare_laws.proofs.Ending.{later_of, Ends, first_ends, later_ends, frame_ends, record_ends, stamp_ends, stamped_first, waits_later, paired_waits, fresh_waits}
+use Rattle.afdx_compare_laws.proofs.Ending.{later_of, Ends, first_ends, later_ends, frame_ends, record_ends, stamp_ends, waits_later, fresh_waits}
 use Rattle.afdx_compare_laws.proofs.Fine.{early_least}
 use Rattle.afdx_compare_laws.proofs.Narrowing.{all_map}
+use Rattle.afdx_following.proofs.Explained.{get_mapped, get_changed, decided_latest, chosen_more, fresh_told, stamped_first}
+use Rattle.afdx_compare.proofs.Keeping.{record_latest}
 
 -- ---- lists
 
@@ -70,33 +72,6 @@ any_more p (x ∷ xs) ys = elim (p x) as (λ b. (b || list_any p (xs ++ ys)) ≡
 or_none : (b c : Bool) → c ≡ false → (b || c) ≡ b
 or_none true c none = refl
 or_none false c none = none
-
-pub get_mapped : {X : Type 0} (f : X → X) (xs : List X) (place : ℕ) (new : X) → slice_get (map f xs) place ≡ Some new → (old : X) × ((slice_get xs place ≡ Some old) × (f old ≡ new))
-get_mapped f [] place new get = absurd (let none = get in cc)
-get_mapped f (x ∷ xs) zero new get = (x, (refl, cc))
-get_mapped f (x ∷ xs) (suc place) new get = get_mapped f xs place new get
-
-record IsHere {X : Type 0} (at place : ℕ) (change : X → X) (xs : List X) (new : X) : Type 0 where
-  same : at ≡ place
-  old : X
-  get : slice_get xs place ≡ Some old
-  is : change old ≡ new
-
-record IsElsewhere {X : Type 0} (at place : ℕ) (xs : List X) (new : X) : Type 0 where
-  apart : at ≡ place → ⊥
-  get : slice_get xs place ≡ Some new
-
-get_changed : {X : Type 0} (at place : ℕ) (change : X → X) (xs : List X) (new : X) → slice_get (changed_at at change xs) place ≡ Some new
-    → IsHere at place change xs new ⊎ IsElsewhere at place xs new
-get_changed at place change [] new get = absurd (let none = get in cc)
-get_changed zero zero change (x ∷ xs) new get = inl (record { same = refl; old = x; get = refl; is = cc })
-get_changed zero (suc place) change (x ∷ xs) new get = inr (record { apart = λ same. omega (arith, same); get = get })
-get_changed (suc at) zero change (x ∷ xs) new get = inr (record { apart = λ same. omega (arith, same); get = get })
-get_changed (suc at) (suc place) change (x ∷ xs) new get =
-    elim (get_changed at place change xs new get) [
-      | inl here ↦ inl (record { same = ap suc here.same; old = here.old; get = here.get; is = here.is })
-      | inr there ↦ inr (record { apart = λ same. there.apart (omega (arith, same)); get = there.get })
-    ]
 
 -- ---- what a link is told changes neither its limits nor, but for the last, the instants
 
@@ -150,22 +125,10 @@ pub notices_limits : (xs : List Notice) (f : Watched) → limits_in (with_notice
 notices_limits [] f = refl
 notices_limits (x ∷ xs) f = notices_limits xs (with_notice x f) ∙ notice_limits x f
 
-decided_latest : (at : Option ℕ) (ns : List Numbered) (f : Watched) → (decided at ns f).latest ≡ f.latest
-decided_latest at [] f = refl
-decided_latest at (n ∷ ns) f = elim (cases_Bool (can_tell at f.outputs n (outlook_at f n))) [
-  | inl told ↦ rw told (decided_latest at ns (with_told n f))
-  | inr unknown ↦ rw unknown refl
-]
-
 own_latest : (n : Numbered) (f : Watched) → (with_own n f).latest ≡ n.frame.stamp
 own_latest n f =
     let more : Watched = record f { undecided = f.undecided ++ n ∷ []; latest = n.frame.stamp } in
     decided_latest (Some n.frame.stamp) more.undecided more
-
-record_latest : (place : ℕ) (n : Numbered) (f : Watched) → (with_record place n f).latest ≡ left_by_at place n f
-record_latest place n f =
-    let more : Watched = record f { outputs = changed_at place (λ o. with_waiting n o) f.outputs; latest = left_by_at place n f } in
-    decided_latest (Some (stamped_by_at place n f)) more.undecided more
 
 -- ---- places of ports
 
@@ -265,15 +228,6 @@ as_many t tolerance seen l (x ∷ rs) =
     let now = credited t l x.stamp in
     let rest = as_many t tolerance seen (after t tolerance (judged x).size (fate_told (outlook_of t tolerance (judged x).size now) (seen x)) now) rs in
     omega (arith, rest)
-
-chosen_more : (ps : List Bool) (rs : List Record) (p : Bool) (n : Numbered) → length ps ≡ length rs
-    → chosen (ps ++ p ∷ []) (rs ++ n.frame ∷ []) ≡ chosen ps rs ++ passed_of (Came n p ∷ [])
-chosen_more [] [] true n even = refl
-chosen_more [] [] false n even = refl
-chosen_more [] (r ∷ rs) p n even = absurd (omega (arith, even))
-chosen_more (q ∷ ps) [] p n even = absurd (omega (arith, even))
-chosen_more (true ∷ ps) (r ∷ rs) p n even = ap (λ (xs : List Record). r ∷ xs) (chosen_more ps rs p n (omega (arith, even)))
-chosen_more (false ∷ ps) (r ∷ rs) p n even = chosen_more ps rs p n (omega (arith, even))
 
 -- ---- a frame is seen among the records that wait where it is seen among all
 
@@ -724,23 +678,6 @@ module _ (t : Terms) (tolerance : ℕ) (l : Levels) (ports : List Recorded) wher
       )
 
 -- ---- at first
-
-fresh_told : (latest : ℕ) (o : Output) → IsFresh o → IsPort latest [] [] [] [] o
-fresh_told latest o fresh =
-    subst (λ (x : Output). IsPort latest [] [] [] [] x) (sym fresh) (record {
-      sights = [];
-      own_is = refl;
-      passed_is = refl;
-      left_is = refl;
-      pairing = refl;
-      tally = refl;
-      order = tt;
-      by = tt;
-      by_latest = tt;
-      up_to = tt;
-      later = tt;
-      rise = tt;
-    })
 
 pub first_told : (account : Account) (tolerance : ℕ) (since : Option ℕ) (outputs : List Output) (ports : List Recorded) (last : Option ℕ) → tolerance ≤ 1000000000
     → AllByRecursion IsFresh outputs

@@ -1,7 +1,9 @@
 -- Recordings that keep to what is proved of our switch are said to conform (profile).
-use Rattle.std.specs.Prelude.{◌≡◌, ◌⊎◌, ℕ, ◌-◌, ◌≤◌, ◌==◌, Bool, true, List, Some, slice_get}
+use Rattle.std.specs.Prelude.{◌≡◌, ◌⊎◌, ℕ, ◌-◌, ◌≤◌, ◌==◌, Bool, true, List, length, Some, slice_get, Contains}
 use Rattle.std.specs.List.{AllByRecursion, list_all}
+use Rattle.afdx_units.specs.Time.{last_instant}
 use Rattle.afdx_pcap.specs.Record.{Record}
+use Rattle.afdx_table.specs.declared.rows.PortRow.{PortRow}
 use Rattle.afdx_table.specs.Link.{Link}
 use Rattle.afdx_table.specs.Content.{Content}
 use Rattle.afdx_table.specs.WellFormed.{IsWellFormed}
@@ -10,12 +12,12 @@ use Rattle.afdx_pairing.specs.Limits.{most_of}
 use Rattle.afdx_following.specs.declared.watch.Watch.{Watch}
 use Rattle.afdx_following.specs.declared.watch.Start.TheVariants.{Rest}
 use Rattle.afdx_following.specs.Watched.{Watched}
-use Rattle.afdx_merging.specs.Merge.{Arrival, last_instant, IsMergeOf}
+use Rattle.afdx_merging.specs.Merge.{Arrival, IsMergeOf}
 use Rattle.afdx_recordings.specs.declared.recordings.Recordings.{Recordings}
 use Rattle.afdx_compare.specs.Comparison.{Comparison, IsBegun, with_until, with_end, conform}
 use Rattle.afdx_compare.specs.Sources.{sources_of}
 use Rattle.afdx_compare.specs.Arrivals.{with_arrivals}
-use Rattle.afdx_compare.specs.Within.{own_within, IsKeptWithin}
+use Rattle.afdx_compare.specs.Within.{own_within, recorded, IsKeptWithin}
 use Rattle.afdx_compare.specs.Inner.Laws.{watch_within, recorded_ports, came_in, left_out}
 use Rattle.afdx_compare_laws.specs.Fine.{LeavesLater}
 use Rattle.afdx_compare_laws.specs.Fates.{AllDiffer}
@@ -34,6 +36,18 @@ pub record IsClear (w : Watch) (own : List Record) (f : Watched) : Type 0 where
 abbrev pub AreClear : Watch → Content → List (List Record) → Comparison → Type 0
 AreClear w t captures all = (place : ℕ) (l : Link) (f : Watched) → slice_get t.links place ≡ Some l → slice_get all.links place ≡ Some f
     → IsClear w (own_within w t l (came_in t.ports captures)) f
+
+-- each record that counts has the six bytes of an address
+abbrev pub HaveAddresses : Watch → List PortRow → (PortRow → List Record) → Type 0
+HaveAddresses w ports out = (p : PortRow) → Contains ports p → AllByRecursion (λ x. 6 ≤ length x.bytes) (recorded w (out p))
+
+-- of recordings that keep to what is proved of ours no record is foreign
+abbrev pub KeptIsNotForeign : Type 0
+KeptIsNotForeign = (t : Content) (r : Recordings) (from until : ℕ) (keeping : Bool) (captures : List (List Record)) (arrivals : List Arrival) (first : Comparison)
+    → IsWellFormed t → IsBegun t r from keeping first → IsMergeOf (sources_of t r).clocks captures arrivals
+    → HaveAddresses (watch_within t r from until) (recorded_ports t r) (left_out t r captures)
+    → IsKeptWithin (watch_within t r from until) t (recorded_ports t r) (came_in t.ports captures) (left_out t r captures)
+    → list_all (λ p. p.foreign == 0) (with_arrivals (sources_of t r).captures arrivals (with_until until first)).ports ≡ true
 
 -- where no record is foreign, what recordings keep to is said to conform
 abbrev pub KeptIsConforms : Type 0

@@ -1,5 +1,6 @@
 -- Spans of recordings: what is left of them where they are cut (profile).
 use Rattle.std.specs.Prelude.{◌≡◌, ℕ, ◌+◌, ◌<◌, ◌≤◌, true, List, map, Option, Some, None, Contains}
+use Rattle.afdx_units.specs.Time.{last_instant}
 use Rattle.afdx_pcap.specs.Record.{Record}
 use Rattle.afdx_account.specs.Level.{InOrder}
 use Rattle.afdx_filter.specs.Frame.{frame_of}
@@ -11,7 +12,6 @@ use Rattle.afdx_load.specs.Accepted.{IsAccepted}
 use Rattle.afdx_following.specs.declared.watch.Watch.{Watch}
 use Rattle.afdx_following.specs.declared.watch.Start.{Start}
 use Rattle.afdx_following.specs.declared.watch.Start.TheVariants.{Rest, Cut}
-use Rattle.afdx_following.specs.Watch.{last_instant}
 use Rattle.afdx_core.specs.Merge.{Capture}
 use Rattle.afdx_session.specs.Headline.{IsIsolatedAt}
 use Rattle.afdx_compare.specs.Within.{own_within, bound_at, exactly, IsKeptWithin}

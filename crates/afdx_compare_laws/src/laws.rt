@@ -1,17 +1,21 @@
 //! Laws over the definitions: functions that call laws of lower crates, whose contracts are the laws.
 
 ghost use Rattle.afdx_compare_laws.specs.Alone.{RowsAreAlone};
-ghost use Rattle.afdx_compare_laws.specs.Comparing.{KeptIsConforms};
+ghost use Rattle.afdx_compare_laws.specs.Comparing.{KeptIsConforms, KeptIsNotForeign};
 ghost use Rattle.afdx_compare_laws.specs.Conforming.{KeptLinkConforms};
 ghost use Rattle.afdx_compare_laws.specs.Fates.{ToldFatesExplain};
 ghost use Rattle.afdx_compare_laws.specs.Fine.{KeptIsFine};
+ghost use Rattle.afdx_compare_laws.specs.Runs.{OurAnswersAreKept, OurRunsConform};
 ghost use Rattle.afdx_compare_laws.specs.Spans.{EachSpanIsKept, OurSpansAreKept};
 ghost use Rattle.afdx_compare_laws.specs.Surplus.{NoSurplusHides};
 
 use afdx_compare::laws::exactly_is_isolated;
 use afdx_filter::laws::clean_frames_have_a_link;
+use afdx_grouping::laws::nothing_is_scattered;
 use afdx_levels::laws::{at_rest_is_the_account, surplus_is_jitter, told_is_allowed};
 use afdx_load::laws::high_links_leave_a_part;
+use afdx_port::laws::ends_do_not_fall;
+use afdx_session::laws::outcomes_isolate;
 use afdx_table::laws::{links_are_at_their_places, links_are_found, ports_are_found};
 
 /// Of what recordings keep to, a link's frames that passed are passed by its policing with a jitter that is twice the tolerance more: no
@@ -40,6 +44,16 @@ pub fn our_spans_are_kept()
 {
     exactly_is_isolated();
     each_span_is_kept();
+}
+
+/// What a run of an accepted table answers, of it each span keeps to what is proved of ours, where a link's frames within a bound of each
+/// other differ: what came and what leaves is in the order of its stamps.
+pub fn our_answers_are_kept()
+    ensures { OurAnswersAreKept }
+{
+    outcomes_isolate();
+    ends_do_not_fall();
+    our_spans_are_kept();
 }
 
 /// What is found out of a link, and with it its lines and its rows, rests on what came at its own port and on what left at the ports that it
@@ -75,6 +89,15 @@ pub fn kept_link_conforms()
     at_rest_is_the_account();
 }
 
+/// Of recordings that keep to what is proved of our switch no record is foreign, where each has the six bytes of an address.
+pub fn kept_is_not_foreign()
+    ensures { KeptIsNotForeign }
+{
+    links_are_at_their_places();
+    links_are_found();
+    ports_are_found();
+}
+
 /// What recordings keep to is said to conform, where no record is foreign: the other direction of what `afdx_compare` promises, with the premises
 /// of `kept_link_conforms` of each link.
 pub fn kept_is_conforms()
@@ -86,4 +109,19 @@ pub fn kept_is_conforms()
     ports_are_found();
     high_links_leave_a_part();
     kept_link_conforms();
+}
+
+/// What a run of an accepted table answers is said to conform, and so is each span of it, where a link's frames within a bound of each other
+/// differ.
+pub fn our_runs_conform()
+    ensures { OurRunsConform }
+{
+    clean_frames_have_a_link();
+    nothing_is_scattered();
+    high_links_leave_a_part();
+    exactly_is_isolated();
+    outcomes_isolate();
+    our_answers_are_kept();
+    kept_is_not_foreign();
+    kept_is_conforms();
 }

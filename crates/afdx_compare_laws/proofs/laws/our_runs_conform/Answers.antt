@@ -1,0 +1,14 @@
+use Rattle.afdx_compare_laws.proofs.OurRuns.{our_runs_conform}
+use Rattle.afdx_compare_laws.proofs.laws.our_runs_conform.Goals as goal
+
+pub returns : goal.returns
+returns c = our_runs_conform (record {
+  clean = c.clean_frames_have_a_link.ensures;
+  scattered = c.nothing_is_scattered.ensures;
+  part = c.high_links_leave_a_part.ensures;
+  exact = c.exactly_is_isolated.ensures;
+  isolate = c.outcomes_isolate.ensures.ports;
+  answers = c.our_answers_are_kept.ensures;
+  foreign = c.kept_is_not_foreign.ensures;
+  conforms = c.kept_is_conforms.ensures;
+})
