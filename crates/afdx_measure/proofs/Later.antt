@@ -14,7 +14,7 @@ use Rattle.afdx_core.specs.Step.{Step}
 use Rattle.afdx_core.specs.Rows.{row_of}
 use Rattle.afdx_core.specs.State.{Run, State, fresh_run, fresh_state, after_advance, after_finish, after_handing, place_of, next_at, next_by, refusal_of}
 use Rattle.afdx_core.specs.Isolation.{IsRun, RunsBegin, RunsTakeArrivals, RunsAdvance, RunsHandOut}
-use Rattle.afdx_core.specs.Held.{Keeps, IsTaken, IsAppended}
+use Rattle.afdx_core.specs.Held.{Keeps, IsTaken, IsNext, IsAppended}
 use Rattle.afdx_core.specs.Inner.Joining.{AdvancesGoOn, FinishGoesOn}
 use Rattle.afdx_measure.specs.declared.gauges.Gauges.{Gauges}
 use Rattle.afdx_measure.specs.declared.policing.Policing.{Policing}
@@ -128,3 +128,29 @@ module _ (old new : State) (port : ℕ) (before after : List ℕ) where
       )
   stays_without (Ok false) g p hands none ok err h = subst (λ (s : State). IsNoted s.run g p) (sym (ok.none refl).0.1) h
   stays_without (Err e) g p hands none ok err h = subst (λ (s : State). IsNoted s.run g p) (sym err) h
+
+module _ (old new : State) (port : ℕ) where
+  pub out_none : (out : Option Record) → next_by old.run (place_of old.run port) ≡ None → IsNext old new port out → new ≡ old
+  out_none None none h = h.1
+  out_none (Some out) none h =
+      let next = h.2.next in
+      let there = sym none ∙ ap (next_by old.run) h.2.at in
+      absurd (cc)
+
+  pub out_on : (out : Option Record) (place : ℕ) (s : Sent) → place_of old.run port ≡ Some place → next_at old.run place ≡ Some s → IsNext old new port out → new.run ≡ after_handing place old.run
+  out_on None place s at next h =
+      let there = sym h.0 ∙ ap (next_by old.run) at in
+      absurd (cc)
+  out_on (Some out) place s at next h = h.2.run ∙ ap (λ (k : ℕ). after_handing k old.run) (same_Some h.0 place (sym h.2.at ∙ at))
+
+  pub stays_out : {Z : Type 0} (result : Result (Option Record) AllocError) (g : Option (Gauges Z)) (p : Option (Policing Z)) → RunsHandOut → g ≡ None
+      → IfOk result (λ out. IsNext old new port out) → OnErr result (new ≡ old) → IsNoted old.run g p → IsNoted new.run g p
+  stays_out {Z} (Ok (Some out)) g p hands none ok err h =
+      subst (λ (r : Run). IsNoted r g p) (sym ok.2.run) (
+        subst (AgreesWith (after_handing ok.0 old.run)) (sym none) tt,
+        knows_on old.run old.run.latest (after_handing ok.0 old.run).handed old.run.finished p h.1,
+        h.2,
+        hands old.run ok.0 h.3,
+      )
+  stays_out {Z} (Ok None) g p hands none ok err h = subst (λ (s : State). IsNoted s.run g p) (sym ok.1) h
+  stays_out (Err e) g p hands none ok err h = subst (λ (s : State). IsNoted s.run g p) (sym err) h

@@ -156,6 +156,3 @@ module _ {Z : Type 0} (distinct : PortsAreDistinct) (r now : Run) (at : ℕ) (of
 -- the delays stay through two notes
 pub stay_on : {Z : Type 0} (old mid new : List (AtPort Z)) → DelaysStay old mid → DelaysStay mid new → DelaysStay old new
 stay_on old mid new first next = record { long = next.long ∙ first.long; delays = λ k a. next.delays k a ∙ first.delays k a }
-
-pub stay_there : {Z : Type 0} (old : List (AtPort Z)) → DelaysStay old old
-stay_there old = record { long = refl; delays = λ k a. refl }

@@ -1,5 +1,5 @@
 -- What is noted of policing agrees with the run after an arrival.
-use Rattle.std.proofs.Common.{◌≡◌, ℕ, true, List, length, slice_get, Option, Some, None, ap, sym, ◌∙◌, subst}
+use Rattle.std.proofs.Common.{◌≡◌, ℕ, true, List, length, slice_get, Option, Some, ap, sym, ◌∙◌, subst}
 use Rattle.std.specs.declared.vec.Vec.{Vec}
 use Rattle.std.specs.Vec.{with_items}
 use Rattle.std.proofs.lemmas.List.{with_items_is}
@@ -69,12 +69,3 @@ module _ {Z : Type 0} (names : VerdictsNameLinks) (found : LinksAreFound) (r now
       (subst (λ (n : ℕ). IsNotedAt place (record { at = n; early = early }) old new) arrived.at_is noted) in
       policed_with (with_items p.spells new) (subst (HaveSpells (after_row row r)) (sym items_is)
       (spells_more names found r row l place early p.spells.items new h.formed b.names b.policed there in_time noted_there h.spells))
-
-  -- such a link has a place
-  pub has_place : LinksAreAtTheirPlaces → (id : ℕ) → step.fate ≡ Policed id → link_place now.table id ≡ None → ⊥
-  has_place places id fate none =
-      let b = policed_by r.table r.rows row id (fate_is id fate) in
-      let table_is : now.table ≡ r.table = ap (λ (m : Run). m.table) arrived.now_is in
-      let missed : link_row r.table id ≡ None = places.none r.table id (ap (λ (t : Content). link_place t id) (sym table_is) ∙ none) in
-      let there = by_id id b in
-      absurd (cc)

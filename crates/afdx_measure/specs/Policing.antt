@@ -44,6 +44,10 @@ stamp_at place rows = option_map (λ row. row.stamp) (slice_get rows place)
 abbrev pub span_line : List Row → List ℕ
 span_line rows = line ((codes "span from ", stamp_at 0 rows) ∷ (codes " to ", stamp_at (length rows - 1) rows) ∷ (codes " frames ", Some (length rows)) ∷ [])
 
+-- the lines of all of them
+abbrev pub policing_of : Run → List ℕ
+policing_of r = flat_map (spell_lines r) r.table.links ++ span_line r.rows
+
 -- what a survey says of a finished run beside its counts
 abbrev pub survey_of : Bool → Run → List ℕ
-survey_of promised r = report_of promised r ++ flat_map (spell_lines r) r.table.links ++ span_line r.rows
+survey_of promised r = report_of promised r ++ policing_of r

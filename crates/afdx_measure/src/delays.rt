@@ -34,7 +34,7 @@ impl Range {
 
 impl Delays {
     /// Those of no copies.
-    pub(crate) fn none() -> Delays
+    pub fn none() -> Delays
         ensures { result ≡ summary_of [] }
     {
         Delays {
@@ -43,10 +43,10 @@ impl Delays {
         }
     }
 
-    /// The same with one copy more.
+    /// The same with one copy more, which had this delay.
     ///
     /// An error says that there would be more than 2^64 - 1.
-    fn with(self, delay: u64) -> Result<Delays, AllocError>
+    pub fn with(self, delay: u64) -> Result<Delays, AllocError>
         ensures { (ns : List ℕ) → self ≡ summary_of ns → IfOk result (λ d. d ≡ summary_of (ns ++ delay ∷ [])) }
     {
         let Some(count) = self.count.checked_add(1) else {

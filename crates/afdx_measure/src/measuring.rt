@@ -8,9 +8,10 @@ ghost use Rattle.afdx_table.specs.Content.{port_row};
 ghost use Rattle.afdx_load.specs.Accepted.{IsAccepted};
 ghost use Rattle.afdx_core.specs.declared.step.Row.{Row as Arrived};
 ghost use Rattle.afdx_core.specs.Rows.{row_of};
-ghost use Rattle.afdx_core.specs.State.{Run, fresh_run, fresh_state, after_advance, after_finish, after_handing, next_at, refusal_of, sent_in};
+ghost use Rattle.afdx_core.specs.State.{Run, fresh_run, fresh_state, after_advance, after_finish, after_handing, next_at, refusal_of, sent_in, IsNextOf};
+ghost use Rattle.afdx_core.specs.Next.{IsNextEvent};
 ghost use Rattle.afdx_core.specs.Isolation.{IsRun, IsIsolatedRun};
-ghost use Rattle.afdx_core.specs.Held.{held_count, Keeps, IsTaken, IsRefused, IsAppended};
+ghost use Rattle.afdx_core.specs.Held.{held_count, Keeps, IsTaken, IsRefused, IsNext, IsAppended};
 ghost use Rattle.afdx_measure.specs.Delays.{delays_of, summary_of};
 ghost use Rattle.afdx_measure.specs.Ports.{peak_at};
 ghost use Rattle.afdx_measure.specs.Policing.{spells_in, stamp_at};
@@ -325,6 +326,44 @@ impl<'a, A: Allocator + Copy> Measuring<'a, A> {
         ensures { result ≡ held_count self.now.run }
     {
         self.relay.held()
+    }
+
+    /// The switch's table. O(1).
+    pub fn table(&self) -> &Table
+        ensures { result.now ≡ self.now.run.table }
+    {
+        self.relay.table()
+    }
+
+    /// The instant of the first start or discard that was not carried out, as [`Relay::next_event`] says it.
+    pub fn next_event(&self) -> Option<Stamp>
+        ensures { IsNextEvent self.now.run result }
+    {
+        self.relay.next_event()
+    }
+
+    /// What the port's next frame that was not handed out was sent as, as [`Relay::next_sent`] says it.
+    pub fn next_sent(&self, port: u8) -> Option<(usize, Sent)>
+        ensures { IsNextOf self.now.run port result }
+    {
+        self.relay.next_sent(port)
+    }
+
+    /// Hands out the port's next sent frame, as [`Relay::next_out`] does.
+    pub fn next_out(&mut self, port: u8) -> Result<Option<Record<'a, A>>, AllocError>
+        ensures ok { IfOk result (λ out. IsNext self.old self.new port out) }
+        ensures err { OnErr result (self.new ≡ self.old) }
+    {
+        calls_make_runs();
+        if self.gauges.is_none() {
+            return self.relay.next_out(port);
+        }
+        let next = self.relay.next_sent(port);
+        let out = self.relay.next_out(port)?;
+        if let Some((place, sent)) = next {
+            note_sent(&mut self.gauges, self.relay.table(), place, &sent);
+        }
+        Ok(out)
     }
 
     /// Appends the next frame's text to a capture, as [`Relay::next_out_into`] does.

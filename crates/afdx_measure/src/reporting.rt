@@ -3,7 +3,7 @@
 ghost use Rattle.std.specs.Prelude.{◌≡◌, ◌++◌, flat_map, slice_get, Some, string_bytes, IfOk, OnOk};
 ghost use Rattle.afdx_table.specs.Content.{port_row};
 ghost use Rattle.afdx_measure.specs.Report.{bound_at, link_lines, port_line, report_of};
-ghost use Rattle.afdx_measure.specs.Policing.{survey_of};
+ghost use Rattle.afdx_measure.specs.Policing.{policing_of, survey_of};
 
 use crate::lines::{put_link_line, put_peak_line};
 use crate::measuring::{Measures, Survey};
@@ -117,6 +117,45 @@ pub fn report<A: Allocator + Copy>(
     Ok(text)
 }
 
+/// How full the buffers of a finished switch were: the lines of the ports of [`report`].
+///
+/// An error says that memory ran out. O(ports) for each line.
+pub fn peak_lines<A: Allocator + Copy>(
+    alloc: A,
+    measures: &Measures<'_, A>,
+) -> Result<String<A>, AllocError>
+    ensures { IfOk result (λ text. string_bytes text ≡ flat_map (port_line measures.now.run) measures.now.run.table.ports) }
+{
+    let mut text = String::new(alloc);
+    put_ports(&mut text, measures)?;
+    Ok(text)
+}
+
+/// Appends a line for each spell in which a link was policed, and then when frames came.
+fn put_policing<A: Allocator + Copy>(
+    text: &mut String<A>,
+    survey: &Survey<'_, A>,
+) -> Result<(), AllocError>
+    ensures { OnOk result (string_bytes text.new ≡ string_bytes text.old ++ policing_of survey.now.run) }
+{
+    survey.policing.put_lines(text, survey.measures.table())?;
+    put_span_line(text, survey.policing.span())
+}
+
+/// When the links of a finished switch were policed, and when frames came: what comes last in [`survey`].
+///
+/// An error says that memory ran out. O(1) for each line.
+pub fn policing_lines<A: Allocator + Copy>(
+    alloc: A,
+    survey: &Survey<'_, A>,
+) -> Result<String<A>, AllocError>
+    ensures { IfOk result (λ text. string_bytes text ≡ policing_of survey.now.run) }
+{
+    let mut text = String::new(alloc);
+    put_policing(&mut text, survey)?;
+    Ok(text)
+}
+
 /// What a survey says of a finished switch beside its counts: what [`report`] says, then a line for each spell in which a link was policed,
 /// then when frames came.
 ///
@@ -129,9 +168,6 @@ pub fn survey<A: Allocator + Copy>(
     ensures { IfOk result (λ text. string_bytes text ≡ survey_of promised survey.now.run) }
 {
     let mut text = report(alloc, &survey.measures, promised)?;
-    survey
-        .policing
-        .put_lines(&mut text, survey.measures.table())?;
-    put_span_line(&mut text, survey.policing.span())?;
+    put_policing(&mut text, survey)?;
     Ok(text)
 }

@@ -4,6 +4,7 @@ use Rattle.std.specs.List.{AllByRecursion}
 use Rattle.std.proofs.lemmas.List.{append-nil}
 use Rattle.std.proofs.lemmas.Option.{same_Some}
 use Rattle.std.proofs.Math.Numerals.{suc-eq-add-one}
+use Rattle.afdx_units.specs.Time.{last_instant}
 use Rattle.afdx_pcap.specs.declared.fault.PcapFault.{PcapFault}
 use Rattle.afdx_pcap.specs.Record.{Record}
 use Rattle.afdx_pcap.specs.Capture.{IsCapture}
@@ -23,7 +24,7 @@ use Rattle.afdx_session.specs.declared.plan.RunFault.{RunFault}
 use Rattle.afdx_session.specs.declared.plan.RunFault.TheVariants as run
 use Rattle.afdx_session.specs.Reading.{AreCaptures, IsFirstFault, IsFaultAt, IsReadFault}
 use Rattle.afdx_session.specs.Output.{output_text}
-use Rattle.afdx_session.specs.Streams.{Stream, captures_of, whole_of, merged_so_far, frontier, text_so_far, last_instant, AllStartBeforeTheLastInstant}
+use Rattle.afdx_session.specs.Streams.{Stream, captures_of, whole_of, merged_so_far, frontier, text_so_far, AllStartBeforeTheLastInstant}
 use Rattle.afdx_session.specs.Session.{Intake}
 use Rattle.afdx_session.specs.Inner.Lanes.{waiting_of, HasReadAll}
 use Rattle.afdx_session.specs.Inner.Kept.{IsLaneOf, AreLanesOf, AreOfTable, come_to, IsGoing, IsRunning, AreTouched, IsMarked}

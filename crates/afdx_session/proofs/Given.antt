@@ -6,7 +6,7 @@ use Rattle.std.specs.List.{AllByRecursion}
 use Rattle.std.specs.Option.{option_map}
 use Rattle.std.proofs.lemmas.List.{length-append, length-map}
 use Rattle.std.proofs.lemmas.Bool.{le-ltb}
-use Rattle.afdx_units.specs.Time.{last_second, stamp_end}
+use Rattle.afdx_units.specs.Time.{last_second, stamp_end, last_instant}
 use Rattle.afdx_pcap.specs.Record.{Record}
 use Rattle.afdx_pcap.specs.Text.{capture_text}
 use Rattle.afdx_table.specs.declared.rows.PortRow.{PortRow}
@@ -26,7 +26,7 @@ use Rattle.afdx_count.specs.Run.{counts_so_far}
 use Rattle.afdx_count.specs.Inner.Laws.{NoteCountsOneMore}
 use Rattle.afdx_session.specs.declared.lane.Lane.{Lane}
 use Rattle.afdx_session.specs.Output.{rows_of, written}
-use Rattle.afdx_session.specs.Streams.{Stream, frontier, last_instant}
+use Rattle.afdx_session.specs.Streams.{Stream, frontier}
 use Rattle.afdx_session.specs.Inner.Settled.{first_place, without, IsGiven, HeadFrom, AllRise, IsPast, IsWithin}
 use Rattle.afdx_earliest.specs.Instants.{IsFirstUpTo}
 use Rattle.afdx_session.specs.Inner.Lanes.{waiting_of, limit_at, heads_of, with_waiting, IsFirstOf, Goes, NoneGoes}

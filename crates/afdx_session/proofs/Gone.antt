@@ -5,6 +5,7 @@ use Rattle.std.specs.List.{AllByRecursion, position}
 use Rattle.std.proofs.lemmas.List.{append-nil, length-map}
 use Rattle.std.proofs.lemmas.Bool.{cases_lt}
 use Rattle.std.proofs.lemmas.Option.{slice_get_within, get_or_from_slice_get, same_Some}
+use Rattle.afdx_units.specs.Time.{last_instant}
 use Rattle.afdx_pcap.specs.Text.{capture_text}
 use Rattle.afdx_table.specs.declared.rows.PortRow.{PortRow}
 use Rattle.afdx_table.specs.Content.{Content}
@@ -18,7 +19,7 @@ use Rattle.afdx_count.specs.Tally.{Tally}
 use Rattle.afdx_session.specs.declared.lane.Lane.{Lane}
 use Rattle.afdx_session.specs.Output.{written}
 use Rattle.afdx_session.specs.Inner.Replay.{HasBytesOf, IsDrained}
-use Rattle.afdx_session.specs.Streams.{Stream, merged_so_far, frontier, sent_up_to, output_so_far, text_so_far, last_instant, AllStartBeforeTheLastInstant}
+use Rattle.afdx_session.specs.Streams.{Stream, merged_so_far, frontier, sent_up_to, output_so_far, text_so_far, AllStartBeforeTheLastInstant}
 use Rattle.afdx_session.specs.Inner.Settled.{IsSettling, IsGiven, IsAt, HandsOut, Draws}
 use Rattle.afdx_session.specs.Inner.Lanes.{waiting_of}
 use Rattle.afdx_pcap.specs.Reading.{HasTaken}

@@ -1,6 +1,6 @@
 -- Records that keep to the lines of their ports, and outputs that always do.
 use Rattle.std.proofs.Common.{◌≡◌, ℕ, suc, ◌+◌, ◌≤◌, ◌==◌, Bool, true, false, cond, List, [], ◌∷◌, length, map, filter, get_or, Option, refl, ap, sym, ◌∙◌, subst, arith}
-use Rattle.std.specs.Prelude.{All, AllPairs}
+use Rattle.std.specs.Prelude.{All, AllPairs, Contains}
 use Rattle.std.specs.List.{AllByRecursion, AllZip}
 use Rattle.std.proofs.lemmas.List.Elements.{All-nil, All-cons, All-head, All-tail, All-map, All-weaker, All-from_recursion, Contains-get_or}
 use Rattle.std.proofs.lemmas.List.Kept.{AllPairs-cons}
@@ -8,27 +8,32 @@ use Rattle.std.proofs.lemmas.Bool.{both_ways, eq-eqb}
 use Rattle.afdx_units.specs.Line.{size_of, cost_of}
 use Rattle.afdx_pcap.specs.Record.{Record}
 use Rattle.afdx_table.specs.declared.rows.PortRow.{PortRow}
+use Rattle.afdx_table.specs.Link.{Link, leads_to}
 use Rattle.afdx_table.specs.Content.{Content}
+use Rattle.afdx_table.specs.WellFormed.{IsWellFormed}
 use Rattle.afdx_filter.specs.Frame.{frame_of}
 use Rattle.afdx_serial.specs.Serial.{KeepsToLine}
 use Rattle.afdx_account.specs.declared.frame.Frame.{Frame}
 use Rattle.afdx_port.specs.declared.Sent.{Sent}
 use Rattle.afdx_port.specs.Inner.Order.{SendingsKeepToTheLine}
 use Rattle.afdx_port.specs.Inner.Admission.{AdmittedInParts}
-use Rattle.afdx_isolation.specs.Inner.LineTable.{IsInLesserBound}
+use Rattle.afdx_load.specs.Accepted.{IsAccepted}
+use Rattle.afdx_isolation.specs.Inner.LineTable.{AreLesser, IsInLesserBound}
 use Rattle.afdx_core.specs.Rows.{row_of}
-use Rattle.afdx_core.specs.Isolation.{AcceptedTablesIsolate}
+use Rattle.afdx_core.specs.Isolation.{IsRun, AcceptedTablesIsolate, IsIsolatedRun}
 use Rattle.afdx_core.specs.Lined.{ComeApart, RowsKeepToLines, LinedRunsKeepBounds}
-use Rattle.afdx_core.specs.Merge.{Arrival, records_of, merged}
+use Rattle.afdx_core.specs.Merge.{Arrival, Capture, merged}
 use Rattle.afdx_core.specs.Inner.Merge.{part_at, ByStampIsOrdered, MergedIsAMerge}
-use Rattle.afdx_session.specs.Reading.{AreMerged}
+use Rattle.afdx_session.specs.Texts.{Text, AreOfPorts}
+use Rattle.afdx_session.specs.Reading.{AreCaptures}
 use Rattle.afdx_session.specs.Output.{rows_of, sent_by, bytes_in, written, output_of}
-use Rattle.afdx_session.specs.Headline.{passed_records, records_for}
-use Rattle.afdx_session.specs.Lined.{OutputsKeepToLines, IsInLesserTime, LinedOutcomesKeepBounds, OutcomesIsolate, PlainHeadlines}
+use Rattle.afdx_session.specs.Outcome.{Results, IsOutcome}
+use Rattle.afdx_session.specs.Headline.{own_records, passed_records, records_for}
+use Rattle.afdx_session.specs.Lined.{OutputsKeepToLines, IsInLesserTime, EndsInLesserTime, CapturesKeepToLines, LinedOutcomesKeepBounds, LinedSentKeepBounds, OutcomesIsolate, PlainHeadlines}
 use Rattle.afdx_session.proofs.Isolated.{Ground, IsOffered, is_own, sent_is_offered}
 use Rattle.afdx_session.proofs.PortParts.{part_is_read}
 use Rattle.afdx_session.proofs.Arriving.{run_of, arrivals_are_a_run}
-use Rattle.afdx_session.proofs.Leaving.{sent_is, lesser_are, headline}
+use Rattle.afdx_session.proofs.Leaving.{sent_is, lesser_are, copies_in_lesser, headline}
 
 pairs_head : {X : Type 0} (R : X → X → Type 0) (x : X) (xs : List X) → AllPairs R (x ∷ xs) → All (R x) xs
 pairs_head R x xs h k d lt = h 0 (suc k) d (omega arith) (omega (arith, lt))
@@ -110,22 +115,47 @@ rows_apart t q arrivals h =
     (pairs_part (λ (a b : Record). a.stamp + cost_of q.speed (size_of (length b.bytes)) ≤ b.stamp) q.id arrivals
     (pairs_unmap (λ (f g : Frame). f.stamp + cost_of q.speed g.size ≤ g.stamp) frame_of (part_at q.id arrivals) h))
 
+-- the rows of captures whose records keep to the lines
+rows_keep : MergedIsAMerge → (t : Content) (texts : List Text) (read : List Capture) → IsWellFormed t → AreOfPorts t texts → AreCaptures texts read → (lined : ℕ → Bool)
+    → CapturesKeepToLines t read lined → RowsKeepToLines t lined (rows_of t (merged read))
+rows_keep merge t texts read formed ports are_read lined lines k d lt on =
+    let q = get_or t.ports k d in
+    rows_apart t q (merged read) (subst (λ (rs : List Record). KeepsToLine q.speed (map frame_of rs)) (sym (part_is_read merge t texts read formed ports are_read q.id))
+    (lines q (Contains-get_or t.ports k d lt) on))
+
+module _ (ordered : ByStampIsOrdered) (ground : Ground) (merge : MergedIsAMerge) (isolate : AcceptedTablesIsolate) (keeps : LinedRunsKeepBounds) (t : Content) (texts : List Text) (results : Results)
+    (formed : IsWellFormed t) (accepted : IsAccepted t) (outcome : IsOutcome t texts results) (lined : ℕ → Bool) (lines : CapturesKeepToLines t outcome.read lined) (p : PortRow)
+    (at : Contains t.ports p) (burst high_burst : ℕ) (less : AreLesser t p lined burst high_burst) (l : Link) (among : Contains t.links l) where
+  abbrev all : List Arrival
+  all = merged outcome.read
+
+  is_run : IsRun (run_of t all)
+  is_run = arrivals_are_a_run ordered t texts all (record { read = outcome.read; are_read = outcome.are_read; all = refl })
+
+  isolated : IsIsolatedRun (run_of t all)
+  isolated = isolate (run_of t all) is_run formed accepted
+
+  within : All (IsInLesserBound t p burst high_burst) (sent_by t all p)
+  within =
+      subst (All (IsInLesserBound t p burst high_burst)) (sent_is t formed ground all isolated p at)
+      (keeps (run_of t all) is_run formed accepted lined (rows_keep merge t texts outcome.read formed outcome.ports outcome.are_read lined lines) p at burst high_burst less)
+
+  pub lined_outcome : leads_to p.id l ≡ true → AllZip (IsInLesserTime t p l burst high_burst) (passed_records l (own_records t l outcome.read)) (records_for l (output_of t all p))
+  lined_outcome leads =
+      subst (λ (xs : List Record). AllZip (IsInLesserTime t p l burst high_burst) xs (records_for l (output_of t all p)))
+      (ap (λ (rs : List Record). passed_records l (filter (is_own t l) rs)) (part_is_read merge t texts outcome.read formed outcome.ports outcome.are_read l.from))
+      (lesser_are t formed ground all isolated p at l among burst high_burst within leads)
+
+  pub lined_copies : All (EndsInLesserTime t p l burst high_burst) (filter (λ (s : Sent). s.item.link == l.id) (sent_by t all p))
+  lined_copies = copies_in_lesser t formed ground all isolated p at l among burst high_burst within
+
 pub lined_outcomes : ByStampIsOrdered → Ground → MergedIsAMerge → AcceptedTablesIsolate → LinedRunsKeepBounds → LinedOutcomesKeepBounds
 lined_outcomes ordered ground merge isolate keeps t texts results formed accepted outcome lined lines p at burst high_burst less l among leads =
-    let read = outcome.read in
-    let arrivals = merged read in
-    let is_merged : AreMerged texts arrivals = record { read = read; are_read = outcome.are_read; all = refl } in
-    let is_run = arrivals_are_a_run ordered t texts arrivals is_merged in
-    let isolated = isolate (run_of t arrivals) is_run formed accepted in
-    let part : (n : ℕ) → part_at n arrivals ≡ records_of read n = part_is_read merge t texts read formed outcome.ports outcome.are_read in
-    let rows : RowsKeepToLines t lined (rows_of t arrivals) = λ k d lt on.
-    let q = get_or t.ports k d in
-    rows_apart t q arrivals (subst (λ (rs : List Record). KeepsToLine q.speed (map frame_of rs)) (sym (part q.id)) (lines q (Contains-get_or t.ports k d lt) on)) in
-    let within : All (IsInLesserBound t p burst high_burst) (sent_by t arrivals p) =
-    subst (All (IsInLesserBound t p burst high_burst)) (sent_is t formed ground arrivals isolated p at) (keeps (run_of t arrivals) is_run formed accepted lined rows p at burst high_burst less) in
-    subst (λ (xs : List Record). AllZip (IsInLesserTime t p l burst high_burst) xs (records_for l (output_of t arrivals p)))
-    (ap (λ (rs : List Record). passed_records l (filter (is_own t l) rs)) (part l.from))
-    (lesser_are t formed ground arrivals isolated p at l among burst high_burst within leads)
+    lined_outcome ordered ground merge isolate keeps t texts results formed accepted outcome lined lines p at burst high_burst less l among leads
+
+pub lined_sent : ByStampIsOrdered → Ground → MergedIsAMerge → AcceptedTablesIsolate → LinedRunsKeepBounds → LinedSentKeepBounds
+lined_sent ordered ground merge isolate keeps t texts results formed accepted outcome lined lines p at burst high_burst less l among =
+    lined_copies ordered ground merge isolate keeps t texts results formed accepted outcome lined lines p at burst high_burst less l among
 
 pub outcomes_isolate : ByStampIsOrdered → Ground → AdmittedInParts → MergedIsAMerge → AcceptedTablesIsolate → OutcomesIsolate
 unfolding headline

@@ -6,6 +6,17 @@
 //! leave at its port. [`run_from`] makes the same run over readers, each read once, whose outputs go to files in parts while it
 //! goes on, by a [`Session`], which takes captures in pieces.
 //! [`finished`] answers the switch itself, for what is asked of it beside that.
+//!
+//! # Example
+//!
+//! From `crates/afdx_run_tests/src/reports.rt`:
+//!
+//! ```
+//! let table = read(rt.alloc(), single(rt.alloc())?.as_bytes())?;
+//! let outcome = run(rt.alloc(), Plan::Unchecked(table), &captures)?;
+//! let report = outcome.counts.report(rt.alloc())?;
+//! assert!(rt; report.as_str().starts_with("in 1 seen 1 cut 0 "));
+//! ```
 #![tactic(auto)]
 
 mod check;

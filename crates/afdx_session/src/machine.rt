@@ -1,6 +1,6 @@
 //! Records that go from the lanes through the switch, and out again.
 
-ghost use Rattle.std.specs.Prelude.{◌≡◌, ◌<◌, ◌≤◌, ◌^◌, ℕ, Bool, true, false, None, Some, List, [], length, map, vec_capacity, IfOk, IfErr, OnOk, option_map, Option};
+ghost use Rattle.std.specs.Prelude.{◌≡◌, ◌<◌, ◌≤◌, ◌^◌, ℕ, Bool, true, false, None, Some, [], length, map, vec_capacity, IfOk, IfErr, OnOk, option_map, Option};
 ghost use Rattle.afdx_units.specs.Time.{last_second, stamp_end};
 ghost use Rattle.afdx_table.specs.WellFormed.{IsWellFormed};
 ghost use Rattle.afdx_load.specs.Accepted.{IsAccepted};
@@ -17,7 +17,6 @@ ghost use Rattle.afdx_session.specs.Inner.Lanes.{limit_at, heads_of, NoneGoes, I
 ghost use Rattle.afdx_session.specs.Inner.Lent.{texts_over, taken_by, left_in, IsOneFault, IsCarrying, CarriesOn, HandsOn, HaveGone};
 ghost use Rattle.afdx_session.specs.Inner.Files.{PutsOut, Proceeds, HasEndedInto};
 ghost use Rattle.afdx_session.specs.Inner.Parts.{RunsInto, IsFedInto, IsEndedInto, StopsAt};
-ghost use Rattle.std.specs.List.{AllByRecursion};
 ghost use Rattle.afdx_session.specs.Inner.View.{IsRound, IsReady, IsOpenAt, IsFed, IsNotFed, IsEnded, IsNotEnded, OthersStay, AreSettledLanes, AreFreshLanes, AreHalfDone, AreEndedLanes, AreLent, texts_at};
 ghost use Rattle.afdx_session.specs.Texts.{texts_of, AreOfPorts};
 ghost use Rattle.afdx_session.specs.Reading.{IsReadFault};
@@ -82,23 +81,14 @@ fn out_of_memory(fault: CoreFault) -> AllocError
     }
 }
 
-/// The last instant that a stamp can hold: whatever is sent starts before it.
-fn last_instant() -> Stamp
-    ensures { result ≡ 4294967295999999999 }
-{
-    match Stamp::from_ns(4_294_967_295_999_999_999) {
-        Some(stamp) => stamp,
-        None => unreachable!(),
-    }
-}
-
-/// The instant that the switch comes to where this place in the merge is the least that a capture has come to.
+/// The instant that the switch comes to where this place in the merge is the least that a capture has come to: the last one, before which
+/// whatever is sent starts, where all have ended.
 fn instant_of(limit: Option<(Stamp, u8)>) -> Stamp
     ensures { result ≡ come_to (option_map (λ p. p.0) limit) }
 {
     match limit {
         Some((stamp, _)) => stamp,
-        None => last_instant(),
+        None => Stamp::LAST,
     }
 }
 
@@ -228,7 +218,7 @@ impl<'a, A: Allocator + Copy> Machine<'a, A> {
     /// What is settled goes to the switch, which comes to the frontier; what then has left goes out.
     ///
     /// O(ports), O(1) for each record that goes, and O(bytes) of what goes out, beside the switch's own work.
-    pub(crate) fn go_on(&mut self) -> Result<(), AllocError>
+    pub(crate) fn make_round(&mut self) -> Result<(), AllocError>
         requires of { AreOfTable self.old.switch.run.table self.old.lanes.items }
         requires going { IsGoing self.old.switch.run.table self.old.lanes.items self.old.switch self.old.counts }
         requires handed { length self.old.switch.run.handed ≡ length self.old.switch.run.table.ports }
@@ -257,11 +247,11 @@ impl<'a, A: Allocator + Copy> Machine<'a, A> {
         Ok(())
     }
 
-    /// Goes on as [`Machine::go_on`] does; of what goes out, what is a part at least goes to the files of the ports.
+    /// Goes on as [`Machine::make_round`] does; of what goes out, what is a part at least goes to the files of the ports.
     ///
     /// After a gap of the traffic all that waited at the ports may go out at once. So each port is drained in parts: no text has
     /// more than one, however much it is.
-    fn go_on_into<F: NewFile>(&mut self, files: &mut [F]) -> Result<(), AllocError>
+    fn make_round_into<F: NewFile>(&mut self, files: &mut [F]) -> Result<(), AllocError>
         requires of { AreOfTable self.old.switch.run.table self.old.lanes.items }
         requires going { IsGoing self.old.switch.run.table self.old.lanes.items self.old.switch self.old.counts }
         requires handed { length self.old.switch.run.handed ≡ length self.old.switch.run.table.ports }
@@ -298,7 +288,7 @@ impl<'a, A: Allocator + Copy> Machine<'a, A> {
         merged_is_a_merge();
         merged_is_by_stamp_and_port();
         self.lanes[place].feed(piece)?;
-        self.go_on()?;
+        self.make_round()?;
         self.settle();
         Ok(())
     }
@@ -318,7 +308,7 @@ impl<'a, A: Allocator + Copy> Machine<'a, A> {
         merged_is_a_merge();
         merged_is_by_stamp_and_port();
         self.lanes[place].close()?;
-        self.go_on()?;
+        self.make_round()?;
         self.settle();
         Ok(())
     }
@@ -342,7 +332,7 @@ impl<'a, A: Allocator + Copy> Machine<'a, A> {
         merged_is_a_merge();
         merged_is_by_stamp_and_port();
         self.lanes[place].feed(piece)?;
-        self.go_on_into(files)?;
+        self.make_round_into(files)?;
         self.settle();
         Ok(())
     }
@@ -365,7 +355,7 @@ impl<'a, A: Allocator + Copy> Machine<'a, A> {
         merged_is_a_merge();
         merged_is_by_stamp_and_port();
         self.lanes[place].close()?;
-        self.go_on_into(files)?;
+        self.make_round_into(files)?;
         self.settle();
         Ok(())
     }
@@ -428,7 +418,7 @@ impl<'a, A: Allocator + Copy> Machine<'a, A> {
     }
 
     /// What has left goes out, or stays in the switch.
-    fn let_out(&mut self, frames: Leaving) -> Result<(), AllocError>
+    fn drain_or_keep(&mut self, frames: Leaving) -> Result<(), AllocError>
         requires { IsCarrying self.old }
         ensures same { IsOfSameTable self.old.switch self.new.switch }
         ensures ok { OnOk result (HandsOn self.old self.new) }
@@ -464,7 +454,7 @@ impl<'a, A: Allocator + Copy> Machine<'a, A> {
         ensures err { IfErr result (λ fault. IsOneFault (texts_over self.old.lanes.items) fault) }
     {
         while self.carry_some()? {
-            self.let_out(frames)?;
+            self.drain_or_keep(frames)?;
         }
         Ok(())
     }
@@ -492,17 +482,17 @@ impl<'a, A: Allocator + Copy> Machine<'a, A> {
     }
 
     /// What has left goes out to the lanes, and from there to the files.
-    fn put_out<F: NewFile>(&mut self, files: &mut [F]) -> Result<(), AllocError>
+    fn drain_and_hand_over<F: NewFile>(&mut self, files: &mut [F]) -> Result<(), AllocError>
         requires carrying { IsCarrying self.old }
         requires files { length files.old ≡ length self.old.lanes.items }
         ensures ok { OnOk result (Proceeds F.contents self.old files.old self.new files.new × (left_in self.new.lanes.items ≡ left_in self.old.lanes.items)) }
     {
-        self.let_out(Leaving::GoOut)?;
+        self.drain_or_keep(Leaving::GoOut)?;
         self.hand_over(files)
     }
 
     /// The switch comes to an instant, unless it is past it. Whether it did.
-    fn come_to(&mut self, instant: Stamp) -> bool
+    fn advance_to(&mut self, instant: Stamp) -> bool
         requires instant { instant < stamp_end }
         requires carrying { IsCarrying self.old }
         requires all { left_in self.old.lanes.items ≡ 0 }
@@ -515,7 +505,7 @@ impl<'a, A: Allocator + Copy> Machine<'a, A> {
     /// Where all records have gone to the switch and many frames are still held, they go out step by step, so that a frame that
     /// several ports send is at hand for all of them. Port by port, each would fetch it from memory once more. There are some
     /// 500 steps at most, since nothing waits for longer than half a second. O(ports) for each, and O(bytes) of what goes out.
-    fn run_out<F: NewFile>(&mut self, files: &mut [F]) -> Result<(), AllocError>
+    fn drain_by_steps<F: NewFile>(&mut self, files: &mut [F]) -> Result<(), AllocError>
         requires carrying { IsCarrying self.old }
         requires all { left_in self.old.lanes.items ≡ 0 }
         requires files { length files.old ≡ length self.old.lanes.items }
@@ -526,11 +516,11 @@ impl<'a, A: Allocator + Copy> Machine<'a, A> {
             let Some(next) = instant.plus(STEP) else {
                 return Ok(());
             };
-            if !self.come_to(next) {
+            if !self.advance_to(next) {
                 return Ok(());
             }
             instant = next;
-            self.put_out(files)?;
+            self.drain_and_hand_over(files)?;
         }
         Ok(())
     }
@@ -559,7 +549,7 @@ impl<'a, A: Allocator + Copy> Machine<'a, A> {
     /// The captures of all ports come whole, and stay where they are; all their records go to the switch.
     ///
     /// A fault is met when its record is reached. The one that is answered is that of the lowest port that has one.
-    pub(crate) fn pass_on(
+    pub(crate) fn carry_captures(
         &mut self,
         alloc: A,
         captures: &'a [(u8, Vec<u8, A>)],
@@ -596,8 +586,8 @@ impl<'a, A: Allocator + Copy> Machine<'a, A> {
         ensures ok { OnOk result (IsReady self.new true × AreLent (texts_of captures.now) self.new.lanes.items) }
         ensures err { IfErr result (λ fault. IsReadFault (texts_of captures.now) fault) }
     {
-        self.pass_on(alloc, captures, Leaving::GoOut)?;
-        self.go_on()?;
+        self.carry_captures(alloc, captures, Leaving::GoOut)?;
+        self.make_round()?;
         self.settle();
         Ok(())
     }
@@ -637,7 +627,7 @@ impl<'a, A: Allocator + Copy> Machine<'a, A> {
         ensures err { IfErr result (λ fault. IsReadFault (texts_at self.old.lanes.items) fault) }
     {
         self.close_all()?;
-        self.go_on()?;
+        self.make_round()?;
         Ok(Vec::with_capacity(alloc, self.lanes.len())?)
     }
 
@@ -653,7 +643,7 @@ impl<'a, A: Allocator + Copy> Machine<'a, A> {
     {
         self.close_all()?;
         self.give_settled()?;
-        self.run_out(files)?;
+        self.drain_by_steps(files)?;
         Ok(())
     }
 

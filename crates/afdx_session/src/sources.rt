@@ -1,6 +1,6 @@
 //! A run whose captures are read in pieces.
 
-ghost use Rattle.std.specs.Prelude.{◌≡◌, ◌<◌, ◌==◌, List, length, map, position, true, IfOk, IfErr, OnOk, IfSome, IfNone};
+ghost use Rattle.std.specs.Prelude.{◌≡◌, ◌<◌, ◌==◌, List, length, map, position, true, IfOk, IfErr, IfSome, IfNone};
 ghost use Rattle.std.specs.List.{AllByRecursion};
 ghost use Rattle.afdx_session.specs.Outcome.{table_in, is_cleared};
 ghost use Rattle.afdx_session.specs.Texts.{Text};

@@ -1,6 +1,5 @@
 -- Rows whose jitter is not enough, row by row and switch by switch.
 use Rattle.std.proofs.Common.{◌≡◌, ◌≢◌, ℕ, ◌+◌, ◌<◌, List, [], ◌∷◌, ◌++◌, length, drop, get_or, Option, Some, None, Ok, Err, refl, ap, sym, subst, ◌∙◌, append_assoc}
-use Rattle.std.proofs.lemmas.List.{append-nil}
 use Rattle.std.specs.Prelude.{Result, option_to_list}
 use Rattle.std.specs.List.{AllByRecursion}
 use Rattle.afdx_table.specs.Link.{Link}
@@ -76,9 +75,6 @@ module _ (net : Network) (before : List Short) (n : ℕ) (ts : List Content) (t 
   switch_refuses e is = parted ∙ ap (λ (found : Found). both found (shorts_in net (rows_from (n + 1) (drop (n + 1) ts)))) is
 
 -- ---- at the end, and where it stops
-
-pub added_last : (before : List Short) → added before (Ok []) ≡ Ok before
-added_last before = ap Ok (append-nil before)
 
 pub refuses : {X Y : Type 0} (view : X → Y) (answer : Result Y NetworkFault) (given : Result X NetworkFault) (e : NetworkFault) → given ≡ Err e
     → (e ≢ fault.Memory → answer ≡ Err e) → Gives view given answer

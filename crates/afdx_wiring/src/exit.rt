@@ -16,18 +16,18 @@ use std::alloc::{AllocError, Global};
 
 /// An output port from which no wire comes, and a link that leads there; in order by link, then by switch and port.
 #[derive(Clone, Copy, PartialEq, Eq, PartialOrd, Ord)]
-pub(crate) struct Exit {
+pub struct Exit {
     /// The number of the link.
-    pub(crate) link: u16,
+    pub link: u16,
     /// The place of the switch in file order, from 0.
-    pub(crate) switch: usize,
+    pub switch: usize,
     /// The number of the port.
-    pub(crate) port: u8,
+    pub port: u8,
 }
 
 impl Exit {
     /// The port.
-    pub(crate) fn end(self) -> End
+    pub fn end(self) -> End
         ensures { result ≡ end_of self }
     {
         End {
@@ -100,8 +100,10 @@ impl Network {
         Ok(exits)
     }
 
-    /// The exits of all links, in their order.
-    pub(crate) fn exits(&self, alloc: Global) -> Result<Vec<Exit>, AllocError>
+    /// The exits of all links, in their order. O(e w) for e ends of rows and w wires, and their sorting.
+    ///
+    /// An error says that memory ran out.
+    pub fn exits(&self, alloc: Global) -> Result<Vec<Exit>, AllocError>
         ensures all { IfOk result (λ exits. IsPermutation (exits_of self.now) exits.items) }
         ensures order { IfOk result (λ exits. IsSorted by_link exits.items) }
     {

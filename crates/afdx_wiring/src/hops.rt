@@ -13,7 +13,7 @@ use afdx_grouping::laws::only_ports_count;
 use afdx_grouping::lesser_bounds;
 use afdx_jitter::{Delays, hop};
 use afdx_load::Bounds;
-use afdx_table::Table;
+use afdx_table::{Table, port_place};
 use afdx_units::Priority;
 use std::alloc::{AllocError, Global};
 use std::marker::Model;
@@ -66,18 +66,11 @@ fn within_reason(bound: u128) -> Option<u64>
     }
 }
 
-/// The place of the port of a number among a table's ports.
-fn place_of(table: &Table, port: u8) -> Option<usize>
-    ensures { result ≡ position (λ p. p.id == port) table.now.ports }
-{
-    table.ports().iter().position(|row| row.id == port)
-}
-
 /// The bounds of the port of a number, of those of a table's ports in their order.
 fn bounds_in(table: &Table, bounds: &[Bounds], port: u8) -> Option<Bounds>
     ensures { result ≡ option_and_then (slice_get bounds.now) (position (λ p. p.id == port) table.now.ports) }
 {
-    let place = place_of(table, port)?;
+    let place = port_place(table.ports(), port)?;
     bounds.get(place).copied()
 }
 

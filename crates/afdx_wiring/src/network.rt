@@ -174,8 +174,8 @@ impl Network {
         self.table(end.switch)?.port(end.port)
     }
 
-    /// The row of a link in a switch's table.
-    pub(crate) fn row_at(&self, switch: usize, id: u16) -> Option<Row<'_>>
+    /// The row of a link in a switch's table. O(1).
+    pub fn row_at(&self, switch: usize, id: u16) -> Option<Row<'_>>
         ensures { option_map row_of result ≡ row_at self.now switch id }
     {
         let link = self.table(switch)?.link(id)?;

@@ -2,11 +2,12 @@
 
 ghost use Rattle.std.specs.Prelude.{◌≡◌, [], ◌∷◌, ◌++◌, option_map, OnOk};
 ghost use Rattle.afdx_wiring.specs.Refusal.{Gives};
-ghost use Rattle.afdx_wiring.specs.Net.{rows_in, rows_of};
-ghost use Rattle.afdx_wiring.specs.Order.{row_of, first_of, source_within, has_source, is_fed, fed_numbers, each_once};
+ghost use Rattle.afdx_wiring.specs.Net.{rows_in, rows_of, ingress};
+ghost use Rattle.afdx_wiring.specs.Order.{row_of, first_of, most_rows, source_within, has_source, is_fed, fed_numbers, each_once};
 
 use crate::fault::NetworkFault;
 use crate::joints::link_at;
+use crate::layout::End;
 use crate::network::Network;
 use crate::row::Row;
 use afdx_table::Table;
@@ -29,6 +30,17 @@ impl Network {
         let link = row.link;
         let before = self.row_before(link.id, wire)?;
         self.source_within(fewer, before)
+    }
+
+    /// The port at which the frames of a row come in to the network; none where the tables do not lead a way back to one. O(rows of the way),
+    /// and O(wires) for each.
+    pub fn source_of(&self, row: Row<'_>) -> Option<End>
+        ensures { result ≡ option_map ingress (source_within most_rows self.now (row_of row.entry)) }
+    {
+        match self.source_within(MOST_ROWS, row) {
+            Some(source) => Some(source.ingress()),
+            None => None,
+        }
     }
 
     /// A row's way back.

@@ -1,6 +1,7 @@
 -- What a session keeps between its calls, while none has failed.
 use Rattle.std.specs.Prelude.{ℕ, ◌<◌, ◌≤◌, ◌≡◌, ◌^◌, Bool, if◌then◌else◌, List, [], ◌∷◌, ◌++◌, length, map, drop, slice_get, slice_index, Option, Some, None}
 use Rattle.std.specs.List.{AllByRecursion}
+use Rattle.afdx_units.specs.Time.{last_instant}
 use Rattle.afdx_pcap.specs.Text.{capture_text}
 use Rattle.afdx_table.specs.declared.rows.PortRow.{PortRow}
 use Rattle.afdx_table.specs.Content.{Content}
@@ -11,7 +12,7 @@ use Rattle.afdx_count.specs.Tally.{Tally}
 use Rattle.afdx_count.specs.Run.{counts_so_far}
 use Rattle.afdx_session.specs.declared.lane.Lane.{Lane}
 use Rattle.afdx_session.specs.Output.{rows_of, written}
-use Rattle.afdx_session.specs.Streams.{Stream, frontier, sent_up_to, last_instant}
+use Rattle.afdx_session.specs.Streams.{Stream, frontier, sent_up_to}
 use Rattle.afdx_session.specs.Inner.Settled.{IsSettling, IsGiven}
 use Rattle.afdx_session.specs.Inner.Lanes.{HasRead, waiting_of}
 

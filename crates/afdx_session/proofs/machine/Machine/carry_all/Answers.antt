@@ -3,14 +3,14 @@ use Rattle.std.proofs.lemmas.Bool.{both_ways}
 use Rattle.afdx_session.proofs.Rounds.{same_both}
 use Rattle.afdx_session.proofs.machine.Machine.carry_all.Goals as goal
 
-pub let_out-requires : goal.let_out-requires
-let_out-requires g c = let on = rw c.if-branch.true at c.in_ok-carry_some.ensures.ok in on.carrying
+pub drain_or_keep-requires : goal.drain_or_keep-requires
+drain_or_keep-requires g c = let on = rw c.if-branch.true at c.in_ok-carry_some.ensures.ok in on.carrying
 
 pub loop-self-preserved : goal.loop-self-preserved
 loop-self-preserved g c =
     let was = c.loop-self.invariant in
     let on = rw c.if-branch.true at c.in_ok-carry_some.ensures.ok in
-    let out = c.in_ok-let_out.ensures.ok in
+    let out = c.in_ok-drain_or_keep.ensures.ok in
     record {
       carrying = out.carrying;
       same = same_both _ _ _ (same_both _ _ _ was.same c.carry_some.ensures.same) out.same;
@@ -21,7 +21,7 @@ loop-self-preserved g c =
 pub loop-self-smaller : goal.loop-self-smaller
 loop-self-smaller g c =
     let on = rw c.if-branch.true at c.in_ok-carry_some.ensures.ok in
-    let left = c.in_ok-let_out.ensures.ok.left in
+    let left = c.in_ok-drain_or_keep.ensures.ok.left in
     let fewer = on.fewer refl in
     omega (arith, left, fewer)
 

@@ -24,23 +24,23 @@ returns-in_err-feed-clause-err g c =
     let stops = stops_at m.lanes.items c.args.place c.feed.new.self fault _ (of_piece _ _ fault c.in_err-feed.ensures.err) why in
     search rules
 
-pub go_on_into-requires-clause-of : goal.go_on_into-requires-clause-of
-go_on_into-requires-clause-of g c =
+pub make_round_into-requires-clause-of : goal.make_round_into-requires-clause-of
+make_round_into-requires-clause-of g c =
     let m = c.args.self.now in
     let at = reads_open m.lanes.items c.requires.still_open.0 c.args.place c.index_mut.result.now _ c.requires.still_open.1 c.index_mut.ensures.value in
     half_of_table m.switch.run.table m.lanes.items _ (half_fed c.requires.ready.0 m.lanes.items c.args.place c.index_mut.result.now c.feed.new.self c.requires.ready.1.marked at.0 c.feed.ensures.still
     c.feed.ensures.bytes) c.requires.of
 
-pub go_on_into-requires-clause-going : goal.go_on_into-requires-clause-going
-go_on_into-requires-clause-going g c =
+pub make_round_into-requires-clause-going : goal.make_round_into-requires-clause-going
+make_round_into-requires-clause-going g c =
     let m = c.args.self.now in
     let at = reads_open m.lanes.items c.requires.still_open.0 c.args.place c.index_mut.result.now _ c.requires.still_open.1 c.index_mut.ensures.value in
     lane_reads_on c.by_stamp_is_ordered.ensures c.merged_is_a_merge.ensures c.merged_is_by_stamp_and_port.ensures c.requires.ready.0 m c.args.place c.index_mut.result.now c.feed.new.self
     c.in_ok-feed.ensures.ok.2.0 c.requires.of c.requires.ready.1 at.0 at.1 c.feed.ensures.still
     c.in_ok-feed.ensures.ok.2.1
 
-pub go_on_into-requires-clause-files : goal.go_on_into-requires-clause-files
-go_on_into-requires-clause-files g c = c.requires.files ∙ sym (length-set c.args.self.now.lanes.items c.args.place c.feed.new.self)
+pub make_round_into-requires-clause-files : goal.make_round_into-requires-clause-files
+make_round_into-requires-clause-files g c = c.requires.files ∙ sym (length-set c.args.self.now.lanes.items c.args.place c.feed.new.self)
 
 pub returns-clause-ok : goal.returns-clause-ok
 returns-clause-ok g c =
@@ -53,8 +53,8 @@ returns-clause-ok g c =
     record {
       lane = lane;
       at = at.0;
-      on = goes_on_into g.F.NewFile.contents m _ c.go_on_into.new.self c.settle.new.self c.args.files.now c.go_on_into.new.files c.requires.ready.0 c.args.place lane c.feed.new.self _
+      on = goes_on_into g.F.NewFile.contents m _ c.make_round_into.new.self c.settle.new.self c.args.files.now c.make_round_into.new.files c.requires.ready.0 c.args.place lane c.feed.new.self _
           c.requires.of c.requires.ready.1 at.0 still.port still.taken came.3
           (fed_intake c.requires.ready.0 lane c.feed.new.self c.args.piece.now marked still.port came.0 (came.1 ∙ sym at.1) still.taken)
-          refl refl c.in_ok-go_on_into.ensures.ok c.settle.ensures.lanes c.settle.ensures.switch c.settle.ensures.counts;
+          refl refl c.in_ok-make_round_into.ensures.ok c.settle.ensures.lanes c.settle.ensures.switch c.settle.ensures.counts;
     }

@@ -3,7 +3,7 @@ use Rattle.std.proofs.lemmas.Result.{on_ok_weaker}
 use Rattle.afdx_session.proofs.Intakes.{all_touched_both, touched_of}
 use Rattle.afdx_session.proofs.Rounds.{same_both}
 use Rattle.afdx_session.proofs.Calls.{handed_same, handed_stays, drained_back, machine_runs, touched_table}
-use Rattle.afdx_session.proofs.machine.Machine.go_on.Goals as goal
+use Rattle.afdx_session.proofs.machine.Machine.make_round.Goals as goal
 
 pub drain_all-requires : goal.drain_all-requires
 drain_all-requires g c = handed_stays c.args.self.now.switch c.reach_frontier.new.self.switch c.reach_frontier.ensures.same c.requires.handed

@@ -2,7 +2,7 @@ use Rattle.std.proofs.Common.{refl}
 use Rattle.std.specs.Vec.{with_items}
 use Rattle.std.proofs.lemmas.Result.{on_ok_weaker}
 use Rattle.afdx_session.proofs.Carrying.{hands_on}
-use Rattle.afdx_session.proofs.machine.Machine.let_out.Goals as goal
+use Rattle.afdx_session.proofs.machine.Machine.drain_or_keep.Goals as goal
 
 pub returns-in-GoOut-clause-ok : goal.returns-in-GoOut-clause-ok
 returns-in-GoOut-clause-ok g c =

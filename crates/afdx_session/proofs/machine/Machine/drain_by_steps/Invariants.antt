@@ -2,7 +2,7 @@ use Rattle.std.proofs.Common.{◌≡◌, ◌-◌}
 use Rattle.afdx_units.specs.Time.{stamp_end}
 use Rattle.afdx_session.specs.Inner.Files.{Proceeds}
 use Rattle.afdx_session.specs.Inner.Lent.{left_in}
-use Rattle.afdx_session.proofs.machine.Machine.run_out.Given as goal
+use Rattle.afdx_session.proofs.machine.Machine.drain_by_steps.Given as goal
 
 abbrev pub invariant-loop-instant : goal.invariant-loop-instant
 invariant-loop-instant g l = record {

@@ -1,5 +1,5 @@
 use Rattle.afdx_session.proofs.Carrying.{came_to}
-use Rattle.afdx_session.proofs.machine.Machine.come_to.Goals as goal
+use Rattle.afdx_session.proofs.machine.Machine.advance_to.Goals as goal
 
 pub returns : goal.returns
 returns g c =

@@ -2,7 +2,7 @@ use Rattle.std.proofs.Common.{sym, ◌∙◌}
 use Rattle.std.proofs.lemmas.Result.{on_ok_weaker}
 use Rattle.afdx_session.proofs.Calls.{handed_stays, touched_table}
 use Rattle.afdx_session.proofs.Putting.{touched_length, runs_since}
-use Rattle.afdx_session.proofs.machine.Machine.go_on_into.Goals as goal
+use Rattle.afdx_session.proofs.machine.Machine.make_round_into.Goals as goal
 
 pub drain_into_files-requires-clause-of : goal.drain_into_files-requires-clause-of
 drain_into_files-requires-clause-of g c =
