@@ -1,12 +1,11 @@
 #!/usr/bin/env python3
-"""Fails if the memory of `afdx run`, `measure`, `survey` or `compare` grows with the frames of captures, or that of `network run` too much.
+"""Fails if the memory of `afdx run`, `measure`, `survey`, `compare` or `network run` grows with the frames of its captures.
 
 One link sends a frame each millisecond, so at most one frame is in flight, and whatever is kept of the frames before it shows. `compare`
 reads them beside what the run made of them, so all its bounds close soon after each frame.
 The peak is the greater of the program's and this script's own, about 15 MB, and each count of frames is so large that 4 bytes kept
 for each of them would pass the limit. Then links send bursts of large frames to 23 ports, ten seconds apart: what waits at the ports
-leaves in the silence after each. Last `network run` has the link cross two switches. It keeps all captures, so its memory grows with
-them; this fails if it grows by more than it is known to. Needs 1.2 GB under /tmp.
+leaves in the silence after each. Last `network run` has the link cross two switches. Needs 1.2 GB under /tmp.
 """
 import argparse
 import os
@@ -27,7 +26,6 @@ BURSTS = (1, 4)
 IN_A_BURST = 3_250  # frames of 1518 bytes that come at 1000 Mbit/s, each to 23 ports
 MOST_OF_BURSTS = 30.0  # megabytes: the frames that wait are 5 MB, and the ports' outputs were some 100 MB more if made at once
 COUNTS_OF_NETWORKS = {64: (200_000, 400_000), 1518: (20_000, 40_000)}  # frames, by their size: 15 and 30 MB
-MOST_KEPT = {64: 6.0, 1518: 5.0}  # bytes for each byte more that comes in, by the size of frames
 NETWORK = """[[switch]]
 name = "A"
 table = "table.toml"
@@ -117,24 +115,22 @@ def make_network(room: str) -> None:
             file.write(HEADER)
 
 
-def peak_of_network(afdx: str, room: str, count: int, size: int) -> tuple[float, float]:
-    """Returns the megabytes that come in with so many frames, and those that a run of the network takes at its peak."""
+def peak_of_network(afdx: str, room: str, count: int, size: int) -> float:
+    """Returns the megabytes that a run of the network over so many frames takes at its peak."""
     write_capture(f"{room}/in/A/port-1.pcap", count, size, MILLISECOND)
     arguments = [afdx, "network", "run", f"{room}/network.toml", f"{room}/in", f"{room}/out"]
     _, _, megabytes = measured(arguments, f"{room}/network.toml", f"{room}/report")
-    return os.path.getsize(f"{room}/in/A/port-1.pcap") / 1e6, megabytes
+    return megabytes
 
 
 def try_networks(afdx: str, room: str) -> None:
-    """Ends with a line if a network's run keeps more than it is known to."""
+    """Ends with a line if the memory of a network's run grows."""
     make_network(room)
     for size, counts in COUNTS_OF_NETWORKS.items():
-        (came, peak), (more_came, more) = (peak_of_network(afdx, room, count, size) for count in counts)
-        kept = (more - peak) / (more_came - came)
-        print(f"network run over two switches, frames of {size} bytes: {came:.1f} MB take {peak:.1f} MB, "
-              f"{more_came:.1f} take {more:.1f} MB, {kept:.1f} bytes for each more")
-        if kept > MOST_KEPT[size]:
-            sys.exit("network run keeps more of its captures than it is known to")
+        peak, more = (peak_of_network(afdx, room, count, size) for count in counts)
+        print(f"network run over two switches, {counts[0]} and {counts[1]} frames of {size} bytes: {peak:.1f} and {more:.1f} MB")
+        if more > MOST or more - peak > GROWTH:
+            sys.exit("the memory of network run grows with the frames")
 
 
 def main() -> None:

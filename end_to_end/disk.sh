@@ -337,6 +337,8 @@ cc -shared -fPIC -O1 -o failing.so "$top/end_to_end/failing.c" || exit 1
 
 aircraft=$top/examples/aircraft
 ports=$(printf '%s/port-%s.pcap ' cabin 1 cabin 2 cabin 3 bay 1 bay 2 bay 3 bay 4 cockpit 1 cockpit 2 cockpit 3)
+# The same in the order in which they are first written: of bay and cockpit a part goes out while the run goes on.
+written=$(printf '%s/port-%s.pcap ' bay 1 bay 2 bay 3 bay 4 cockpit 1 cockpit 2 cockpit 3 cabin 1 cabin 2 cabin 3)
 put_1="afdx: device put out/port-1.pcap"
 put_2="afdx: device put out/port-2.pcap"
 check "older captures are replaced" leaves 0 "" 2
@@ -387,8 +389,9 @@ check "each write takes half in turn" each_half
 for call in write rename; do
     check "each $call of trace fails in turn" each_put_fails "$call" "arrivals.csv departures.csv" trace table.toml given out
     check "each $call of compare fails in turn" each_put_fails "$call" differences.csv compare table.toml given newer --stamps free --rows out
-    check "each $call of network run fails in turn" each_put_fails "$call" "$ports" network run "$aircraft/network.toml" "$aircraft/in" out
 done
+check "each write of network run fails in turn" each_put_fails write "$written" network run "$aircraft/network.toml" "$aircraft/in" out
+check "each rename of network run fails in turn" each_put_fails rename "$ports" network run "$aircraft/network.toml" "$aircraft/in" out
 check "a new file that can be neither moved nor removed" stays_beside
 check "each read of alone is interrupted" interrupted "afdx: device read" alone --id 10 --bag 1 --jitter 0 --size 1000
 check "each read of check is interrupted" interrupted "afdx: device get table.toml" check table.toml

@@ -116,6 +116,20 @@ capture_refused() {
         ends 3 "afdx: capture P2 NoHeader, port 3, switch bay" /dev/null network run work/network.toml work/in out
 }
 
+# few_open_files: all new files and captures are open at once; where they may not be, a line names the first that was not opened, and
+# nothing is put.
+few_open_files() {
+    local files status=0 named='afdx: device (put out/[a-z]+/port-[1-4]\.pcap|get work/in/[a-z]+/port-[1-4]\.pcap)'
+    rm -rf out && fresh && mkdir -p out/cabin out/bay out/cockpit || return 1
+    for files in 10 14 18; do
+        status=0
+        (ulimit -n "$files" && exec "$afdx" network run work/network.toml work/in out) >answer.txt 2>said.txt || status=$?
+        echo "$files files: status $status, $(cat said.txt)"
+        [ "$status" -eq 5 ] && [ ! -s answer.txt ] && grep -qxE "$named" said.txt && [ -z "$(find out -type f)" ] || return 1
+    done
+    (ulimit -n 40 && exec "$afdx" network run work/network.toml work/in out) >answer.txt && [ -s answer.txt ]
+}
+
 # no_table: the file of the second table is not there.
 no_table() {
     fresh && sed -i 's/"bay.toml"/"none.toml"/' work/network.toml &&
@@ -206,6 +220,7 @@ check "MESSAGES has these lines of networks, and no other" lines_are_the_pages
 fresh
 check "no network file" ends 5 "afdx: device get none.toml" /dev/null network check none.toml
 check "no capture" ends 5 "afdx: device get nowhere/cabin/port-1.pcap" /dev/null network run work/network.toml nowhere out
+check "few files that may be open" few_open_files
 check "no table" no_table
 check "help of network" helps network --help
 check "help of network check" helps network check --help

@@ -1,6 +1,7 @@
 #!/usr/bin/env bash
 # A run over pipes, one for each port: ten million frames in memory that stands still, to the byte what model.py says of one period of
-# them; so a million of `measure` and of `survey`; and faults, of which the lowest port's is named though a pipe can be read only once.
+# them; so a million of `measure` and of `survey`; a run of a network over a pipe for each port of an end system; and faults, of which the
+# lowest port's is named though a pipe can be read only once.
 . "$(dirname "$0")/common.sh"
 install python3=python3 gzip=gzip
 install_python numpy
@@ -96,6 +97,31 @@ names_fault() {
     [ "$status" -eq "$2" ] && [ "$(cat said.txt)" = "$1" ] && [ ! -s answer.txt ] && [ -z "$(ls -A out)" ]
 }
 
+# network_over FOLDER: a run of the network over this folder, in 200 MB.
+network_over() {
+    rm -rf led && mkdir -p led/cabin led/bay led/cockpit
+    (ulimit -v 204800 && exec "$afdx" network run "$top/examples/aircraft/network.toml" "$1" led >report.txt)
+}
+
+# network_through_pipes: a run of the network while each capture is written into a pipe.
+network_through_pipes() {
+    local capture status=0
+    for capture in "$top"/examples/aircraft/in/*/*.pcap; do
+        mkdir -p "piped/$(basename "$(dirname "$capture")")"
+        mkfifo "piped/${capture#"$top/examples/aircraft/in/"}"
+        cat "$capture" >"piped/${capture#"$top/examples/aircraft/in/"}" &
+    done
+    network_over piped || status=$?
+    wait
+    return "$status"
+}
+
+# is_the_same: the run of the network over files leads to what that over pipes did.
+is_the_same() {
+    mv led led-by-pipes && mv report.txt report-by-pipes.txt && network_over "$top/examples/aircraft/in" &&
+        diff -r led led-by-pipes && cmp report.txt report-by-pipes.txt
+}
+
 times=12700
 check "of two periods the model says twice what it says of one" as_modelled_twice
 check "a run over pipes, in 200 MB, of ten million frames" through_pipes many -- run_within 204800
@@ -110,6 +136,8 @@ done
 times=1
 check "a run over pipes that zcat writes" through_pipes zipped -- run_within 204800
 check "is the model's" eval 'are_repeated 1 out && counts_are 1'
+check "a run of a network over pipes, in 200 MB" network_through_pipes
+check "is that over files" is_the_same
 truncate -s -1 one/port-4.pcap
 truncate -s 20 one/port-3.pcap
 check "of two faults the lowest port's is named" through_pipes many -- names_fault "afdx: capture P2 NoHeader, port 3" 3

@@ -1,16 +1,16 @@
 -- A capture's next record comes to hand.
-use Rattle.std.proofs.Common.{◌≡◌, ℕ, ◌+◌, Bool, true, List, [], ◌∷◌, ◌++◌, length, Option, Some, None, sym, ap, subst, ◌∙◌, arith}
+use Rattle.std.proofs.Common.{◌≡◌, ℕ, ◌+◌, true, List, [], ◌∷◌, ◌++◌, length, Option, Some, None, sym, ap, subst, ◌∙◌, arith}
 use Rattle.std.specs.Prelude.{option_to_list}
 use Rattle.std.specs.Option.{IfNone}
 use Rattle.std.proofs.lemmas.List.{append-nil, length-append}
 use Rattle.afdx_pcap.specs.declared.fault.PcapFault.{PcapFault}
 use Rattle.afdx_pcap.specs.Record.{Record}
-use Rattle.afdx_pcap.specs.Reading.{Reading, Taking, as_taking, taking_on, HasTaken, IsNext, NoNext, IsSound}
+use Rattle.afdx_pcap.specs.Reading.{Reading, Taking, as_taking, taking_on, HasTaken, IsNext}
 use Rattle.afdx_pairing.specs.Events.{Numbered, numbered_of}
 use Rattle.afdx_merging.specs.declared.clock.Clock.{Clock}
 use Rattle.afdx_merging.specs.declared.lane.Lane.{Lane}
 use Rattle.afdx_merging.specs.Merge.{moved, numbered_from}
-use Rattle.afdx_merging.specs.Inner.Lanes.{HasGiven, Draws}
+use Rattle.afdx_merging.specs.Inner.Lanes.{Draws}
 
 -- what the law of captures says of one record more
 abbrev pub Joins : Type 0
@@ -53,25 +53,6 @@ draws_one joins old new r no_fault none next clock reader count head =
           };
       at_hand = λ done empty. absurd (let some = sym head ∙ empty in cc);
       more = λ never. absurd (let no = never in cc);
-    }
-
-pub draws_none : {Z : Type 0} (old new : Lane Z) (done : Bool) → old.reader.fault ≡ None → old.head ≡ None → NoNext old.reader.bytes old.reader.given
-    → IsSound old.reader.bytes old.reader.given old.reader.closed → done ≡ old.reader.closed → new ≡ old → Draws done old new
-draws_none {Z} old new done no_fault none last sound done_is same =
-    let fault : new.reader.fault ≡ None = ap (λ (l : Lane Z). l.reader.fault) same ∙ no_fault in
-    record {
-      clock = ap (λ (l : Lane Z). l.clock) same;
-      no_fault = fault;
-      bytes = ap (λ (l : Lane Z). l.reader.bytes) same;
-      closed = ap (λ (l : Lane Z). l.reader.closed) same;
-      on = λ given h. subst (λ (l : Lane Z). HasGiven l given) (sym same) h;
-      at_hand = λ is empty.
-          let closed : old.reader.closed ≡ true = sym done_is ∙ is in (
-            ap (λ (l : Lane Z). l.reader.closed) same ∙ closed,
-            subst (λ (l : Lane Z). IsSound l.reader.bytes l.reader.given true) (sym same)
-                (subst (λ (b : Bool). IsSound old.reader.bytes old.reader.given b) closed sound),
-          );
-      more = λ isnt. (ap (λ (l : Lane Z). l.head) same ∙ none, ap (λ (l : Lane Z). l.reader.closed) same ∙ sym done_is ∙ isnt);
     }
 
 pub answered : (fault : Option PcapFault) (P : Type 0) → fault ≡ None → IfNone fault P → P

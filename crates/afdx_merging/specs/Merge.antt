@@ -1,13 +1,10 @@
 -- Captures that are merged by the instants of their records (profile).
 use Rattle.std.specs.Prelude.{◌≡◌, ◌⊎◌, ℕ, ◌+◌, ◌-◌, ◌<◌, ◌≤◌, ◌==◌, min, List, [], ◌∷◌, map, filter, length, Some, slice_get}
 use Rattle.std.specs.List.{AllByRecursion}
+use Rattle.afdx_units.specs.Time.{last_instant}
 use Rattle.afdx_pcap.specs.Record.{Record}
 use Rattle.afdx_pairing.specs.Events.{Numbered, numbered_of}
 use Rattle.afdx_merging.specs.declared.clock.Clock.{Clock}
-
--- the last instant that a stamp can be
-abbrev pub last_instant : ℕ
-last_instant = 4294967295999999999
 
 -- a stamp by a clock
 abbrev pub moved : Clock → ℕ → ℕ

@@ -1,12 +1,9 @@
 //! By which clock the records of a capture are compared with those of others.
 
-ghost use Rattle.std.specs.Prelude.{◌≡◌, ◌<◌, ◌^◌};
+ghost use Rattle.std.specs.Prelude.{◌≡◌};
 ghost use Rattle.afdx_merging.specs.Merge.{moved, due_at};
 
 use afdx_units::Stamp;
-
-/// The last instant, in nanoseconds, that a stamp can be.
-const LAST: u64 = 4_294_967_295_999_999_999;
 
 /// What makes the stamps of a capture those of the clock that all records are compared by. All is in nanoseconds, and every call is O(1).
 #[derive(Clone, Copy, Debug, PartialEq, Eq)]
@@ -25,13 +22,7 @@ impl Clock {
         ensures { result ≡ moved self.now stamp }
     {
         let later = u128::from(stamp.ns()) + u128::from(self.later);
-        let ns = later
-            .saturating_sub(u128::from(self.sooner))
-            .min(u128::from(LAST));
-        match Stamp::from_ns(ns as u64) {
-            Some(moved) => moved,
-            None => unreachable!(),
-        }
+        Stamp::from_ns_saturating(later.saturating_sub(u128::from(self.sooner)))
     }
 
     /// The instant by which a record of this stamp by the clock is in order with those of other captures.

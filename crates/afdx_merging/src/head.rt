@@ -1,7 +1,6 @@
 //! A record of a capture, with its number there.
 
-ghost use Rattle.std.specs.Prelude.{◌≡◌, length, IfOk};
-ghost use Rattle.afdx_pcap.specs.Record.{captured_limit};
+ghost use Rattle.std.specs.Prelude.{◌≡◌, IfOk};
 ghost use Rattle.afdx_pairing.specs.Events.{mark_of};
 
 use afdx_pairing::{Mark, Numbered};
@@ -49,6 +48,21 @@ impl<A: Allocator + Copy> Head<A> {
         ensures { record result.now { stamp = self.now.frame.stamp } ≡ self.now.frame }
     {
         &self.frame
+    }
+
+    /// The record, at its instant. Its bytes are copied where its capture has another stamp. An error is out of memory.
+    pub fn into_frame(self, alloc: A) -> Result<Record<'static, A>, AllocError>
+        ensures { IfOk result (λ frame. frame ≡ self.frame) }
+    {
+        let Head { stamp, frame, .. } = self;
+        if frame.stamp() == stamp {
+            return Ok(frame);
+        }
+        let bytes = Vec::from_slice(alloc, frame.bytes())?;
+        match Record::new(stamp, frame.original(), bytes) {
+            Ok(moved) => Ok(moved),
+            Err(_) => unreachable!(),
+        }
     }
 
     /// The same record, that several may share. An error is out of memory. O(1).

@@ -1,6 +1,6 @@
 //! One capture, of which the next record is at hand.
 
-ghost use Rattle.std.specs.Prelude.{◌≡◌, ◌<◌, ◌++◌, ℕ, false, None, Some, List, length, option_map, IfOk, IfErr, OnOk};
+ghost use Rattle.std.specs.Prelude.{◌≡◌, ◌<◌, false, None, Some, List, length, option_map, IfOk, IfErr, OnOk};
 ghost use Rattle.afdx_pairing.specs.Events.{Numbered as Seen};
 ghost use Rattle.afdx_merging.specs.Merge.{due_at};
 ghost use Rattle.afdx_merging.specs.Inner.Lanes.{fresh_lane, Draws, IsLaneFault, IsAtHand, IsReadBy, IsOfReader, IsStopped};

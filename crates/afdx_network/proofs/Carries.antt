@@ -1,5 +1,5 @@
 -- A record is handed out at a port, and goes over the port's wires, one call after the other.
-use Rattle.std.proofs.Common.{◌≡◌, ◌<◌, ◌≤◌, ◌+◌, ℕ, zero, suc, Bool, true, false, Ok, List, [], ◌∷◌, length, slice_get, Option, Some, None, ap, sym, ◌∙◌, subst}
+use Rattle.std.proofs.Common.{◌≡◌, ◌<◌, ◌≤◌, ◌+◌, ℕ, zero, suc, Bool, true, false, Ok, List, [], ◌∷◌, length, slice_get, Option, Some, None, refl, ap, sym, ◌∙◌, subst}
 use Rattle.std.specs.Prelude.{All, Contains, slice_set}
 use Rattle.std.proofs.lemmas.List.{length-set}
 use Rattle.std.proofs.lemmas.List.Elements.{All-contains, All-set}
@@ -21,11 +21,12 @@ use Rattle.afdx_network.specs.Way.{delayed}
 use Rattle.afdx_network.specs.Runs.{Given}
 use Rattle.afdx_network.specs.Given.{NoneIsLateAnywhere, IsWireFault}
 use Rattle.afdx_network.specs.Inner.Sites.{Site, HasSentAt, AreInWindow, AreInCarry, SendOn, AreEarly, IsPortAt, GoesOver, IsHandedOut, CanCome, CameOver, IsLateFault, Carries}
-use Rattle.afdx_network.specs.Inner.Sites.{waits_at, after_hops, after_putting}
+use Rattle.afdx_network.specs.Inner.Sites.{waits_at, after_hops, after_putting, gone_at}
 use Rattle.afdx_network.proofs.Carried.{AreWritten}
 use Rattle.afdx_network.proofs.Handing.{ends_within, handed_going, handed_port, waits_less, over_port, over_waits, over_on, late_wired, late_never, handed_soon, over_soon, over_early}
 use Rattle.afdx_network.proofs.InWindow.{comes_late, carry_begins, can_come, comes_over, passes_by, carry_ends}
 use Rattle.afdx_network.proofs.Lanes.{set_here}
+use Rattle.afdx_network.proofs.Places.{map_stays}
 use Rattle.afdx_network.proofs.SiteCalls.{AppendsOne}
 use Rattle.afdx_network.proofs.Soon.{hands_early}
 use Rattle.afdx_network.proofs.Visiting.{all_stay, all_on, set_on, hands_on, none_goes}
@@ -42,6 +43,7 @@ pub record OnItsWay (net : Network) (from : End) (place : ℕ) (frame : Record) 
   pub going : Going sites
   pub all : length sites ≡ length net.tables
   pub port : IsPortAt sites from place
+  pub gone : gone_at sites ≡ gone_at old
   pub reached : (h : ℕ) → All (λ (s : Site). s.paced.reached ≤ h) old → All (λ (s : Site). s.paced.reached ≤ h) sites
   pub fewer : waits_at (slice_get sites from.switch) from.port < waits_at (slice_get old from.switch) from.port
   pub late : (given : Given) (begin end : ℕ) → begin ≤ end → AreInWindow net given begin end old → (w : Wire) → Contains net.layout.wires w → w.from ≡ from → end ≤ frame.stamp + w.delay
@@ -59,6 +61,7 @@ way_begins law on one written leaves net from place old was new out going all po
   going = All-set (λ (s : Site). s.paced.failed ≡ false) old from.switch new (handed_going was new place from.port (Some out) h ∙ at_old (λ (s : Site). s.paced.failed ≡ false) going) going;
   all = length-set old from.switch new ∙ all;
   port = handed_port old from place was new (Some out) at h port;
+  gone = map_stays (λ (s : Site). s.gone) old from.switch new was at h.gone;
   reached = λ n before. All-set (λ (s : Site). s.paced.reached ≤ n) old from.switch new
       (subst (λ (v : Paced). v.reached ≤ n) (sym h.out_is.after) (at_old (λ (s : Site). s.paced.reached ≤ n) before)) before;
   fewer = subst (λ (o : Option Site). waits_at (slice_get (slice_set old from.switch new) from.switch) from.port < waits_at o from.port) (sym at)
@@ -79,13 +82,16 @@ same_set [] n x is = absurd cc
 same_set {X = X} (y ∷ xs) zero x is = ap (λ (z : X). z ∷ xs) (sym (same_Some y x is))
 same_set {X = X} (y ∷ xs) (suc n) x is = ap (λ (zs : List X). y ∷ zs) (same_set xs n x is)
 
-site_by : Paced → List Text → Option ℕ → Site
-site_by v left next = record { paced = v; left = left; next = next }
+site_by : Paced → List Text → List (List ℕ) → Option ℕ → Site
+site_by v left gone next = record { paced = v; left = left; gone = gone; next = next }
 
 none_is : (was new : Site) (place port : ℕ) → IsHandedOut was new place port None → new ≡ was
 unfolding site_by
 none_is was new place port h =
-    ap (λ (v : Paced). site_by v new.left new.next) h.0.same ∙ ap (λ (left : List Text). site_by was.paced left new.next) h.1 ∙ ap (site_by was.paced was.left) h.2
+    ap (λ (v : Paced). site_by v new.left new.gone new.next) h.0.same
+    ∙ ap (λ (left : List Text). site_by was.paced left new.gone new.next) h.1
+    ∙ ap (λ (gone : List (List ℕ)). site_by was.paced was.left gone new.next) h.2
+    ∙ ap (site_by was.paced was.left was.gone) h.3
 
 pub none_same : (old : List Site) (switch place port : ℕ) (was new : Site) → slice_get old switch ≡ Some was → IsHandedOut was new place port None → slice_set old switch new ≡ old
 none_same old switch place port was new at h = ap (slice_set old switch) (none_is was new place port h) ∙ same_set old switch was at
@@ -136,6 +142,8 @@ module _ (law : LaterRecordsChangeNothing) (on : OutGoesOn) (order : OutIsInOrde
     going = going;
     all = long ∙ c.all;
     port = over_port sites new u frame from place came c.port;
+    gone = ap gone_at came.new_is
+        ∙ map_stays (λ (s : Site). s.gone) sites u.to.switch (after_putting u.to.port (delayed u.delay frame) came.site) came.site came.at refl ∙ c.gone;
     reached = λ n before.
         subst (All (λ (s : Site). s.paced.reached ≤ n)) (sym came.new_is)
         (All-set (λ (s : Site). s.paced.reached ≤ n) sites u.to.switch (after_putting u.to.port (delayed u.delay frame) came.site)
@@ -171,6 +179,7 @@ way_passes net from place frame old k sites c u at none = record {
   going = c.going;
   all = c.all;
   port = c.port;
+  gone = c.gone;
   reached = c.reached;
   fewer = c.fewer;
   late = c.late;

@@ -91,7 +91,8 @@ goes_there old new from frame wires k u place own up changes is = record {
   start = stays (λ (l : Lane). l.left) old new u.to (came_in (delayed u.delay frame)) (λ l. refl) changes u.from is.start is.start_is
 
 pub goes_over : (old new : List Site) (from : End) (frame : Record) (wires : List Wire) (k : ℕ) (u w : Wire) → slice_get wires k ≡ Some u → wire_place wires u ≡ k → u.from ≡ from
-    → u.down ≡ false → ChangesAt old new u.to (came_in (delayed u.delay frame)) → slice_get wires (wire_place wires w) ≡ Some w → IsPending old from frame wires k w → IsPending new from frame wires (k + 1) w
+    → u.down ≡ false → ChangesAt old new u.to (came_in (delayed u.delay frame)) → slice_get wires (wire_place wires w) ≡ Some w → IsPending old from frame wires k w
+    → IsPending new from frame wires (k + 1) w
 goes_over old new from frame wires k u w at place own up changes one is = elim (cases_eq (wire_place wires w) k) [
   | inl here ↦
       let same = same_wire wires k u w at one here in

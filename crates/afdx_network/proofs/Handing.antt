@@ -178,7 +178,7 @@ over_on law end sites new w frame c late =
 
 pub late_wired : (net : Network) (w : Wire) (frame : Record) (why : NetworkRunFault) → wire_to net w.to ≡ Some w → IsLateFault w frame why → IsWireFault net why
 late_wired net w frame fault.Memory wired late = tt
-late_wired net w frame (fault.WrongPorts switch) wired late = absurd late
+late_wired net w frame (fault.Read place) wired late = absurd late
 late_wired net w frame (fault.Capture switch port why) wired late =
     record { wire = w; wire_is = ap (λ n. wire_to net (end_by n port)) late.0 ∙ ap (λ p. wire_to net (end_by w.to.switch p)) late.1 ∙ wired } where
       end_by : ℕ → ℕ → End
@@ -187,7 +187,7 @@ late_wired net w frame fault.WrongWires wired late = absurd late
 
 pub late_never : (w : Wire) (frame : Record) (why : NetworkRunFault) → frame.stamp + w.delay < last_second → IsLateFault w frame why → why ≡ fault.Memory
 late_never w frame fault.Memory soon late = refl
-late_never w frame (fault.WrongPorts switch) soon late = absurd late
+late_never w frame (fault.Read place) soon late = absurd late
 late_never w frame (fault.Capture switch port why) soon late = let past = late.2 in absurd (omega (arith, soon, past))
 late_never w frame fault.WrongWires soon late = absurd late
 

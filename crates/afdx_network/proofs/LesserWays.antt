@@ -58,7 +58,8 @@ module _ (g : Ground) (keeps : AcceptedKeepsBounds) (wires : WiresKeepToLines) (
       let there = least_bound next s.stage k in
       let x' : Stage = stage_by x.port (least_at net r.switch h.run.table) here.0 x.node x.link in
       let s' : Leg = record { cable = s.cable; stage = stage_by s.stage.port (least_at net next.switch k.run.table) there.0 s.stage.node s.stage.link } in
-      let f = follows g net given runs acc r next x' s' here.1 there.1 (record { wire = over.wire; wire_is = over.wire_is; up = over.up; start = over.start; cable = over.cable; number = over.number }) in
+      let f = follows g net given runs acc r next x' s' here.1 there.1
+      (record { wire = over.wire; wire_is = over.wire_is; up = over.up; start = over.start; cable = over.cable; number = over.number }) in
       record { number = f.number; constant = f.constant; size = f.size; bag = f.bag; police = f.police; wired = f.wired }
 
   first_at : (r : Row) (x : Stage) (legs : List Leg) → IsLesserWayFrom net runs r x legs → IsLesserStageAt net runs r x

@@ -1,7 +1,8 @@
 -- What holds of each element of a list, and filters.
-use Rattle.std.proofs.Common.{◌≡◌, Bool, true, false, cond, List, [], ◌∷◌, ◌++◌, map, filter, refl, ap, ◌∙◌, inl, inr}
+use Rattle.std.proofs.Common.{◌≡◌, ◌+◌, ℕ, zero, suc, Bool, true, false, cond, List, [], ◌∷◌, ◌++◌, length, map, filter, slice_get, Some, refl, ap, ◌∙◌, inl, inr, subst}
 use Rattle.std.specs.List.{AllByRecursion, AllZip}
 use Rattle.std.proofs.lemmas.Bool.{cases_Bool}
+use Rattle.std.proofs.lemmas.Option.{same_Some}
 use Rattle.afdx_account.specs.declared.frame.Frame.{Frame}
 use Rattle.afdx_account.specs.Policing.{Terms, conforms, passed_after}
 
@@ -55,6 +56,10 @@ zip_weaken R S [] (y ∷ ys) h zip = absurd zip
 zip_weaken R S (x ∷ xs) [] h zip = absurd zip
 zip_weaken R S (x ∷ xs) (y ∷ ys) h zip = (h x y zip.0, zip_weaken R S xs ys h zip.1)
 
+pub all_append : {X : Type 0} (P : X → Type 0) (xs ys : List X) → AllByRecursion P xs → AllByRecursion P ys → AllByRecursion P (xs ++ ys)
+all_append P [] ys one other = other
+all_append P (x ∷ xs) ys one other = (one.0, all_append P xs ys one.1 other)
+
 -- what a filter keeps is a part of what was there
 pub all_kept : {X : Type 0} (P : X → Type 0) (p : X → Bool) (xs : List X) → AllByRecursion P xs → AllByRecursion P (filter p xs)
 all_kept P p [] all = tt
@@ -62,3 +67,18 @@ all_kept P p (x ∷ xs) all = by (all_kept P p xs all.1) (p x) where
   by : AllByRecursion P (filter p xs) → (b : Bool) → AllByRecursion P (cond b (x ∷ filter p xs) (filter p xs))
   by rest true = (all.0, rest)
   by rest false = rest
+
+-- ---- lists side by side
+
+pub zip_long : {X Y : Type 0} (P : X → Y → Type 0) (xs : List X) (ys : List Y) → AllZip P xs ys → length ys ≡ length xs
+zip_long P [] [] zip = refl
+zip_long P [] (y ∷ ys) zip = absurd zip
+zip_long P (x ∷ xs) [] zip = absurd zip
+zip_long P (x ∷ xs) (y ∷ ys) zip = ap suc (zip_long P xs ys zip.1)
+
+pub zip_back : {X Y : Type 0} (P : X → Y → Type 0) (xs : List X) (ys : List Y) → AllZip P xs ys → (k : ℕ) (y : Y) → slice_get ys k ≡ Some y → (x : X) × (slice_get xs k ≡ Some x) × P x y
+zip_back P [] [] zip k y is = absurd cc
+zip_back P [] (z ∷ ys) zip k y is = absurd zip
+zip_back P (x ∷ xs) [] zip k y is = absurd zip
+zip_back P (x ∷ xs) (z ∷ ys) zip zero y is = (x, refl, subst (P x) (same_Some z y is) zip.0)
+zip_back P (x ∷ xs) (z ∷ ys) zip (suc k) y is = zip_back P xs ys zip.1 k y is

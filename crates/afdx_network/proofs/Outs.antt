@@ -36,11 +36,6 @@ shorter on v h n p le =
     let more = on.until v h n p le in let whole = ap length more.1 in let parts = length-append (out_up_to v (Some h) p) more.0 in
     omega (arith, whole, parts)
 
-pub shorter_than_all : OutGoesOn → (v : Paced) (h : ℕ) (p : PortRow) → length (out_up_to v (Some h) p) ≤ length (out_up_to v None p)
-shorter_than_all on v h p =
-    let more = on.in_the_end v h p in let whole = ap length more.1 in let parts = length-append (out_up_to v (Some h) p) more.0 in
-    omega (arith, whole, parts)
-
 -- ---- what is next
 
 -- up to an instant no later than what is next nothing leaves

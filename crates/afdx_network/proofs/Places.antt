@@ -40,10 +40,3 @@ got_push (y ∷ ys) v x (suc n) is = by (got_push ys v x n is) where
   by : (slice_get ys n ≡ Some x) ⊎ ((n ≡ length ys) × (v ≡ x)) → (slice_get ys n ≡ Some x) ⊎ ((suc n ≡ suc (length ys)) × (v ≡ x))
   by (inl there) = inl there
   by (inr here) = inr (ap suc here.0, here.1)
-
--- what comes after so many others
-pub got_seam : {X Y : Type 0} (f : X → Y) (ys zs all : List X) (x : X) → ys ++ x ∷ zs ≡ all → slice_get (map f all) (length ys) ≡ Some (f x)
-got_seam {X = X} f ys zs all x whole = subst (λ (xs : List X). slice_get (map f xs) (length ys) ≡ Some (f x)) whole (at ys) where
-  at : (xs : List X) → slice_get (map f (xs ++ x ∷ zs)) (length xs) ≡ Some (f x)
-  at [] = refl
-  at (y ∷ xs) = at xs

@@ -64,10 +64,11 @@ accepted_run plain net given came left formed accepted is =
     one_run net given came left (isolated_runs plain net.tables came left formed accepted is.outcomes) is.fed
 
 -- and so has what is answered
-pub isolates : {V F : Type 0} (r : Result V F) (left : V → List Results) → PlainHeadlines → (net : Network) (given : Given) → All IsAccepted net.tables
-    → IfOk r (λ v. (came : List (List Text)) × IsUncheckedRunOf net given came (left v)) → OnOk r (All IsWellFormed net.tables) → IfOk r (λ v. (came : List (List Text)) × IsRunOf net given came (left v))
-isolates (Ok v) left plain net given accepted is formed = (is.0, accepted_run plain net given is.0 (left v) formed accepted is.1)
-isolates (Err e) left plain net given accepted is formed = tt
+pub isolates : {V F : Type 0} (r : Result V F) (By : Given → Type 0) (Put : List Results → V → Type 0) → PlainHeadlines → (net : Network) → All IsAccepted net.tables
+    → IfOk r (λ v. (given : Given) × (came : List (List Text)) × (left : List Results) × By given × IsUncheckedRunOf net given came left × Put left v) → OnOk r (All IsWellFormed net.tables)
+    → IfOk r (λ v. (given : Given) × (came : List (List Text)) × (left : List Results) × By given × IsRunOf net given came left × Put left v)
+isolates (Ok v) By Put plain net accepted is formed = (is.0, is.1, is.2, is.3, accepted_run plain net is.0 is.1 is.2 formed accepted is.4, is.5)
+isolates (Err e) By Put plain net accepted is formed = tt
 
 -- ---- whatever the loads
 

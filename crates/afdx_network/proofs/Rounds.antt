@@ -1,5 +1,5 @@
 -- What calls on all switches do: a port after the other, a switch after the other, a window after the other.
-use Rattle.std.proofs.Common.{◌≡◌, ◌<◌, ◌≤◌, ◌+◌, ℕ, max, false, List, [], ◌∷◌, map, length, slice_get, Option, Some, None, refl, ap, sym, ◌∙◌, arith, inl, inr, subst}
+use Rattle.std.proofs.Common.{◌≡◌, ◌<◌, ◌≤◌, ◌+◌, ℕ, false, List, [], ◌∷◌, map, length, slice_get, Option, Some, None, refl, ap, sym, ◌∙◌, arith, inl, inr, subst}
 use Rattle.std.specs.Prelude.{All, slice_set}
 use Rattle.std.specs.Option.{option_map}
 use Rattle.std.specs.List.{AllByRecursion}
@@ -7,7 +7,7 @@ use Rattle.std.proofs.lemmas.Bool.{cases_eq}
 use Rattle.std.proofs.lemmas.List.{length-map, length-set}
 use Rattle.std.proofs.lemmas.List.Elements.{All-set}
 use Rattle.std.proofs.lemmas.Option.{same_Some, slice_get-map, slice_get_within}
-use Rattle.afdx_units.specs.Time.{last_second}
+use Rattle.afdx_units.specs.Time.{last_second, last_instant}
 use Rattle.afdx_pcap.specs.Record.{Record}
 use Rattle.afdx_pcap.specs.Text.{capture_text}
 use Rattle.afdx_table.specs.declared.rows.PortRow.{PortRow}
@@ -16,13 +16,13 @@ use Rattle.afdx_core.specs.Merge.{Arrival}
 use Rattle.afdx_core.specs.Inner.Merge.{ByStampIsOrdered}
 use Rattle.afdx_session.specs.Texts.{Text}
 use Rattle.afdx_session.specs.Inner.Early.{RecordsAreEarly}
-use Rattle.afdx_session.specs.Streams.{last_instant, AllStartBeforeTheLastInstant}
+use Rattle.afdx_session.specs.Streams.{AllStartBeforeTheLastInstant}
 use Rattle.afdx_paced.specs.Paced.{Lane, Paced, captures_of, arrivals}
 use Rattle.afdx_paced.specs.Laws.{OutGoesOn}
 use Rattle.afdx_wiring.specs.declared.layout.End.{End}
-use Rattle.afdx_wiring.specs.Net.{Network, wire_to}
+use Rattle.afdx_wiring.specs.Net.{Network}
 use Rattle.afdx_network.specs.Runs.{Given}
-use Rattle.afdx_network.specs.Inner.Sites.{Site, end_at, left_texts, IsSite, HasSent, HasSentAt, HasCome, AreCarried, IsIn, IsLook, AreInWindow, acts_before, IsFirst, AreStarted}
+use Rattle.afdx_network.specs.Inner.Sites.{Site, end_at, left_texts, IsSite, HasSent, HasSentAt, HasCome, AreCarried, IsIn, AreInWindow, acts_before, IsFirst, gone_at}
 use Rattle.afdx_network.specs.Inner.Sites.{IsPortAt, WentTo, SendsOn, SendOn, Carries, Visits, after_hops, AreEarly}
 use Rattle.afdx_network.proofs.Answering.{all_places}
 use Rattle.afdx_network.proofs.Carried.{AreWritten}
@@ -30,10 +30,10 @@ use Rattle.afdx_network.proofs.Carries.{Going, KeepEarly}
 use Rattle.afdx_network.proofs.InWindow.{at_site}
 use Rattle.afdx_network.proofs.Lanes.{set_here, set_elsewhere}
 use Rattle.afdx_network.proofs.LaneTexts.{texts_for, texts_read}
-use Rattle.afdx_network.proofs.Places.{got_set}
+use Rattle.afdx_network.proofs.Places.{got_set, map_stays}
 use Rattle.afdx_network.proofs.Readings.{merged_all}
 use Rattle.afdx_network.proofs.Visiting.{all_stay, all_on, all_sent, sent_still, window_goes}
-use Rattle.afdx_network.proofs.WindowEnds.{begins_in, stays_away, still_come, all_quiet, all_started}
+use Rattle.afdx_network.proofs.WindowEnds.{stays_away, still_come, all_quiet, all_started}
 
 -- ---- all of them
 
@@ -172,6 +172,7 @@ goes_early place sites switch end old new at went early n s is = elim (got_set s
 pub record OnVisit (net : Network) (end switch : ℕ) (old went : List Site) (k : ℕ) (sites : List Site) : Type 0 where
   pub going : All (λ (s : Site). (s.paced.failed ≡ false) × (s.paced.reached ≤ end)) sites
   pub all : length sites ≡ length net.tables
+  pub gone : gone_at sites ≡ gone_at old
   pub ok : (given : Given) (begin : ℕ) → begin ≤ end → AreInWindow net given begin end old → AreInWindow net given begin end sites × SendOn end went sites × HaveLeft sites switch k
   pub early : (given : Given) (begin : ℕ) → begin ≤ end → AreInWindow net given begin end old → KeepEarly net given old sites
 
@@ -182,6 +183,7 @@ visit_begins on net end switch old was new going all reached at went = record {
       (ap (λ (v : Paced). v.failed) went.paced ∙ at_site (λ (s : Site). s.paced.failed ≡ false) old switch was going at, let same = ap (λ (v : Paced). v.reached) went.paced in omega (arith, same))
       (both end old going reached);
   all = length-set old switch new ∙ all;
+  gone = map_stays (λ (s : Site). s.gone) old switch new was at went.gone;
   ok = λ given begin le w. (window_goes on net given begin end old switch was new w at went, all_stay end (slice_set old switch new), λ s place p is lt row. absurd (omega (arith, lt)));
   early = λ given begin le w none accepted early. goes_early none.order.place old switch end was new at went early;
 }
@@ -189,6 +191,7 @@ visit_begins on net end switch old was new going all reached at went = record {
 -- what draining a port does
 pub record Drains (net : Network) (end : ℕ) (from : End) (old new : List Site) : Type 0 where
   pub going : Going new
+  pub gone : gone_at new ≡ gone_at old
   pub reached : (h : ℕ) → All (λ (s : Site). s.paced.reached ≤ h) old → All (λ (s : Site). s.paced.reached ≤ h) new
   pub ok : (given : Given) (begin : ℕ) → begin ≤ end → AreInWindow net given begin end old → Carries net given begin end from false old new
   pub early : (given : Given) (begin : ℕ) → begin ≤ end → AreInWindow net given begin end old → KeepEarly net given old new
@@ -199,6 +202,7 @@ pub visit_goes_on : (net : Network) (end switch port : ℕ) (old went : List Sit
 visit_goes_on net end switch port old went k sites new was c at number long d = record {
   going = both end new d.going (d.reached end (λ i e lt. (c.going i e lt).1));
   all = long ∙ c.all;
+  gone = d.gone ∙ c.gone;
   ok = λ given begin le w.
       let before = c.ok given begin le w in
       let now = d.ok given begin le before.0 in (
@@ -214,6 +218,7 @@ pub visit_passes : (net : Network) (end switch : ℕ) (old went : List Site) (k 
 visit_passes net end switch old went k sites was c at none = record {
   going = c.going;
   all = c.all;
+  gone = c.gone;
   ok = λ given begin le w. let before = c.ok given begin le w in (before.0, before.1, no_port net given begin end switch k sites was before.0 at none before.2);
   early = c.early;
 }
@@ -269,6 +274,7 @@ all_gone begin end k sites many gone = all_places (HasCome end) sites (λ n s is
 pub record OnWindow (net : Network) (end : ℕ) (old : List Site) (k : ℕ) (sites : List Site) : Type 0 where
   pub going : All (λ (s : Site). (s.paced.failed ≡ false) × (s.paced.reached ≤ end)) sites
   pub all : length sites ≡ length net.tables
+  pub gone : gone_at sites ≡ gone_at old
   pub ok : (given : Given) (begin : ℕ) → begin ≤ end → AreInWindow net given begin end old → All (λ (s : Site). s.paced.reached ≤ begin) old
       → AreInWindow net given begin end sites × AreGone begin end k sites
   pub inside : (given : Given) (begin : ℕ) → begin ≤ end → AreInWindow net given begin end old → AreInWindow net given begin end sites
@@ -278,6 +284,7 @@ pub window_begins : (net : Network) (end : ℕ) (old : List Site) → Going old 
 window_begins net end old going all reached = record {
   going = both end old going reached;
   all = all;
+  gone = refl;
   ok = λ given begin le w from. (w, none_gone begin end old from);
   inside = λ given begin le w. w;
   early = λ given begin le w none accepted early. early;
@@ -286,6 +293,7 @@ window_begins net end old going all reached = record {
 -- what a visit does
 pub record VisitsOne (net : Network) (end switch : ℕ) (old new : List Site) : Type 0 where
   pub going : All (λ (s : Site). (s.paced.failed ≡ false) × (s.paced.reached ≤ end)) new
+  pub gone : gone_at new ≡ gone_at old
   pub ok : (given : Given) (begin : ℕ) → begin ≤ end → AreInWindow net given begin end old → Visits net given begin end switch old new
   pub early : (given : Given) (begin : ℕ) → begin ≤ end → AreInWindow net given begin end old → KeepEarly net given old new
 
@@ -294,6 +302,7 @@ pub window_goes_on : (net : Network) (end : ℕ) (old : List Site) (k : ℕ) (si
 window_goes_on net end old k sites new c long v = record {
   going = v.going;
   all = long ∙ c.all;
+  gone = v.gone ∙ c.gone;
   ok = λ given begin le w from.
       let before = c.ok given begin le w from in
       let now = v.ok given begin le before.0 in
@@ -307,31 +316,13 @@ pub window_passes : OutGoesOn → (net : Network) (end : ℕ) (old : List Site) 
 window_passes on net end old k sites here c at none = record {
   going = c.going;
   all = c.all;
+  gone = c.gone;
   ok = λ given begin le w from. let before = c.ok given begin le w from in (before.0, skipped on net given begin end k sites here before.0 le at none before.1);
   inside = c.inside;
   early = c.early;
 }
 
--- ---- a window after the other
-
-pub next_window : OutGoesOn → (net : Network) (given : Given) (sites : List Site) (end first n most look : ℕ) → AreCarried net given sites → All (λ w. wire_to net w.to ≡ Some w) net.layout.wires
-    → All (HasCome end) sites → IsLook net look → IsFirst sites (Some first) → n ≡ max first end → n ≤ most → most ≤ n + look
-    → AreInWindow net given n most sites × All (λ (s : Site). s.paced.reached ≤ n) sites
-next_window on net given sites end first n most look are one come is_look none is le short = (
-  record {
-    carried = are;
-    one_each = one;
-    look = look;
-    is_look = is_look;
-    short = short;
-    inside = all_places (IsIn n most) sites (λ k s at. (each k s at).0);
-  },
-  all_places (λ (s : Site). s.paced.reached ≤ n) sites (λ k s at. (each k s at).1),
-) where
-  each : (k : ℕ) (s : Site) → slice_get sites k ≡ Some s → IsIn n most s × (s.paced.reached ≤ n)
-  each k s at =
-      begins_in on s end first n most (are.are.each k s at).running.next (at_site (HasCome end) sites k s come at)
-      (at_site (λ (x : Site). acts_before first x.next ≡ false) sites k s none at) is le
+-- ---- the end
 
 pub all_are_quiet : OutGoesOn → (net : Network) (given : Given) (sites : List Site) (end : ℕ) → AreCarried net given sites → All (HasCome end) sites → IsFirst sites None → All (HasSent None) sites
 all_are_quiet on net given sites end are come none =
@@ -352,65 +343,7 @@ all_have_started law ordered written early net given sites are come =
     all_places (HasSent None) sites
     (λ k s at. let site = are.are.each k s at in all_started law net given k s site (arrive_early ordered written early net given k s site) (at_site (HasCome last_instant) sites k s come at))
 
--- ---- all windows
-
--- the switches that were started have come to the end of a window
-pub record OnTheRun (net : Network) (old : List Site) (end : ℕ) (sites : List Site) : Type 0 where
-  pub going : All (λ (s : Site). (s.paced.failed ≡ false) × (s.paced.reached ≤ end)) sites
-  pub all : length sites ≡ length net.tables
-  pub most : end ≤ last_instant
-  pub ok : (given : Given) → AreStarted net given old → AreCarried net given sites × All (HasCome end) sites
-  pub early : (given : Given) → AreStarted net given old → KeepEarly net given old sites
-
-pub run_begins : (net : Network) (old : List Site) → All (λ (s : Site). (s.paced.failed ≡ false) × (s.paced.reached ≤ 0)) old → length old ≡ length net.tables → OnTheRun net old 0 old
-run_begins net old going all = record {
-  going = going;
-  all = all;
-  most = omega arith;
-  ok = λ given s. (s.carried, s.come);
-  early = λ given s none accepted early. early;
-}
-
-pub reached_by : (end most : ℕ) (sites : List Site) → end ≤ most → All (λ (s : Site). (s.paced.failed ≡ false) × (s.paced.reached ≤ end)) sites → All (λ (s : Site). s.paced.reached ≤ most) sites
-reached_by end most sites le all i d lt = let here = (all i d lt).1 in omega (arith, here, le)
+-- ---- going on
 
 pub still_going : (end : ℕ) (sites : List Site) → All (λ (s : Site). (s.paced.failed ≡ false) × (s.paced.reached ≤ end)) sites → Going sites
 still_going end sites all i d lt = (all i d lt).0
-
--- the window that begins next, at its begin
-module _ (on : OutGoesOn) (net : Network) (old : List Site) (end first most look : ℕ) (sites : List Site) (c : OnTheRun net old end sites) (is_look : IsLook net look)
-    (none : IsFirst sites (Some first))
-    (le : max first end ≤ most) (short : most ≤ max first end + look) where
-  pub opens : (given : Given) → AreStarted net given old → AreInWindow net given (max first end) most sites × All (λ (s : Site). s.paced.reached ≤ max first end) sites
-  opens given s =
-      let is = c.ok given s in
-      next_window on net given sites end first (max first end) most look is.0 s.one_each is.1 is_look none refl le short
-
-  pub run_goes_on : (new : List Site) → most ≤ last_instant → All (λ (s : Site). (s.paced.failed ≡ false) × (s.paced.reached ≤ most)) new → length new ≡ length sites
-      → ((given : Given) (begin : ℕ) → begin ≤ most → AreInWindow net given begin most sites → All (λ (s : Site). s.paced.reached ≤ begin) sites
-      → AreInWindow net given begin most new × All (HasCome most) new)
-      → ((given : Given) (begin : ℕ) → begin ≤ most → AreInWindow net given begin most sites → KeepEarly net given sites new) → OnTheRun net old most new
-  run_goes_on new within going long window early = record {
-    going = going;
-    all = long ∙ c.all;
-    most = within;
-    ok = λ given s. let is = opens given s in let now = window given (max first end) le is.0 is.1 in (now.0.carried, now.1);
-    early = λ given s never accepted was. early given (max first end) le (opens given s).0 never accepted (c.early given s never accepted was);
-  }
-
-pub run_is_quiet : OutGoesOn → (net : Network) (old : List Site) (end : ℕ) (sites : List Site) → OnTheRun net old end sites → IsFirst sites None → (given : Given) → AreStarted net given old
-    → AreCarried net given sites × All (HasSent None) sites
-run_is_quiet on net old end sites c none given s = let is = c.ok given s in (is.0, all_are_quiet on net given sites end is.0 is.1 none)
-
-pub run_ends : AllStartBeforeTheLastInstant → ByStampIsOrdered → AreWritten → RecordsAreEarly → (net : Network) (old : List Site) (end : ℕ) (sites : List Site) → OnTheRun net old end sites
-    → last_instant ≤ end → (given : Given) → AreStarted net given old → AreCarried net given sites × All (HasSent None) sites
-run_ends law ordered written early net old end sites c past given s =
-    let is = c.ok given s in
-    let most = c.most in
-    let same : end ≡ last_instant = omega (arith, past, most) in
-    (is.0, all_have_started law ordered written early net given sites is.0 (subst (λ n. All (HasCome n) sites) same is.1))
-
-pub started_going : (net : Network) (given : Given) (sites : List Site) → AreStarted net given sites → All (λ (s : Site). (s.paced.failed ≡ false) × (s.paced.reached ≤ 0)) sites
-started_going net given sites s =
-    all_places (λ (x : Site). (x.paced.failed ≡ false) × (x.paced.reached ≤ 0)) sites
-    (λ k x at. ((s.carried.are.each k x at).running.going, (at_site (HasCome 0) sites k x s.come at).reached))

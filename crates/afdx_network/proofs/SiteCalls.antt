@@ -89,12 +89,15 @@ puts_sent law s port h frame le sent q p l row found =
 
 -- ---- it goes on
 
-made : Paced → List Text → Option ℕ → Site
-made v left next = record { paced = v; left = left; next = next }
+made : Paced → List Text → List (List ℕ) → Option ℕ → Site
+made v left gone next = record { paced = v; left = left; gone = gone; next = next }
 
-pub went_is : (h : ℕ) (old new : Site) → WentTo h old new → new ≡ record { paced = after_going h old.paced; left = old.left; next = new.next }
+pub went_is : (h : ℕ) (old new : Site) → WentTo h old new → new ≡ record { paced = after_going h old.paced; left = old.left; gone = old.gone; next = new.next }
 unfolding made
-went_is h old new went = ap (λ (v : Paced). made v new.left new.next) went.paced ∙ ap (λ (left : List Text). made (after_going h old.paced) left new.next) went.left
+went_is h old new went =
+    ap (λ (v : Paced). made v new.left new.gone new.next) went.paced
+    ∙ ap (λ (left : List Text). made (after_going h old.paced) left new.gone new.next) went.left
+    ∙ ap (λ (gone : List (List ℕ)). made (after_going h old.paced) old.left gone new.next) went.gone
 
 pub site_goes : OutGoesOn → (net : Network) (given : Given) (switch h : ℕ) (old new : Site) → IsSite net given switch old → old.paced.reached ≤ h → WentTo h old new → IsSite net given switch new
 site_goes on net given switch h old new site later went = subst (IsSite net given switch) (sym (went_is h old new went)) (record {
@@ -159,9 +162,12 @@ left_more one (p ∷ ports) (l ∷ lanes) (suc k) port text out rises same at =
     ∙ sym (ap (λ b. left_texts (cond b (went_out out l ∷ lanes) (l ∷ changed port (went_out out) lanes))) other)
 
 pub hands_is : (old new : Site) (place port : ℕ) (out : Record) → HandsOut old new place port out
-    → new ≡ record { paced = after_leaving port out old.paced; left = new.left; next = old.next }
+    → new ≡ record { paced = after_leaving port out old.paced; left = new.left; gone = old.gone; next = old.next }
 unfolding made
-hands_is old new place port out h = ap (λ (v : Paced). made v new.left new.next) h.out_is.after ∙ ap (made (after_leaving port out old.paced) new.left) h.next
+hands_is old new place port out h =
+    ap (λ (v : Paced). made v new.left new.gone new.next) h.out_is.after
+    ∙ ap (λ (gone : List (List ℕ)). made (after_leaving port out old.paced) new.left gone new.next) h.gone
+    ∙ ap (made (after_leaving port out old.paced) new.left old.gone) h.next
 
 pub site_hands : AppendsOne → (net : Network) (given : Given) (switch place port : ℕ) (old new : Site) (out : Record) → IsSite net given switch old → HandsOut old new place port out
     → IsSite net given switch new
@@ -208,7 +214,7 @@ site_hands one net given switch place port old new out site h = subst (IsSite ne
 
 pub hands_sent : (old new : Site) (place port : ℕ) (out : Record) (n : Option ℕ) → HandsOut old new place port out → HasSent n old → HasSent n new
 hands_sent old new place port out n h sent = subst (HasSent n) (sym (hands_is old new place port out h)) more where
-  more : HasSent n (record { paced = after_leaving port out old.paced; left = new.left; next = old.next })
+  more : HasSent n (record { paced = after_leaving port out old.paced; left = new.left; gone = old.gone; next = old.next })
   more q p l row found = elim (cases_eq q port) [
     | inl here ↦
         let g = h.out_is in

@@ -3,12 +3,12 @@ use Rattle.std.proofs.Common.{◌≡◌, ◌<◌, ◌≤◌, ◌==◌, ℕ, max,
 use Rattle.std.specs.Prelude.{Contains}
 use Rattle.std.specs.List.{AllByRecursion}
 use Rattle.std.proofs.lemmas.Bool.{cases_lt}
-use Rattle.afdx_units.specs.Time.{last_second}
+use Rattle.afdx_units.specs.Time.{last_second, last_instant}
 use Rattle.afdx_table.specs.declared.rows.PortRow.{PortRow}
 use Rattle.afdx_table.specs.Content.{port_row}
 use Rattle.afdx_core.specs.Merge.{Arrival}
 use Rattle.afdx_session.specs.Output.{written}
-use Rattle.afdx_session.specs.Streams.{last_instant, AllStartBeforeTheLastInstant}
+use Rattle.afdx_session.specs.Streams.{AllStartBeforeTheLastInstant}
 use Rattle.afdx_paced.specs.Paced.{Paced, arrivals, IsNext}
 use Rattle.afdx_paced.specs.Laws.{OutGoesOn}
 use Rattle.afdx_wiring.specs.Net.{Network}

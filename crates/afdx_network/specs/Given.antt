@@ -1,22 +1,20 @@
 -- What is given for a run of a network, and why there is no run.
-use Rattle.std.specs.Prelude.{◌≡◌, ℕ, ◌+◌, ◌*◌, ◌<◌, ◌≤◌, Bool, not, List, length, map, filter, take, slice_get, Vec, is_some, Some, All, Contains, ◌⊎◌}
+use Rattle.std.specs.Prelude.{◌≡◌, ℕ, ◌+◌, ◌*◌, ◌<◌, ◌≤◌, Bool, not, List, [], ◌∷◌, ◌++◌, length, map, filter, flat_map, take, slice_get, Option, is_some, Some, All, Contains, ◌⊎◌}
 use Rattle.afdx_units.specs.Time.{second, last_second}
 use Rattle.afdx_pcap.specs.declared.fault.PcapFault.{PcapFault}
 use Rattle.afdx_pcap.specs.Record.{Record}
 use Rattle.afdx_pcap.specs.Capture.{IsCapture}
 use Rattle.afdx_table.specs.Content.{Content}
 use Rattle.afdx_load.specs.Accepted.{IsAccepted}
-use Rattle.afdx_session.specs.Texts.{Text, texts_of}
+use Rattle.afdx_session.specs.Texts.{Text}
 use Rattle.afdx_session.specs.Reading.{IsSound, IsFirstFault}
+use Rattle.afdx_merging.specs.Read.{AreRead}
+use Rattle.afdx_wiring.specs.declared.layout.End.{End}
 use Rattle.afdx_wiring.specs.declared.layout.Wire.{Wire}
 use Rattle.afdx_wiring.specs.Net.{Network, wire_to}
 use Rattle.afdx_network.specs.declared.fault.NetworkRunFault.{NetworkRunFault}
 use Rattle.afdx_network.specs.declared.fault.NetworkRunFault.TheVariants as fault
 use Rattle.afdx_network.specs.Runs.{Given}
-
--- the texts of each switch, as they are held
-abbrev pub given_of : {Y Z : Type 0} → List (Vec (ℕ × Vec ℕ Z) Y) → Given
-given_of given = map (λ texts. texts_of texts.items) given
 
 -- ---- what has to be given
 
@@ -43,6 +41,29 @@ pub record AreGiven (net : Network) (given : Given) : Type 0 where
 -- each is a capture
 abbrev pub AreSound : Given → Type 0
 AreSound given = All (All IsSound) given
+
+-- ---- readers
+
+-- the ports to which no wire goes, by switch, of which so many come before these, and then by rising number
+abbrev pub ends_from : Network → ℕ → List Content → List End
+ends_from net n [] = []
+ends_from net n (t ∷ tables) = map (λ port. record { switch = n; port = port }) (filter (is_open net n) (map (λ p. p.id) t.ports)) ++ ends_from net (n + 1) tables
+
+abbrev pub open_ends : Network → List End
+open_ends net = ends_from net 0 net.tables
+
+-- all ports, in that order
+abbrev pub all_from : ℕ → List Content → List End
+all_from n [] = []
+all_from n (t ∷ tables) = map (λ p. record { switch = n; port = p.id }) t.ports ++ all_from (n + 1) tables
+
+abbrev pub all_ends : Network → List End
+all_ends net = all_from 0 net.tables
+
+-- the readers give these captures, one for each port to which no wire goes
+pub record AreGivenBy {R : Type 0} (remaining : R → Option (List ℕ)) (net : Network) (readers : List R) (given : Given) : Type 0 where
+  pub are : AreGiven net given
+  pub read : AreRead remaining readers (flat_map (map (λ text. text.1)) given)
 
 -- ---- orders
 
@@ -71,12 +92,6 @@ pub record NoneIsLateAnywhere (net : Network) (given : Given) : Type 0 where
 
 -- ---- refusals
 
--- the first switch for which something else is given; the one after the last, where more is given
-pub record IsFirstUngiven (net : Network) (given : Given) (switch : ℕ) : Type 0 where
-  pub before : (n : ℕ) → n < switch → IsGivenAt net given n
-  pub here : IsGivenAt net given switch → ⊥
-  pub one : length given ≡ length net.tables → switch < length net.tables
-
 -- the first given text that is no capture, by switch and then by port, and its first fault
 pub record IsFirstUnsound (given : Given) (switch port : ℕ) (why : PcapFault) : Type 0 where
   pub texts : List Text
@@ -89,11 +104,11 @@ pub record IsWired (net : Network) (switch port : ℕ) : Type 0 where
   pub wire : Wire
   pub wire_is : wire_to net (record { switch = switch; port = port }) ≡ Some wire
 
--- why there is no run: what is given is not for the ports without a wire; a given text is no capture, or all are and what comes over
--- a wire is none, which cannot be where this holds; two wires go to one port. Memory may run out at any time after the first
+-- why there is no run over these captures: one is none, or all are and what comes over a wire is none, which cannot be where this holds;
+-- two wires go to one port. Memory may run out at any time, and that a reader failed says nothing of what was given
 abbrev pub IsRefusalUnless : Type 0 → Network → Given → NetworkRunFault → Type 0
-IsRefusalUnless none_late net given fault.Memory = AreGiven net given
-IsRefusalUnless none_late net given (fault.WrongPorts switch) = IsFirstUngiven net given switch
+IsRefusalUnless none_late net given fault.Memory = Unit {0}
+IsRefusalUnless none_late net given (fault.Read place) = ⊥
 IsRefusalUnless none_late net given (fault.Capture switch port why) =
     AreGiven net given × (IsFirstUnsound given switch port why ⊎ (AreSound given × IsWired net switch port × (none_late → ⊥)))
 IsRefusalUnless none_late net given fault.WrongWires = AreGiven net given × AreSound given × (NoneShareAPort net → ⊥)
@@ -106,25 +121,16 @@ IsRefusal net given why = IsRefusalUnless (NoneIsLateAnywhere net given) net giv
 abbrev pub IsUncheckedRefusal : Network → Given → NetworkRunFault → Type 0
 IsUncheckedRefusal net given why = IsRefusalUnless (NoneIsLateAnywhere net given × All IsAccepted net.tables) net given why
 
--- ---- refusals on the way
-
--- what stops the reading of what is given for a switch
-abbrev pub IsTextFault : ℕ → List Text → NetworkRunFault → Type 0
-IsTextFault switch texts fault.Memory = Unit {0}
-IsTextFault switch texts (fault.WrongPorts at) = ⊥
-IsTextFault switch texts (fault.Capture at port why) = (at ≡ switch) × IsFirstFault texts port why
-IsTextFault switch texts fault.WrongWires = ⊥
-
--- and of what is given for all
-abbrev pub IsGivenFault : Given → NetworkRunFault → Type 0
-IsGivenFault given fault.Memory = Unit {0}
-IsGivenFault given (fault.WrongPorts at) = ⊥
-IsGivenFault given (fault.Capture switch port why) = IsFirstUnsound given switch port why
-IsGivenFault given fault.WrongWires = ⊥
+-- why there is none over what readers give: memory ran out or a reader failed, which may be at any time; or all was read, and there is no
+-- run over that
+abbrev pub IsFaultOver : {R : Type 0} → (R → Option (List ℕ)) → Network → List R → (Given → NetworkRunFault → Type 0) → NetworkRunFault → Type 0
+IsFaultOver remaining net readers Refused fault.Memory = Unit {0}
+IsFaultOver remaining net readers Refused (fault.Read place) = place < length readers
+IsFaultOver remaining net readers Refused why = (given : Given) × AreGivenBy remaining net readers given × Refused given why
 
 -- what stops the run on its way
 abbrev pub IsWireFault : Network → NetworkRunFault → Type 0
 IsWireFault net fault.Memory = Unit {0}
-IsWireFault net (fault.WrongPorts switch) = ⊥
+IsWireFault net (fault.Read place) = ⊥
 IsWireFault net (fault.Capture switch port why) = IsWired net switch port
 IsWireFault net fault.WrongWires = ⊥

@@ -1,1 +1,4 @@
+pub mod Intake
+pub mod Outputs
 pub mod Sites
+pub mod Windows

@@ -10,9 +10,9 @@ use std::alloc::{AllocError, AllocFailed};
 pub enum NetworkRunFault {
     /// Out of memory.
     Memory,
-    /// The captures that are given for a switch are not exactly those of its ports without a wire, by rising number.
-    WrongPorts(usize),
-    /// What comes in at this port of a switch is no capture, and this is its first fault.
+    /// The reader at this place failed; those before it were read to their ends.
+    Read(usize),
+    /// What comes in at this port of a switch is no capture, and this is its first fault. All that was given was read.
     Capture(usize, u8, PcapFault),
     /// Two wires go to one port, as no two of a file do.
     WrongWires,
@@ -35,5 +35,35 @@ impl<T: Drop> From<AllocFailed<T>> for NetworkRunFault {
 
     fn from(_error: AllocFailed<T>) -> NetworkRunFault {
         NetworkRunFault::Memory
+    }
+}
+
+/// Where a run of a network stopped.
+#[derive(Clone, Copy, Debug, PartialEq, Eq)]
+pub(crate) enum Stop {
+    /// What is given was not read on, and no more of it is to be read.
+    Intake(NetworkRunFault),
+    /// Something else; what is given may be read on.
+    Run(NetworkRunFault),
+}
+
+impl From<NetworkRunFault> for Stop {
+    ghost use Rattle.afdx_network.specs.declared.fault.Stop.TheVariants.{Run};
+
+    ghost from_gives = { λ fault stop. stop ≡ Run fault };
+
+    fn from(fault: NetworkRunFault) -> Stop {
+        Stop::Run(fault)
+    }
+}
+
+impl From<AllocError> for Stop {
+    ghost use Rattle.afdx_network.specs.declared.fault.NetworkRunFault.TheVariants.{Memory};
+    ghost use Rattle.afdx_network.specs.declared.fault.Stop.TheVariants.{Run};
+
+    ghost from_gives = { λ _ stop. stop ≡ Run Memory };
+
+    fn from(_error: AllocError) -> Stop {
+        Stop::Run(NetworkRunFault::Memory)
     }
 }

@@ -1,48 +1,89 @@
 //! What comes in from outside in an outage.
 
-ghost use Rattle.std.specs.Prelude.{◌≡◌, IfOk};
-ghost use Rattle.afdx_session.specs.Texts.{texts_of};
-ghost use Rattle.afdx_network.specs.Given.{given_of, AreGiven};
-ghost use Rattle.afdx_network.specs.Outage.{silent, given_up};
+ghost use Rattle.std.specs.Prelude.{◌≡◌, List, length, IfOk, Some, if◌then◌else◌};
+ghost use Rattle.afdx_pcap.specs.Text.{capture_text};
+ghost use Rattle.afdx_network.specs.Outage.{coming, comes, AreComing};
 
-use crate::site::Texts;
 use afdx_pcap::write_header;
-use afdx_wiring::Network;
+use afdx_wiring::{End, Network};
 use std::alloc::{AllocError, Global};
+use std::io::Read;
 
-/// Captures of no frames for the ports of these.
-fn silent(alloc: Global, texts: &[(u8, Vec<u8>)]) -> Result<Texts, AllocError>
-    ensures { IfOk result (λ silenced. texts_of silenced.items ≡ silent (texts_of texts.now)) }
-{
-    let mut silenced = Vec::new(alloc);
-    for (port, _text) in texts {
-        let mut text = Vec::new(alloc);
-        write_header(&mut text)?;
-        silenced.push((*port, text))?;
-    }
-    Ok(silenced)
+/// A capture of no frames, of which so many bytes were read.
+#[derive(Drop)]
+struct Silence {
+    text: Vec<u8>,
+    read: usize,
 }
 
-/// What comes in from outside, of what is given for each switch: at one that is down nothing, which is captures of no frames.
-///
-/// An error says that memory ran out. O(ports).
-pub fn given_up(
-    alloc: Global,
-    network: &Network,
-    given: Vec<Texts>,
-) -> Result<Vec<Texts>, AllocError>
-    requires { AreGiven network.now (given_of given.items) }
-    ensures up { IfOk result (λ up. given_of up.items ≡ given_up network.now.layout (given_of given.items)) }
-    ensures given { IfOk result (λ up. AreGiven network.now (given_of up.items)) }
-{
-    let layout = network.layout();
-    let mut up = Vec::with_capacity(alloc, given.len())?;
-    for texts in given {
-        if layout.is_down(up.len()) {
-            up.push(silent(alloc, &texts)?)?;
-        } else {
-            up.push(texts)?;
+/// What comes in at a port to which no wire goes: what its reader gives, or a capture of no frames where its switch is down.
+#[derive(Drop)]
+pub struct Incoming<R: Drop> {
+    reader: R,
+    silence: Option<Silence>,
+}
+
+impl Read for Silence {
+    ghost use Rattle.afdx_network.specs.Outage.{still_silent};
+
+    ghost remaining = { still_silent };
+
+    fn read(&mut self, buf: &mut [u8]) -> std::io::Result<usize> {
+        let Some(mut rest) = self.text.get(self.read..) else {
+            return Ok(0);
+        };
+        let count = rest.read(buf)?;
+        self.read += count;
+        Ok(count)
+    }
+}
+
+impl<R: Read + Drop> Read for Incoming<R> {
+    ghost use Rattle.afdx_network.specs.Outage.{coming};
+
+    ghost remaining = { coming R.remaining };
+
+    fn read(&mut self, buf: &mut [u8]) -> std::io::Result<usize> {
+        match &mut self.silence {
+            Some(silence) => silence.read(buf),
+            None => self.reader.read(buf),
         }
     }
-    Ok(up)
+}
+
+/// What comes in at a port of a switch that may be down.
+fn heard<R: Read + Drop>(alloc: Global, reader: R, is_down: bool) -> Result<Incoming<R>, AllocError>
+    ensures { IfOk result (λ i. coming R.remaining i ≡ comes R.remaining is_down reader) }
+{
+    if !is_down {
+        return Ok(Incoming {
+            reader,
+            silence: None,
+        });
+    }
+    let mut text = Vec::new(alloc);
+    write_header(&mut text)?;
+    Ok(Incoming {
+        reader,
+        silence: Some(Silence { text, read: 0 }),
+    })
+}
+
+/// What comes in at these ports, of which these readers give the captures. O(ports).
+pub fn incoming_at<R: Read + Drop>(
+    alloc: Global,
+    network: &Network,
+    ends: &[End],
+    readers: Vec<R>,
+) -> Result<Vec<Incoming<R>>, AllocError>
+    requires { length readers.items ≡ length ends.now }
+    ensures { IfOk result (λ all. AreComing R.remaining network.now.layout ends.now readers.items all.items) }
+{
+    let layout = network.layout();
+    let mut all = Vec::with_capacity(alloc, readers.len())?;
+    for reader in readers {
+        let is_down = layout.is_down(ends[all.len()].switch);
+        all.push(heard(alloc, reader, is_down)?)?;
+    }
+    Ok(all)
 }

@@ -1,75 +1,123 @@
 //! A run of a network: each switch over captures that agree with the wires.
 
-ghost use Rattle.std.specs.Prelude.{All, IfErr, IfOk, List, OnOk};
+ghost use Rattle.std.specs.Prelude.{◌≡◌, ℕ, All, IfErr, IfOk, OnOk, List, [], length};
 ghost use Rattle.afdx_table.specs.WellFormed.{IsWellFormed};
 ghost use Rattle.afdx_session.specs.Texts.{Text};
-ghost use Rattle.afdx_network.specs.Runs.{IsRunOf, IsUncheckedRunOf};
-ghost use Rattle.afdx_network.specs.Given.{given_of, IsRefusal, IsUncheckedRefusal};
+ghost use Rattle.afdx_session.specs.Outcome.{Results};
+ghost use Rattle.afdx_network.specs.Runs.{Given, IsRunOf, IsUncheckedRunOf};
+ghost use Rattle.afdx_network.specs.Given.{open_ends, all_ends, AreGivenBy, IsRefusal, IsUncheckedRefusal, IsFaultOver};
+ghost use Rattle.afdx_network.specs.Written.{AreWritten};
+ghost use Rattle.afdx_network.specs.Inner.Intake.{HasTaken};
+ghost use Rattle.afdx_network.specs.Inner.Windows.{HasRunThrough, IsStop};
 
-use crate::fault::NetworkRunFault;
-use crate::given::{check_captures, check_ports, check_wires};
-use crate::site::Texts;
-use crate::windows::{go_through, outcomes_of, sites_of};
+use crate::fault::{NetworkRunFault, Stop};
+use crate::given::check_wires;
+use crate::intake::Intake;
+use crate::windows::{counts_of, go_through, sites_of};
+use afdx_count::Counts;
+use afdx_folder::NewFile;
 use afdx_paced::laws::{out_goes_on, out_is_in_order};
-use afdx_pcap::laws::what_is_written_is_a_capture;
-use afdx_session::Outcome;
+use afdx_pcap::laws::{each_file_has_one_reading, what_is_written_is_a_capture};
 use afdx_session::laws::outcomes_isolate;
 use afdx_wiring::{ClearedNetwork, Network};
 use std::alloc::Global;
+use std::io::Read;
 
-/// Runs each switch of a network over captures that agree with the wires, whatever the loads, and answers what each leads to, in file
-/// order.
+/// The switches of a network, over what is given, go on until nothing is left.
+fn go_on<R: Read, F: NewFile>(
+    alloc: Global,
+    network: &Network,
+    intake: &mut Intake,
+    readers: &mut [R],
+    files: &mut [F],
+) -> Result<Vec<Counts<Global>>, Stop>
+    requires taken { (first : List R) × HasTaken R.remaining network.now first readers.old intake.old [] }
+    requires files { length files.old ≡ length (all_ends network.now) }
+    ensures ok { (first : List R) → HasTaken R.remaining network.now first readers.old intake.old []
+        → IfOk result (HasRunThrough R.remaining F.contents network.now first readers.new intake.new files.old files.new) }
+    ensures err { (first : List R) → HasTaken R.remaining network.now first readers.old intake.old []
+        → IfErr result (IsStop R.remaining network.now first readers.new intake.new) }
+{
+    check_wires(network)?;
+    let mut sites = sites_of(alloc, network)?;
+    go_through(alloc, network, intake, readers, &mut sites, files)?;
+    Ok(counts_of(alloc, sites, files)?)
+}
+
+/// Runs each switch of a network over captures that agree with the wires, whatever the loads, and answers what each counts, in file order.
 ///
-/// `given` has for each switch the captures of its ports to which no wire goes, by rising number. All switches run together, by time:
-/// in windows that are no longer than the least time from an arrival at one switch to the arrival that it causes at the next, so that
-/// what comes in before a window's end is there when it begins.
+/// The readers give the captures of the ports to which no wire goes, by switch and then by rising number. What leaves each port of each
+/// switch goes to its file, in parts, in the same order. All switches run together, by time: in windows that are no longer than the least
+/// time from an arrival at one switch to the arrival that it causes at the next, so that what comes in before a window's end is there when
+/// it begins.
 ///
 /// # Errors
 ///
 /// The first that holds, in this order:
 ///
-/// - `WrongPorts` of the first switch for which something else is given, in file order.
-/// - `Capture` of the first given text that is no capture, by switch and then by port, with its first fault; else of the first
+/// - `Read` with the place of the first reader that fails.
+/// - `Capture` of the first text that is given and is no capture, by switch and then by port, with its first fault; else of the first
 ///   record, in the order in which they are carried, that comes over a wire in the last second that pcap can hold. That cannot be
 ///   where the loads are accepted, the wires have an order, each takes at most a millisecond, and no given frame came in the last 64
 ///   seconds that a stamp can hold.
 /// - `WrongWires` where two wires go to one port; a file with such wires is not read.
 ///
-/// `Memory` where memory ran out, before anything that comes after `WrongPorts`.
+/// So that this is the first, all captures are read on to their ends then; none is read twice. `Memory` where memory ran out, at any time.
+/// Nothing is said then of what the files have, of which some may have parts of an output. A file that fails is no error here: it answers
+/// when it is settled.
 ///
-/// O(records + starts) visits of switches at most, O(switches) for each window, and O(bytes) of what the wires bring, beside the
-/// switches' own work; all captures are kept.
-pub fn run_unchecked(
+/// O(records + starts) visits of switches at most, O(switches + captures) for each window, O(captures) for each record that is given, and
+/// O(bytes) of what the wires bring and of what leaves, beside the switches' own work. Of each capture no more is kept than a piece and
+/// those that records which wait came in, and of what leaves a port no more than a part and a window's.
+pub fn run_unchecked<R: Read, F: NewFile>(
     alloc: Global,
     network: &Network,
-    given: Vec<Texts>,
-) -> Result<Vec<Outcome<Global>>, NetworkRunFault>
-    ensures ok { IfOk result (λ outcomes. (came : List (List Text)) × IsUncheckedRunOf network.now (given_of given.items) came outcomes.items) }
+    readers: &mut [R],
+    files: &mut [F],
+) -> Result<Vec<Counts<Global>>, NetworkRunFault>
+    requires readers { length readers.old ≡ length (open_ends network.now) }
+    requires files { length files.old ≡ length (all_ends network.now) }
+    ensures ok { IfOk result (λ counts. (given : Given) × (came : List (List Text)) × (left : List Results)
+        × AreGivenBy R.remaining network.now readers.old given × IsUncheckedRunOf network.now given came left
+        × AreWritten F.contents left files.old files.new counts.items) }
     ensures formed { OnOk result (All IsWellFormed network.now.tables) }
-    ensures err { IfErr result (IsUncheckedRefusal network.now (given_of given.items)) }
+    ensures err { IfErr result (IsFaultOver R.remaining network.now readers.old (IsUncheckedRefusal network.now)) }
 {
     out_goes_on();
     out_is_in_order();
     what_is_written_is_a_capture();
-    check_ports(network, &given)?;
-    check_captures(alloc, &given)?;
-    check_wires(network)?;
-    let mut sites = sites_of(alloc, network, &given)?;
-    go_through(alloc, network, &mut sites)?;
-    Ok(outcomes_of(alloc, sites)?)
+    each_file_has_one_reading();
+    let mut intake = Intake::open(alloc, network, readers)?;
+    match go_on(alloc, network, &mut intake, readers, files) {
+        Ok(counts) => {
+            intake.end(readers)?;
+            Ok(counts)
+        }
+        Err(Stop::Intake(fault)) => Err(fault),
+        Err(Stop::Run(NetworkRunFault::Memory)) => Err(NetworkRunFault::Memory),
+        Err(Stop::Run(fault)) => {
+            intake.end(readers)?;
+            Err(fault)
+        }
+    }
 }
 
 /// Runs each switch of a network whose loads are accepted, as [`run_unchecked`] does: of each the headline holds.
 ///
 /// The errors are those of [`run_unchecked`], in its order; so is the cost.
-pub fn run(
+pub fn run<R: Read, F: NewFile>(
     alloc: Global,
     network: &ClearedNetwork,
-    given: Vec<Texts>,
-) -> Result<Vec<Outcome<Global>>, NetworkRunFault>
-    ensures ok { IfOk result (λ outcomes. (came : List (List Text)) × IsRunOf network.now (given_of given.items) came outcomes.items) }
-    ensures err { IfErr result (IsRefusal network.now (given_of given.items)) }
+    readers: &mut [R],
+    files: &mut [F],
+) -> Result<Vec<Counts<Global>>, NetworkRunFault>
+    requires readers { length readers.old ≡ length (open_ends network.now) }
+    requires files { length files.old ≡ length (all_ends network.now) }
+    ensures ok { IfOk result (λ counts. (given : Given) × (came : List (List Text)) × (left : List Results)
+        × AreGivenBy R.remaining network.now readers.old given × IsRunOf network.now given came left
+        × AreWritten F.contents left files.old files.new counts.items) }
+    ensures err { IfErr result (IsFaultOver R.remaining network.now readers.old (IsRefusal network.now)) }
 {
     outcomes_isolate();
-    run_unchecked(alloc, network.network(), given)
+    run_unchecked(alloc, network.network(), readers, files)
 }

@@ -1,62 +1,55 @@
 //! A switch of a network in the course of a run, and what left it.
 
-ghost use Rattle.std.specs.Prelude.{◌≡◌, ◌⊎◌, ◌<◌, ◌≤◌, ℕ, false, None, Some, List, [], map, length, slice_get, option_map, IfOk, IfErr, OnOk, OnErr, All};
+ghost use Rattle.std.specs.Prelude.{◌≡◌, ◌<◌, ◌≤◌, ℕ, false, None, Some, List, [], map, length, slice_get, option_map, IfOk, IfErr, OnOk, OnErr};
 ghost use Rattle.afdx_units.specs.Time.{last_second};
-ghost use Rattle.afdx_pcap.specs.Record.{Record as Seen};
-ghost use Rattle.afdx_pcap.specs.Text.{capture_text};
-ghost use Rattle.afdx_pcap.specs.Capture.{IsCapture};
 ghost use Rattle.afdx_count.specs.Run.{counts_of};
-ghost use Rattle.afdx_session.specs.Texts.{texts_of};
 ghost use Rattle.afdx_session.specs.Output.{rows_of};
 ghost use Rattle.afdx_paced.specs.Paced.{arrivals, put_refusal, not_of_memory};
 ghost use Rattle.afdx_table.specs.WellFormed.{IsWellFormed};
 ghost use Rattle.afdx_network.specs.declared.fault.NetworkRunFault.TheVariants as fault;
-ghost use Rattle.afdx_network.specs.Inner.Sites.{earlier, after_putting, after_all, AllTake, IsFresh, IsSilent, WentTo, IsHandedOut};
+ghost use Rattle.afdx_network.specs.Inner.Outputs.{silent, all_gone, texts_in, gone_in, HaveGone};
+ghost use Rattle.afdx_network.specs.Inner.Sites.{earlier, after_putting, IsFresh, WentTo, IsHandedOut, HandsOver};
 
 use crate::fault::NetworkRunFault;
+use crate::output::Output;
+use afdx_count::Counts;
+use afdx_folder::NewFile;
 use afdx_paced::{Paced, PacedFault};
-use afdx_pcap::laws::each_file_has_one_reading;
-use afdx_pcap::{PcapFault, Record, read_all, write_frame, write_header};
-use afdx_session::Outcome;
+use afdx_pcap::Record;
 use afdx_table::{PortRow, Table};
 use afdx_units::Stamp;
 use std::alloc::{AllocError, Global};
 use std::marker::Model;
 
-/// What comes in at the ports of a switch: a capture for each, by rising number.
-pub type Texts = Vec<(u8, Vec<u8>)>;
-
 /// A switch, and the capture of what left each of its ports so far, by rising number.
 #[derive(Drop)]
-pub(crate) struct Site<'a> {
-    paced: Paced<'a, Global>,
-    left: Texts,
-    /// How many records have left each port.
-    counts: Vec<usize>,
+pub(crate) struct Site {
+    paced: Paced<'static, Global>,
+    outputs: Vec<Output>,
+    /// Whether a part of a capture may go to its file.
+    is_full: bool,
     /// An instant before which nothing happens there, at hand since each window asks for it.
     next: Option<Stamp>,
 }
 
-impl<'a> Model for Site<'a> {
-    ghost use Rattle.afdx_session.specs.Texts.{texts_of};
+impl Model for Site {
+    ghost use Rattle.afdx_network.specs.Inner.Outputs.{texts_in, gone_in};
     ghost use Rattle.afdx_network.specs.Inner.Sites.{Site as Seen};
 
     ghost Value = { Seen };
 
-    ghost view = { λ s. record { paced = s.paced; left = texts_of s.left.items; next = s.next } };
+    ghost view = { λ s. record { paced = s.paced; left = texts_in s.outputs.items; gone = gone_in s.outputs.items; next = s.next } };
 }
 
-/// A capture of no frames for each port.
-fn silence(alloc: Global, ports: &[PortRow]) -> Result<Texts, AllocError>
-    ensures { IfOk result (λ texts. texts_of texts.items ≡ map (λ p. (p.id, capture_text [])) ports.now) }
+/// The capture of no frames for each port.
+fn silence(alloc: Global, ports: &[PortRow]) -> Result<Vec<Output>, AllocError>
+    ensures { IfOk result (λ outputs. outputs.items ≡ map (λ p. silent p.id) ports.now) }
 {
-    let mut texts = Vec::new(alloc);
+    let mut outputs = Vec::with_capacity(alloc, ports.len())?;
     for row in ports {
-        let mut text = Vec::new(alloc);
-        write_header(&mut text)?;
-        texts.push((row.id, text))?;
+        outputs.push(Output::new(alloc, row.id)?)?;
     }
-    Ok(texts)
+    Ok(outputs)
 }
 
 /// Why a record was not taken in.
@@ -79,69 +72,43 @@ fn earlier(one: Option<Stamp>, other: Stamp) -> Stamp
     }
 }
 
-/// One more at a place.
-fn add_one(counts: &mut [usize], place: usize) {
-    if let Some(count) = counts.get_mut(place) {
-        *count = count.saturating_add(1);
+/// What has not gone to the files of the ports goes there.
+fn hand_over_all<F: NewFile>(outputs: &mut [Output], files: &mut [F]) -> Result<(), AllocError>
+    requires { length files.old ≡ length outputs.old }
+    ensures all { OnOk result (outputs.new ≡ map all_gone outputs.old) }
+    ensures gone { (start : List F) → HaveGone F.contents start files.old (gone_in outputs.old)
+        → OnOk result (HaveGone F.contents start files.new (map (λ text. text.1) (texts_in outputs.old))) }
+{
+    for place in 0..outputs.len() {
+        outputs[place].hand_over(&mut files[place])?;
     }
+    Ok(())
 }
 
-impl<'a> Site<'a> {
+impl Site {
     /// A switch at which nothing came in.
-    pub(crate) fn new(alloc: Global, table: &Table) -> Result<Site<'a>, AllocError>
+    pub(crate) fn new(alloc: Global, table: &Table) -> Result<Site, AllocError>
         ensures fresh { IfOk result (λ s. IsFresh table.now s) }
         ensures well_formed { IsWellFormed table.now }
     {
-        let left = silence(alloc, table.ports())?;
-        let mut counts = Vec::new(alloc);
-        counts.resize(left.len(), 0)?;
+        let outputs = silence(alloc, table.ports())?;
         let table = table.copy(alloc)?;
         let paced = Paced::new(alloc, table)?;
         let next = paced.next();
         Ok(Site {
             paced,
-            left,
-            counts,
+            outputs,
+            is_full: false,
             next,
         })
     }
 
-    /// The records of a whole capture come in at a port. Their bytes stay where they are. O(records).
-    pub(crate) fn read(
-        &mut self,
-        alloc: Global,
-        switch: usize,
-        port: u8,
-        text: &'a [u8],
-    ) -> Result<(), NetworkRunFault>
-        requires going { self.old.paced.failed ≡ false }
-        requires silent { IsSilent port self.old.paced }
-        ensures ok { OnOk result ((records : List Seen) × IsCapture text.now records × (self.new ≡ after_all port records self.old)) }
-        ensures err { (records : List Seen) → IsCapture text.now records → IfErr result (λ why. why ≡ fault.Memory) }
-    {
-        each_file_has_one_reading();
-        match read_all(alloc, text) {
-            Ok(records) => self.put_all(port, records),
-            Err(PcapFault::Memory) => Err(NetworkRunFault::Memory),
-            Err(fault) => Err(NetworkRunFault::Capture(switch, port, fault)),
-        }
-    }
-
-    /// Records come in at a port, one after the other.
-    fn put_all(&mut self, port: u8, records: Vec<Record<'a, Global>>) -> Result<(), NetworkRunFault>
-        requires going { self.old.paced.failed ≡ false }
-        requires early { All (λ r. r.stamp < last_second) records.items }
-        ensures ok { OnOk result (self.new ≡ after_all port records.entry.items self.old) }
-        ensures err { IfErr result (λ why. why ≡ fault.Memory ⊎ (AllTake port records.entry.items self.old.paced → ⊥)) }
-    {
-        for frame in records {
-            self.put(port, frame)?;
-        }
-        Ok(())
-    }
-
     /// A record comes in at a port.
-    pub(crate) fn put(&mut self, port: u8, frame: Record<'a, Global>) -> Result<(), NetworkRunFault>
+    pub(crate) fn put(
+        &mut self,
+        port: u8,
+        frame: Record<'static, Global>,
+    ) -> Result<(), NetworkRunFault>
         requires going { self.old.paced.failed ≡ false }
         requires not_late { frame.stamp < last_second }
         ensures ok { OnOk result ((put_refusal self.old.paced port frame.entry.stamp ≡ None) × (self.new ≡ after_putting port frame.entry self.old)) }
@@ -180,17 +147,18 @@ impl<'a> Site<'a> {
     pub(crate) fn port(&self, place: usize) -> Option<u8>
         ensures { result ≡ option_map (λ text. text.0) (slice_get self.now.left place) }
     {
-        match self.left.get(place) {
-            Some(text) => Some(text.0),
+        match self.outputs.get(place) {
+            Some(output) => Some(output.port()),
             None => None,
         }
     }
 
     /// How many ports there are.
     pub(crate) fn ports(&self) -> usize
-        ensures { result ≡ length self.now.left }
+        ensures left { result ≡ length self.now.left }
+        ensures gone { result ≡ length self.now.gone }
     {
-        self.left.len()
+        self.outputs.len()
     }
 
     /// The next record that left the port at a place goes to its capture.
@@ -198,15 +166,18 @@ impl<'a> Site<'a> {
         &mut self,
         place: usize,
         port: u8,
-    ) -> Result<Option<Record<'a, Global>>, AllocError>
+    ) -> Result<Option<Record<'static, Global>>, AllocError>
         requires going { self.old.paced.failed ≡ false }
         requires place { (text : List ℕ) × (slice_get self.old.left place ≡ Some (port, text)) }
         ensures { IfOk result (λ out. IsHandedOut self.old self.new place port out) }
     {
         match self.paced.next_out(port)? {
             Some(frame) => {
-                write_frame(&mut self.left[place].1, frame.stamp(), frame.bytes())?;
-                add_one(&mut self.counts, place);
+                let output = &mut self.outputs[place];
+                output.push(&frame)?;
+                if output.is_full() {
+                    self.is_full = true;
+                }
                 Ok(Some(frame))
             }
             None => Ok(None),
@@ -215,23 +186,39 @@ impl<'a> Site<'a> {
 
     /// How many records have left the port at a place.
     pub(crate) fn count(&self, place: usize) -> usize {
-        match self.counts.get(place) {
-            Some(count) => *count,
+        match self.outputs.get(place) {
+            Some(output) => output.count(),
             None => 0,
         }
     }
 
-    /// What it led to.
-    pub(crate) fn into_outcome(self) -> Result<Outcome<Global>, AllocError>
-        requires going { self.paced.failed ≡ false }
-        ensures captures { IfOk result (λ o. o.captures ≡ self.entry.left) }
-        ensures counts { IfOk result (λ o. o.counts ≡ counts_of self.entry.paced.table (rows_of self.entry.paced.table (arrivals self.entry.paced))) }
+    /// What has left goes to the files of the ports, if there is a part of one.
+    pub(crate) fn hand_over<F: NewFile>(&mut self, files: &mut [F]) -> Result<(), AllocError>
+        requires { length files.old ≡ length self.old.gone }
+        ensures same { OnOk result (HandsOver self.old self.new) }
+        ensures gone { (start : List F) → HaveGone F.contents start files.old self.old.gone → OnOk result (HaveGone F.contents start files.new self.new.gone) }
     {
-        let Site { paced, left, .. } = self;
-        let counts = paced.finish()?;
-        Ok(Outcome {
-            captures: left,
-            counts,
-        })
+        if !self.is_full {
+            return Ok(());
+        }
+        self.is_full = false;
+        hand_over_all(&mut self.outputs, files)
+    }
+
+    /// All that has left goes to the files of the ports: the counts of what came in.
+    pub(crate) fn finish<F: NewFile>(self, files: &mut [F]) -> Result<Counts<Global>, AllocError>
+        requires going { self.paced.failed ≡ false }
+        requires files { length files.old ≡ length self.gone }
+        ensures counts { IfOk result (λ counts. counts ≡ counts_of self.paced.table (rows_of self.paced.table (arrivals self.paced))) }
+        ensures gone { (start : List F) → HaveGone F.contents start files.old self.gone
+            → OnOk result (HaveGone F.contents start files.new (map (λ text. text.1) self.left)) }
+    {
+        let Site {
+            paced,
+            mut outputs,
+            ..
+        } = self;
+        hand_over_all(&mut outputs, files)?;
+        paced.finish()
     }
 }

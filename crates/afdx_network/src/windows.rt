@@ -1,58 +1,50 @@
 //! A run of all switches of a network by time, window by window.
 
-ghost use Rattle.std.specs.Prelude.{◌≡◌, ◌+◌, ◌*◌, ◌<◌, ◌≤◌, ◌↔◌, ℕ, IsTrue, MatchOption, IfOk, IfErr, IfSome, OnOk, All, None, Some, false, length, map, max, slice_get, position};
+ghost use Rattle.std.specs.Prelude.{◌≡◌, ◌+◌, ◌*◌, ◌<◌, ◌≤◌, ◌↔◌, ◌∷◌, ◌++◌, ℕ, IsTrue, MatchOption, IfOk, IfErr, IfSome, OnOk, All, None, Some};
+ghost use Rattle.std.specs.Prelude.{true, false, is_some, List, [], length, map, max, slice_get, position};
 ghost use Rattle.std.specs.List.{AllZip};
-ghost use Rattle.afdx_units.specs.Time.{last_second};
+ghost use Rattle.afdx_units.specs.Time.{last_instant, last_second};
 ghost use Rattle.afdx_units.specs.Line.{cost_of, least_size};
 ghost use Rattle.afdx_pcap.specs.Record.{IsWithinLimit};
 ghost use Rattle.afdx_table.specs.declared.rows.PortRow.{PortRow as Row};
 ghost use Rattle.afdx_table.specs.Content.{Content, port_row};
-ghost use Rattle.afdx_table.specs.WellFormed.{IsWellFormed};
-ghost use Rattle.afdx_session.specs.Texts.{texts_of};
-ghost use Rattle.afdx_session.specs.Reading.{IsSound};
-ghost use Rattle.afdx_session.specs.Streams.{last_instant};
-ghost use Rattle.afdx_load.specs.Accepted.{IsAccepted};
+ghost use Rattle.afdx_merging.specs.Merge.{Arrival};
 ghost use Rattle.afdx_wiring.specs.File.{is_end};
 ghost use Rattle.afdx_wiring.specs.declared.layout.Wire.{Wire as Cable};
-ghost use Rattle.afdx_wiring.specs.Net.{wire_to};
+ghost use Rattle.afdx_wiring.specs.Net.{wire_to, Network as Net};
 ghost use Rattle.afdx_network.specs.declared.fault.NetworkRunFault.TheVariants as fault;
 ghost use Rattle.afdx_network.specs.Way.{delayed};
 ghost use Rattle.afdx_network.specs.Runs.{Given};
-ghost use Rattle.afdx_network.specs.Given.{given_of, AreGiven, AreSound, NoneIsLateAnywhere, IsWireFault};
-ghost use Rattle.afdx_network.specs.Inner.Sites.{IsLook, IsFirst, earlier_of, acts_before, wire_place, GoesOver, AreForPorts, HasRead, HasSent, HasCome, AreInWindow, AreCarried, AreStarted, HasLed};
+ghost use Rattle.afdx_network.specs.Given.{all_ends, IsWireFault};
+ghost use Rattle.afdx_network.specs.Inner.Intake.{HasTaken, AreGivenSoFar, next_of};
+ghost use Rattle.afdx_network.specs.Inner.Outputs.{HaveGone};
+ghost use Rattle.afdx_network.specs.Inner.Sites.{IsLook, IsFirst, earlier_of, acts_before, wire_place, GoesOver, HasSent, HasCome, AreInWindow, HaveCome};
+ghost use Rattle.afdx_network.specs.Inner.Sites.{HandsOver, gone_at, gone_of, texts_of, counts_at};
 ghost use Rattle.afdx_network.specs.Inner.Sites.{CanCome, CameOver, IsLateFault, AreEarly, StayEarly, IsPortAt, waits_at, Carries, Visits};
+ghost use Rattle.afdx_network.specs.Inner.Windows.{IsOnWay, GoesOn, IsThrough, IsStop};
 
-use crate::fault::NetworkRunFault;
+use crate::fault::{NetworkRunFault, Stop};
+use crate::intake::Intake;
 use crate::laws::runs_leave_in_time;
-use crate::site::{Site, Texts};
+use crate::site::Site;
 use afdx_core::laws::by_stamp_is_ordered;
+use afdx_count::Counts;
+use afdx_folder::NewFile;
 use afdx_paced::laws::{
     later_records_change_nothing, nothing_leaves_before, out_goes_on, out_is_in_order,
 };
-use afdx_pcap::laws::{one_more_record_is_appended, what_is_written_is_a_capture};
+use afdx_pcap::laws::{
+    each_file_has_one_reading, one_more_record_is_appended, what_is_written_is_a_capture,
+};
 use afdx_pcap::{PcapFault, Record};
-use afdx_session::Outcome;
 use afdx_session::laws::{all_start_before_the_last_instant, records_are_early};
-use afdx_table::Table;
-use afdx_units::{Stamp, cost};
+use afdx_units::{LEAST_SIZE, Stamp, cost};
 use afdx_wiring::{End, Network, Wire};
 use std::alloc::{AllocError, Global};
-
-/// The least size of a frame in bytes (IEEE 802.3).
-const LEAST_SIZE: u32 = 64;
+use std::io::Read;
 
 /// How long a window is where there are no wires: any length is right then.
 const ALONE: u64 = 1_000_000;
-
-/// The last instant that a stamp can hold: whatever is sent starts before it.
-fn last_instant() -> Stamp
-    ensures { result ≡ last_instant }
-{
-    match Stamp::from_ns(4_294_967_295_999_999_999) {
-        Some(stamp) => stamp,
-        None => unreachable!(),
-    }
-}
 
 /// Whether two ends are one port.
 fn is_end(one: End, other: End) -> bool
@@ -87,49 +79,18 @@ fn look_of(network: &Network) -> u64
     look
 }
 
-/// A switch at which what is given for it came in.
-fn site_of<'a>(
-    alloc: Global,
-    switch: usize,
-    table: &Table,
-    texts: &'a [(u8, Vec<u8>)],
-) -> Result<Site<'a>, NetworkRunFault>
-    requires ports { AreForPorts table.now (texts_of texts.now) }
-    requires sound { All IsSound (texts_of texts.now) }
-    ensures ok { IfOk result (λ s. HasRead table.now (texts_of texts.now) s) }
-    ensures well_formed { IsWellFormed table.now }
-    ensures err { IfErr result (λ why. why ≡ fault.Memory) }
-{
-    later_records_change_nothing();
-    out_goes_on();
-    let mut site = Site::new(alloc, table)?;
-    for (port, text) in texts {
-        site.read(alloc, switch, *port, text)?;
-    }
-    Ok(site)
-}
-
-/// The switches at which what is given came in.
-pub(crate) fn sites_of<'a>(
-    alloc: Global,
-    network: &Network,
-    given: &'a [Texts],
-) -> Result<Vec<Site<'a>>, NetworkRunFault>
-    requires given { AreGiven network.now (given_of given.now) }
-    requires sound { AreSound (given_of given.now) }
+/// The switches, at which nothing came in.
+pub(crate) fn sites_of(alloc: Global, network: &Network) -> Result<Vec<Site>, AllocError>
     requires one_each { All (λ w. wire_to network.now w.to ≡ Some w) network.now.layout.wires }
-    ensures ok { IfOk result (λ sites. AreStarted network.now (given_of given.now) sites.items) }
-    ensures early { (none : NoneIsLateAnywhere network.now (given_of given.now)) → IfOk result (λ sites. AreEarly none.order.place sites.items) }
-    ensures err { IfErr result (λ why. why ≡ fault.Memory) }
+    ensures ok { IfOk result (λ sites. (given : Given) × AreGivenSoFar network.now [] given × HaveCome network.now given 0 sites.items) }
+    ensures early { (place : ℕ → ℕ) → IfOk result (λ sites. AreEarly place sites.items) }
+    ensures gone { IfOk result (λ sites. All (λ bytes. bytes ≡ []) (gone_of sites.items)) }
+    ensures ports { IfOk result (λ sites. length (gone_of sites.items) ≡ length (all_ends network.now)) }
 {
-    later_records_change_nothing();
-    out_goes_on();
+    what_is_written_is_a_capture();
     let mut sites = Vec::new(alloc);
-    for (switch, table) in network.tables().iter().enumerate() {
-        let Some(texts) = given.get(switch) else {
-            unreachable!();
-        };
-        sites.push(site_of(alloc, switch, table, texts)?)?;
+    for table in network.tables() {
+        sites.push(Site::new(alloc, table)?)?;
     }
     Ok(sites)
 }
@@ -158,11 +119,11 @@ fn brought(
 }
 
 /// A record goes over a wire. `number` is the record's at the wire's end, counted from 1.
-fn bring<'a>(
+fn bring(
     alloc: Global,
-    sites: &mut [Site<'a>],
+    sites: &mut [Site],
     wire: &Wire,
-    frame: &Record<'a, Global>,
+    frame: &Record<'_, Global>,
     number: usize,
 ) -> Result<(), NetworkRunFault>
     requires going { All (λ s. s.paced.failed ≡ false) sites.old }
@@ -205,10 +166,10 @@ fn goes_over(wires: &[Wire], index: usize, from: End) -> bool
 }
 
 /// The next record that left a port goes to the port's capture, and over its wires that are not down. Whether there was one.
-fn carry<'a>(
+fn carry(
     alloc: Global,
     network: &Network,
-    sites: &mut [Site<'a>],
+    sites: &mut [Site],
     from: End,
     place: usize,
 ) -> Result<bool, NetworkRunFault>
@@ -222,6 +183,7 @@ fn carry<'a>(
         → IfOk result (λ more. Carries network.now given begin end from more sites.old sites.new) }
     ensures err { (given : Given) (begin end : ℕ) → begin ≤ end → AreInWindow network.now given begin end sites.old → IfErr result (IsWireFault network.now) }
     ensures early { (given : Given) (begin end : ℕ) → begin ≤ end → AreInWindow network.now given begin end sites.old → StayEarly network.now given sites.old sites.new result }
+    ensures gone { OnOk result (gone_at sites.new ≡ gone_at sites.old) }
 {
     nothing_leaves_before();
     later_records_change_nothing();
@@ -244,10 +206,10 @@ fn carry<'a>(
 }
 
 /// All that left a port goes on.
-fn drain<'a>(
+fn drain(
     alloc: Global,
     network: &Network,
-    sites: &mut [Site<'a>],
+    sites: &mut [Site],
     from: End,
     place: usize,
 ) -> Result<(), NetworkRunFault>
@@ -260,16 +222,17 @@ fn drain<'a>(
         → OnOk result (Carries network.now given begin end from false sites.old sites.new) }
     ensures err { (given : Given) (begin end : ℕ) → begin ≤ end → AreInWindow network.now given begin end sites.old → IfErr result (IsWireFault network.now) }
     ensures early { (given : Given) (begin end : ℕ) → begin ≤ end → AreInWindow network.now given begin end sites.old → StayEarly network.now given sites.old sites.new result }
+    ensures gone { OnOk result (gone_at sites.new ≡ gone_at sites.old) }
 {
     while carry(alloc, network, sites, from, place)? {}
     Ok(())
 }
 
 /// A switch comes to an instant, and all that left it goes on.
-fn visit<'a>(
+fn visit(
     alloc: Global,
     network: &Network,
-    sites: &mut [Site<'a>],
+    sites: &mut [Site],
     switch: usize,
     end: Stamp,
 ) -> Result<(), NetworkRunFault>
@@ -282,6 +245,7 @@ fn visit<'a>(
         → OnOk result (Visits network.now given begin end switch sites.old sites.new) }
     ensures err { (given : Given) (begin : ℕ) → begin ≤ end → AreInWindow network.now given begin end sites.old → IfErr result (IsWireFault network.now) }
     ensures early { (given : Given) (begin : ℕ) → begin ≤ end → AreInWindow network.now given begin end sites.old → StayEarly network.now given sites.old sites.new result }
+    ensures gone { OnOk result (gone_at sites.new ≡ gone_at sites.old) }
 {
     out_goes_on();
     sites[switch].go_to(end)?;
@@ -305,7 +269,7 @@ fn earlier_of(one: Option<Stamp>, other: Option<Stamp>) -> Option<Stamp>
 }
 
 /// The first instant at which anything can still happen at any switch. O(switches).
-fn first_of(sites: &[Site<'_>]) -> Option<Stamp>
+fn first_of(sites: &[Site]) -> Option<Stamp>
     ensures { IsFirst sites.now result }
 {
     let mut first: Option<Stamp> = None;
@@ -316,7 +280,7 @@ fn first_of(sites: &[Site<'_>]) -> Option<Stamp>
 }
 
 /// Whether something can happen at a switch before an instant.
-fn acts_before(site: &Site<'_>, end: Stamp) -> bool
+fn acts_before(site: &Site, end: Stamp) -> bool
     ensures { result ≡ acts_before end site.now.next }
 {
     match site.next() {
@@ -326,10 +290,10 @@ fn acts_before(site: &Site<'_>, end: Stamp) -> bool
 }
 
 /// Each switch at which something can happen before an instant comes to it.
-fn window<'a>(
+fn window(
     alloc: Global,
     network: &Network,
-    sites: &mut [Site<'a>],
+    sites: &mut [Site],
     end: Stamp,
 ) -> Result<(), NetworkRunFault>
     requires going { All (λ s. s.paced.failed ≡ false) sites.old }
@@ -340,6 +304,7 @@ fn window<'a>(
         → OnOk result (AreInWindow network.now given begin end sites.new × All (HasCome end) sites.new) }
     ensures err { (given : Given) (begin : ℕ) → begin ≤ end → AreInWindow network.now given begin end sites.old → IfErr result (IsWireFault network.now) }
     ensures early { (given : Given) (begin : ℕ) → begin ≤ end → AreInWindow network.now given begin end sites.old → StayEarly network.now given sites.old sites.new result }
+    ensures gone { OnOk result (gone_at sites.new ≡ gone_at sites.old) }
 {
     out_goes_on();
     for switch in 0..sites.len() {
@@ -361,51 +326,157 @@ fn end_of(last: Stamp, first: Stamp, look: u64) -> Stamp
     let begin = if first < last { last } else { first };
     match begin.plus(look) {
         Some(end) => end,
-        None => last_instant(),
+        None => Stamp::LAST,
     }
 }
 
-/// All switches go on until nothing is left.
-pub(crate) fn go_through<'a>(
-    alloc: Global,
-    network: &Network,
-    sites: &mut [Site<'a>],
-) -> Result<(), NetworkRunFault>
-    requires going { All (λ s. (s.paced.failed ≡ false) × (s.paced.reached ≤ 0)) sites.old }
-    requires all { length sites.old ≡ length network.now.tables }
-    ensures going { OnOk result (All (λ s. s.paced.failed ≡ false) sites.new) }
-    ensures ok { (given : Given) → AreStarted network.now given sites.old → OnOk result (AreCarried network.now given sites.new × All (HasSent None) sites.new) }
-    ensures err { (given : Given) → AreStarted network.now given sites.old → IfErr result (IsWireFault network.now) }
-    ensures early { (given : Given) → AreStarted network.now given sites.old → StayEarly network.now given sites.old sites.new result }
+/// Whether there is an instant that lies before another one.
+fn is_before(instant: Option<Stamp>, end: Stamp) -> bool
+    ensures { result ≡ acts_before end instant }
 {
+    match instant {
+        Some(instant) => instant < end,
+        None => false,
+    }
+}
+
+/// The next of the records that are given comes in at its switch.
+fn put_next<R: Read>(
+    alloc: Global,
+    intake: &mut Intake,
+    readers: &mut [R],
+    sites: &mut [Site],
+) -> Result<(), Stop>
+    requires going { All (λ s. s.paced.failed ≡ false) sites.old }
+    requires on { (net : Net) × (first : List R) × (came : List Arrival) × HasTaken R.remaining net first readers.old intake.old came × (length sites.old ≡ length net.tables) }
+    requires more { is_some (next_of intake.old) ≡ true }
+    ensures going { All (λ s. s.paced.failed ≡ false) sites.new }
+    ensures reached { (h : ℕ) → All (λ s. s.paced.reached ≤ h) sites.old → All (λ s. s.paced.reached ≤ h) sites.new }
+    ensures gone { gone_at sites.new ≡ gone_at sites.old }
+    ensures on { (net : Net) (first : List R) (came : List Arrival) → HasTaken R.remaining net first readers.old intake.old came
+        → OnOk result ((one : Arrival) × HasTaken R.remaining net first readers.new intake.new (came ++ one ∷ [])) }
+    ensures ok { (net : Net) (first : List R) (came : List Arrival) (given : Given) (h : ℕ) → IsOnWay R.remaining net first readers.old intake.old came given h sites.old
+        → OnOk result (GoesOn R.remaining net first readers.new intake.new came sites.old h sites.new) }
+    ensures err { (net : Net) (first : List R) (came : List Arrival) (given : Given) (h : ℕ) → IsOnWay R.remaining net first readers.old intake.old came given h sites.old
+        → IfErr result (IsStop R.remaining net first readers.new intake.new) }
+{
+    later_records_change_nothing();
     out_goes_on();
-    by_stamp_is_ordered();
     what_is_written_is_a_capture();
-    records_are_early();
-    all_start_before_the_last_instant();
-    let look = look_of(network);
-    let mut end = Stamp::ZERO;
-    while end < last_instant() {
-        let Some(first) = first_of(sites) else {
+    each_file_has_one_reading();
+    match intake.next(alloc, readers) {
+        Ok(Some((to, frame))) => Ok(sites[to.switch].put(to.port, frame)?),
+        Ok(None) => unreachable!(),
+        Err(fault) => Err(Stop::Intake(fault)),
+    }
+}
+
+/// The records that are given before an instant come in at their switches.
+fn take_in<R: Read>(
+    alloc: Global,
+    intake: &mut Intake,
+    readers: &mut [R],
+    sites: &mut [Site],
+    end: Stamp,
+) -> Result<(), Stop>
+    requires going { All (λ s. s.paced.failed ≡ false) sites.old }
+    requires on { (net : Net) × (first : List R) × (came : List Arrival) × HasTaken R.remaining net first readers.old intake.old came × (length sites.old ≡ length net.tables) }
+    ensures going { OnOk result (All (λ s. s.paced.failed ≡ false) sites.new) }
+    ensures reached { (h : ℕ) → All (λ s. s.paced.reached ≤ h) sites.old → OnOk result (All (λ s. s.paced.reached ≤ h) sites.new) }
+    ensures gone { OnOk result (gone_at sites.new ≡ gone_at sites.old) }
+    ensures on { (net : Net) (first : List R) (came : List Arrival) → HasTaken R.remaining net first readers.old intake.old came
+        → OnOk result ((more : List Arrival) × HasTaken R.remaining net first readers.new intake.new (came ++ more)) }
+    ensures ok { (net : Net) (first : List R) (came : List Arrival) (given : Given) (h : ℕ) → IsOnWay R.remaining net first readers.old intake.old came given h sites.old
+        → OnOk result (GoesOn R.remaining net first readers.new intake.new came sites.old h sites.new × (acts_before end (next_of intake.new) ≡ false)) }
+    ensures err { (net : Net) (first : List R) (came : List Arrival) (given : Given) (h : ℕ) → IsOnWay R.remaining net first readers.old intake.old came given h sites.old
+        → IfErr result (IsStop R.remaining net first readers.new intake.new) }
+{
+    for _record in 0..u64::MAX {
+        if !is_before(intake.least(), end) {
             return Ok(());
-        };
-        end = end_of(end, first, look);
-        window(alloc, network, sites, end)?;
+        }
+        put_next(alloc, intake, readers, sites)?;
+    }
+    Err(Stop::Run(NetworkRunFault::Memory))
+}
+
+/// What has left goes to the files, in parts.
+fn hand_over<F: NewFile>(sites: &mut [Site], files: &mut [F]) -> Result<(), AllocError>
+    requires { length files.old ≡ length (gone_of sites.old) }
+    ensures same { OnOk result (AllZip HandsOver sites.old sites.new) }
+    ensures gone { (start : List F) → HaveGone F.contents start files.old (gone_of sites.old) → OnOk result (HaveGone F.contents start files.new (gone_of sites.new)) }
+{
+    let mut first = 0;
+    for site in sites.iter_mut() {
+        let next = first + site.ports();
+        site.hand_over(&mut files[first..next])?;
+        first = next;
     }
     Ok(())
 }
 
-/// What each switch has led to.
-pub(crate) fn outcomes_of(
+/// All switches go on until nothing is left.
+///
+/// A window begins at the first instant at which anything can happen at any switch or a record is given. What is given before its end comes
+/// in first; then each switch at which something can happen before its end comes to it, and what leaves goes over the wires.
+pub(crate) fn go_through<R: Read, F: NewFile>(
     alloc: Global,
-    sites: Vec<Site<'_>>,
-) -> Result<Vec<Outcome<Global>>, AllocError>
-    requires { All (λ s. s.paced.failed ≡ false) sites.items }
-    ensures { IfOk result (λ outcomes. AllZip HasLed sites.entry.items outcomes.items) }
+    network: &Network,
+    intake: &mut Intake,
+    readers: &mut [R],
+    sites: &mut [Site],
+    files: &mut [F],
+) -> Result<(), Stop>
+    requires going { All (λ s. (s.paced.failed ≡ false) × (s.paced.reached ≤ 0)) sites.old }
+    requires all { length sites.old ≡ length network.now.tables }
+    requires on { (first : List R) × (came : List Arrival) × HasTaken R.remaining network.now first readers.old intake.old came }
+    requires files { length files.old ≡ length (gone_of sites.old) }
+    ensures going { OnOk result (All (λ s. s.paced.failed ≡ false) sites.new) }
+    ensures gone { (start : List F) → HaveGone F.contents start files.old (gone_of sites.old) → OnOk result (HaveGone F.contents start files.new (gone_of sites.new)) }
+    ensures files { OnOk result (length files.new ≡ length (gone_of sites.new)) }
+    ensures ok { (first : List R) (given : Given) → IsOnWay R.remaining network.now first readers.old intake.old [] given 0 sites.old
+        → OnOk result (IsThrough R.remaining network.now first readers.new intake.new sites.new) }
+    ensures err { (first : List R) (given : Given) → IsOnWay R.remaining network.now first readers.old intake.old [] given 0 sites.old → ((place : ℕ → ℕ) → AreEarly place sites.old)
+        → IfErr result (IsStop R.remaining network.now first readers.new intake.new) }
 {
-    let mut outcomes = Vec::new(alloc);
-    for site in sites {
-        outcomes.push(site.into_outcome()?)?;
+    out_goes_on();
+    by_stamp_is_ordered();
+    what_is_written_is_a_capture();
+    each_file_has_one_reading();
+    records_are_early();
+    all_start_before_the_last_instant();
+    let look = look_of(network);
+    let mut end = Stamp::ZERO;
+    while end < Stamp::LAST {
+        let Some(first) = earlier_of(first_of(sites), intake.least()) else {
+            return Ok(());
+        };
+        end = end_of(end, first, look);
+        take_in(alloc, intake, readers, sites, end)?;
+        window(alloc, network, sites, end)?;
+        hand_over(sites, files)?;
     }
-    Ok(outcomes)
+    Ok(())
+}
+
+/// What each switch has counted, once all that left it has gone to the files.
+pub(crate) fn counts_of<F: NewFile>(
+    alloc: Global,
+    sites: Vec<Site>,
+    files: &mut [F],
+) -> Result<Vec<Counts<Global>>, AllocError>
+    requires going { All (λ s. s.paced.failed ≡ false) sites.items }
+    requires files { length files.old ≡ length (gone_of sites.items) }
+    ensures counts { IfOk result (λ counts. counts.items ≡ counts_at sites.items) }
+    ensures gone { (start : List F) → HaveGone F.contents start files.old (gone_of sites.items)
+        → OnOk result (HaveGone F.contents start files.new (texts_of sites.items)) }
+{
+    let mut counts = Vec::new(alloc);
+    let mut first = 0;
+    for site in sites {
+        let next = first + site.ports();
+        counts.push(site.finish(&mut files[first..next])?)?;
+        first = next;
+    }
+    Ok(counts)
 }

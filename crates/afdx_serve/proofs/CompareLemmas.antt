@@ -27,7 +27,7 @@ use Rattle.afdx_serve.specs.Runs.{capture_name, HasTable, GetsNamed, FailsToGet,
 use Rattle.afdx_serve.specs.Compares.{scatter_of, HasVaryingTable, HasFaultyTable, output_names, recording_names, IsFoundUnder, IsFoundIn, rows_names, rows_texts, PutsRows, FailsToGetVarying}
 use Rattle.afdx_serve.specs.Compares.{IsFaultyUnder, FailsUnder, FailsToFind, StopsRows, EndsRows}
 use Rattle.afdx_serve.specs.Inner.Leading.{AreOpened}
-use Rattle.afdx_serve.specs.Inner.OpenPorts.{FailsToGetNamed}
+use Rattle.afdx_serve.specs.Inner.NotGot.{FailsToGetNamed}
 use Rattle.afdx_csv.specs.declared.form.Form.{Form}
 use Rattle.afdx_serve.specs.Serving.{world, FailsToCompareAll}
 use Rattle.afdx_serve.proofs.CaptureLemmas.{StopsAt-before, EndsAt-before}
@@ -302,20 +302,6 @@ pub found_in : (c : Compare) (r : Recordings) (t : Content) (a b : Option Files)
     → IsFoundUnder (recording_names c r t) t r (is_some c.rows) b from until found → IsFoundIn c r a from until found
 found_in c r t a b from until found has keeps is =
     (t, has, record { texts = is.texts; shown = ShowsAll-before a b _ _ keeps is.shown; is_found = is.is_found })
-
-nothing_changed : (a : Option Files) → PutsFiles a a [] []
-nothing_changed None = tt
-nothing_changed (Some f) = λ q. refl
-
--- no folder is named
-pub none_named : {X : Type 0} (name text : X → List ℕ) (rows : Option X) (a : Option Files) (log : DeviceLog) → rows ≡ None
-    → PutsFiles a a (map name (option_to_list rows)) (map text (option_to_list rows)) × (log ≡ settled_after (length (map name (option_to_list rows))) log)
-none_named name text None a log is = (nothing_changed a, refl)
-none_named name text (Some x) a log is = absurd cc
-
--- one is
-pub one_named : {X : Type 0} (name : X → List ℕ) (rows : Option X) (x : X) → rows ≡ Some x → name x ∷ [] ≡ map name (option_to_list rows)
-one_named name rows x is = sym (ap (λ o. map name (option_to_list o)) is)
 
 module _ (c : Compare) (r : Recordings) (a b d : Option Files) (first before after : DeviceLog) (from until : ℕ) (found : Comparison) (is : IsFoundIn c r a from until found)
     (keeps : KeepsFiles a b) (same : before ≡ first) where

@@ -1,160 +1,38 @@
--- The captures of the ports to which no wire goes, by switch: what was got, and why the rest was not.
-use Rattle.std.proofs.Common.{◌≡◌, ℕ, zero, suc, ◌+◌, ◌<◌, ◌≤◌, Bool, true, false, cond, List, [], ◌∷◌, ◌++◌, map, filter, length, take, drop, get_or, slice_get, append_assoc}
-use Rattle.std.proofs.Common.{Option, Some, None, Vec, string_bytes, refl, sym, ap, subst, ◌∙◌, arith}
-use Rattle.std.proofs.lemmas.List.{map-append, length-append, get_or_append_left, take_more, take_all, length-map, length-take-le, take-append-le, take-append-drop, append-nil}
-use Rattle.std.proofs.lemmas.List.Elements.{filter-append}
-use Rattle.std.proofs.lemmas.Grind.{flat_map-append}
-use Rattle.std.proofs.lemmas.Option.{slice_get_within, slice_get-get_or, get_or_from_slice_get}
+-- The captures of the ports to which no wire goes, by switch: their names, what readers of them give, and why it is not got.
+use Rattle.std.proofs.Common.{◌≡◌, ℕ, zero, suc, ◌+◌, ◌<◌, Bool, true, false, if◌then◌else◌, List, [], ◌∷◌, ◌++◌, map, filter, length, slice_get, Option, Some, None, string_bytes}
+use Rattle.std.proofs.Common.{refl, sym, ap, subst, ◌∙◌, arith}
+use Rattle.std.specs.Prelude.{flat_map}
+use Rattle.std.specs.List.{AllByRecursion, AllZip, enumerate_from}
+use Rattle.std.proofs.lemmas.List.{map-append, length-map}
+use Rattle.std.proofs.lemmas.Option.{same_Some, slice_get_within}
 use Rattle.std.proofs.lemmas.Simd.{map-map}
-use Rattle.std.proofs.Math.Seq.{drop-cons, get_or-append_seam, take-append_seam, take-append-add}
+use Rattle.afdx_pcap.specs.Text.{capture_text}
 use Rattle.afdx_table.specs.declared.rows.PortRow.{PortRow}
 use Rattle.afdx_table.specs.Content.{Content}
-use Rattle.afdx_session.specs.Texts.{Text, texts_of}
-use Rattle.afdx_wiring.specs.File.{Switch}
+use Rattle.afdx_session.specs.Texts.{Text}
+use Rattle.afdx_session.specs.Outcome.{Results}
+use Rattle.afdx_wiring.specs.declared.layout.End.{End}
+use Rattle.afdx_wiring.specs.File.{Layout, is_down}
 use Rattle.afdx_wiring.specs.Net.{Network}
-use Rattle.afdx_network.specs.Runs.{Given}
-use Rattle.afdx_network.specs.Given.{given_of, is_open, AreOpen, IsGivenAt, AreGiven}
+use Rattle.afdx_network.specs.Runs.{Given, AreOutcomes}
+use Rattle.afdx_network.specs.Given.{is_open, ends_from, open_ends, all_from, all_ends, AreOpen, AreGiven, AreGivenBy}
+use Rattle.afdx_network.specs.Outage.{silent, up_at, given_up, coming, comes}
+use Rattle.afdx_network.specs.declared.outage.Incoming.{Incoming}
 use Rattle.afdx_network_report.specs.Lines.{Names, name_of}
 use Rattle.afdx_messages.specs.declared.failure.Failure.{Failure}
 use Rattle.afdx_messages.specs.declared.failure.Failure.TheVariants as failure
-use Rattle.afdx_folder.specs.Files.{Files, Shows, ShowsAll, KeepsFiles, DeviceLog, one_more}
+use Rattle.afdx_folder.specs.Files.{Files, Shows, ShowsAll, IsOpened, KeepsFiles, DeviceLog, one_more}
+use Rattle.afdx_folder.specs.Input.{AreGiven as AreAll}
 use Rattle.afdx_serve.specs.Runs.{capture_name, names_in, bytes_of_captures, FailsToGet, GetsNamed}
 use Rattle.afdx_serve.specs.Networks.{names_of}
-use Rattle.afdx_serve.specs.NetworkRuns.{switch_folder, names_at, bytes_at, HasGiven, open_names, GetsGiven, FailsToGetGiven}
-use Rattle.afdx_serve.specs.Inner.OpenPorts.{HasOpen, FailsToGetNamed}
-use Rattle.afdx_serve.proofs.CaptureLemmas.{one_more_got}
-use Rattle.afdx_serve.proofs.FileLemmas.{ShowsAll-before, ShowsAll-nil, KeepsFiles-trans}
+use Rattle.afdx_serve.specs.NetworkRuns.{switch_folder, names_at, bytes_at, captures_of, HasGiven, open_names, FailsToGetGiven}
+use Rattle.afdx_serve.specs.Inner.NotGot.{FailsToGetNamed}
+use Rattle.afdx_serve.specs.Inner.NetworkRunning.{end_names, AreOpenedEnds}
+use Rattle.afdx_serve.proofs.FileLemmas.{ShowsAll-nil, ShowsAll-before}
+use Rattle.afdx_serve.proofs.RunLemmas.{same_names}
 
--- ---- files that were got
+-- ---- a capture that was not got
 
-ShowsAll-append : (a : Option Files) (names more all rest : List (List ℕ)) → ShowsAll a names all → ShowsAll a more rest → ShowsAll a (names ++ more) (all ++ rest)
-ShowsAll-append None names more all rest first second = tt
-ShowsAll-append (Some f) names more all rest first second =
-    map-append f names more ∙ ap (λ (bs : List (Option (List ℕ))). bs ++ map f more) first ∙ ap (λ (bs : List (Option (List ℕ))). map (λ (x : List ℕ). Some x) all ++ bs) second
-    ∙ sym (map-append (λ (x : List ℕ). Some x) all rest)
-
-slice_get_right : {X : Type 0} (xs ys : List X) (i : ℕ) → slice_get (xs ++ ys) (length xs + i) ≡ slice_get ys i
-slice_get_right [] ys i = ap (slice_get ys) (omega arith)
-slice_get_right (x ∷ xs) ys i = ap (slice_get (x ∷ (xs ++ ys))) next ∙ slice_get_right xs ys i where
-  next : suc (length xs) + i ≡ suc (length xs + i)
-  next = omega arith
-
--- the name after those that were got
-stands_next : (files : Option Files) (name : List ℕ) (before rest all got : List (List ℕ)) → all ≡ before ++ name ∷ rest → ShowsAll files before got → GetsNamed name files all
-stands_next files name before rest all got split earlier = record {
-  place = length before;
-  got = got;
-  is_there = ap (λ (names : List (List ℕ)). slice_get names (length before)) split ∙ slice_get-get_or (before ++ name ∷ rest) (length before) name (omega (arith, length-append before (name ∷ rest)))
-      ∙ ap (λ (n : List ℕ). Some n) (get_or-append_seam before name rest name);
-  earlier = subst (λ (names : List (List ℕ)). ShowsAll files names got) (sym (ap (take (length before)) split ∙ take-append_seam before (name ∷ rest))) earlier;
-}
-
--- a name among some, after others that were all got
-stands_further : (files : Option Files) (name : List ℕ) (before names rest all got : List (List ℕ)) → all ≡ before ++ (names ++ rest) → ShowsAll files before got → GetsNamed name files names
-    → GetsNamed name files all
-stands_further files name before names rest all got split earlier s =
-    let within : s.place < length names = slice_get_within names s.place name s.is_there in
-    let taken : take (length before + s.place) all ≡ before ++ take s.place names =
-    ap (take (length before + s.place)) split ∙ take-append-add before (names ++ rest) s.place
-    ∙ ap (λ (ns : List (List ℕ)). before ++ ns) (take-append-le s.place names rest (omega (arith, within))) in
-    record {
-      place = length before + s.place;
-      got = got ++ s.got;
-      is_there = ap (λ (ns : List (List ℕ)). slice_get ns (length before + s.place)) split ∙ slice_get_right before (names ++ rest) s.place
-          ∙ slice_get-get_or (names ++ rest) s.place name (omega (arith, within, length-append names rest))
-          ∙ ap (λ (n : List ℕ). Some n) (get_or_append_left names rest name s.place within ∙ get_or_from_slice_get names s.place name name s.is_there);
-      earlier = subst (λ (ns : List (List ℕ)). ShowsAll files ns (got ++ s.got)) (sym taken) (ShowsAll-append files before (take s.place names) got s.got earlier s.earlier);
-    }
-
-pub GetsNamed-before : (name : List ℕ) (a b : Option Files) (names : List (List ℕ)) → KeepsFiles a b → GetsNamed name b names → GetsNamed name a names
-GetsNamed-before name a b names keeps s = record { place = s.place; got = s.got; is_there = s.is_there; earlier = ShowsAll-before a b _ _ keeps s.earlier }
-
--- ---- one switch
-
-abbrev ids_of : List PortRow → List ℕ
-ids_of ports = map (λ p. p.id) ports
-
-abbrev numbers_in : List Text → List ℕ
-numbers_in texts = map (λ text. text.0) texts
-
-abbrev named : List ℕ → List ℕ → List (List ℕ)
-named folder ids = map (capture_name folder) ids
-
-named_are : (folder : List ℕ) (texts : List Text) → names_in folder texts ≡ named folder (numbers_in texts)
-named_are folder texts = sym (map-map (capture_name folder) (λ (text : Text). text.0) texts)
-
--- the next port, where it passes and where it does not
-one_taken : (p : ℕ → Bool) (i : ℕ) (rest : List ℕ) → true ≡ p i → filter p (i ∷ rest) ≡ i ∷ filter p rest
-one_taken p i rest passes = ap (λ b. cond b (i ∷ filter p rest) (filter p rest)) (sym passes)
-
-one_left : (p : ℕ → Bool) (i : ℕ) (rest : List ℕ) → false ≡ p i → filter p (i ∷ rest) ≡ filter p rest
-one_left p i rest fails = ap (λ b. cond b (i ∷ filter p rest) (filter p rest)) (sym fails)
-
-more_ports : (p : ℕ → Bool) (ports : List PortRow) (i : ℕ) (d : PortRow) → i < length ports
-    → filter p (ids_of (take (i + 1) ports)) ≡ filter p (ids_of (take i ports)) ++ filter p ((get_or ports i d).id ∷ [])
-more_ports p ports i d within =
-    ap (λ (ps : List PortRow). filter p (ids_of ps)) (take_more ports i d within) ∙ ap (filter p) (map-append (λ (r : PortRow). r.id) (take i ports) (get_or ports i d ∷ []))
-    ∙ filter-append p (ids_of (take i ports)) ((get_or ports i d).id ∷ [])
-
-all_ports : (p : ℕ → Bool) (ports : List PortRow) (i : ℕ) (d : PortRow) → i < length ports
-    → filter p (ids_of ports) ≡ filter p (ids_of (take i ports)) ++ filter p ((get_or ports i d).id ∷ ids_of (drop (suc i) ports))
-all_ports p ports i d within =
-    ap (λ (ps : List PortRow). filter p (ids_of ps)) (sym (take-append-drop i ports) ∙ ap (λ (ps : List PortRow). take i ports ++ ps) (drop-cons ports i d within))
-    ∙ ap (filter p) (map-append (λ (r : PortRow). r.id) (take i ports) (get_or ports i d ∷ drop (suc i) ports))
-    ∙ filter-append p (ids_of (take i ports)) ((get_or ports i d).id ∷ ids_of (drop (suc i) ports))
-
--- the captures of these ports to which no wire goes were got, and nothing else was done
-pub record GotOpen (a b : Option Files) (first now : DeviceLog) (folder : List ℕ) (p : ℕ → Bool) (ports : List PortRow) (texts : List Text) : Type 0 where
-  pub got : ShowsAll a (names_in folder texts) (bytes_of_captures texts)
-  pub ids : map (λ text. text.0) texts ≡ filter p (map (λ r. r.id) ports)
-  pub same : KeepsFiles a b
-  pub failed : now ≡ first
-
--- the name of a port's capture, where those of the ports before it were got
-pub gets_open : (a b : Option Files) (first now : DeviceLog) (folder name : List ℕ) (p : ℕ → Bool) (ports all : List PortRow) (i : ℕ) (d : PortRow) (texts : List Text) → ports ≡ all
-    → i < length ports → true ≡ p (get_or ports i d).id → name ≡ capture_name folder (get_or ports i d).id → GotOpen a b first now folder p (take i ports) texts
-    → GetsNamed name a (map (capture_name folder) (filter p (map (λ (r : PortRow). r.id) all)))
-gets_open a b first now folder name p ports all i d texts same within passes is so_far =
-    let port = (get_or ports i d).id in
-    let rest = ids_of (drop (suc i) ports) in
-    let split : filter p (ids_of all) ≡ numbers_in texts ++ port ∷ filter p rest =
-    ap (λ (ps : List PortRow). filter p (ids_of ps)) (sym same) ∙ all_ports p ports i d within
-    ∙ ap (λ (ns : List ℕ). filter p (ids_of (take i ports)) ++ ns) (one_taken p port rest passes) ∙ ap (λ (ns : List ℕ). ns ++ port ∷ filter p rest) (sym so_far.ids) in
-    stands_next a name (names_in folder texts) (named folder (filter p rest)) (named folder (filter p (ids_of all))) (bytes_of_captures texts)
-    (ap (named folder) split ∙ map-append (capture_name folder) (numbers_in texts) (port ∷ filter p rest)
-    ∙ ap (λ (ns : List (List ℕ)). ns ++ capture_name folder port ∷ named folder (filter p rest)) (sym (named_are folder texts))
-    ∙ ap (λ (n : List ℕ). names_in folder texts ++ n ∷ named folder (filter p rest)) (sym is)) so_far.got
-
--- one more port's capture was got
-pub one_more_open : {Z : Type 0} (a b c : Option Files) (first before now : DeviceLog) (folder name : List ℕ) (p : ℕ → Bool) (ports : List PortRow) (i : ℕ) (d : PortRow)
-    (old new : List (ℕ × Vec ℕ Z)) (bytes : Vec ℕ Z) → new ≡ old ++ ((get_or ports i d).id, bytes) ∷ [] → i < length ports → true ≡ p (get_or ports i d).id
-    → name ≡ capture_name folder (get_or ports i d).id → Shows b name bytes.items × (now ≡ before) → KeepsFiles b c → GotOpen a b first before folder p (take i ports) (texts_of old)
-    → GotOpen a c first now folder p (take (i + 1) ports) (texts_of new)
-one_more_open {Z} a b c first before now folder name p ports i d old new bytes grown within passes is shows keeps so_far =
-    let view : ℕ × Vec ℕ Z → Text = λ pair. (pair.0, pair.1.items) in
-    let one : Text = ((get_or ports i d).id, bytes.items) in
-    let texts : texts_of new ≡ texts_of old ++ one ∷ [] = ap (map view) grown ∙ map-append view old (_ ∷ []) in
-    record {
-      got = subst (λ (ts : List Text). ShowsAll a (names_in folder ts) (bytes_of_captures ts)) (sym texts)
-          (one_more_got a b folder (texts_of old) one so_far.same so_far.got (subst (λ (n : List ℕ). Shows b n bytes.items) is shows.0));
-      ids = ap numbers_in texts ∙ map-append (λ (text : Text). text.0) (texts_of old) (one ∷ []) ∙ ap (λ (ns : List ℕ). ns ++ one.0 ∷ []) so_far.ids
-          ∙ ap (λ (ns : List ℕ). filter p (ids_of (take i ports)) ++ ns) (sym (one_taken p one.0 [] passes)) ∙ sym (more_ports p ports i d within);
-      same = KeepsFiles-trans a b c so_far.same keeps;
-      failed = shows.1 ∙ so_far.failed;
-    }
-
--- a wire goes to the next port
-pub one_more_wired : (a b : Option Files) (first now : DeviceLog) (folder : List ℕ) (p : ℕ → Bool) (ports : List PortRow) (i : ℕ) (d : PortRow) (texts : List Text) → i < length ports
-    → false ≡ p (get_or ports i d).id → GotOpen a b first now folder p (take i ports) texts → GotOpen a b first now folder p (take (i + 1) ports) texts
-one_more_wired a b first now folder p ports i d texts within fails so_far = record {
-  got = so_far.got;
-  ids = so_far.ids ∙ sym (append-nil (filter p (ids_of (take i ports)))) ∙ ap (λ (ns : List ℕ). filter p (ids_of (take i ports)) ++ ns) (sym (one_left p (get_or ports i d).id [] fails))
-      ∙ sym (more_ports p ports i d within);
-  same = so_far.same;
-  failed = so_far.failed;
-}
-
--- a capture was not got
 pub not_got_named : (f : Failure) (files : Option Files) (name : List ℕ) (names : List (List ℕ)) (first before after : DeviceLog) → before ≡ first → FailsToGet f name before after
     → GetsNamed name files names → FailsToGetNamed f files names first after
 not_got_named (failure.Get s) files name names first before after same fails upto =
@@ -172,186 +50,292 @@ not_got_named (failure.Network r) files name names first before after same fails
 not_got_named failure.Read files name names first before after same fails upto = absurd fails
 not_got_named failure.Write files name names first before after same fails upto = absurd fails
 
--- ---- all switches
+pub GetsNamed-before : (name : List ℕ) (a b : Option Files) (names : List (List ℕ)) → KeepsFiles a b → GetsNamed name b names → GetsNamed name a names
+GetsNamed-before name a b names keeps s = record { place = s.place; got = s.got; is_there = s.is_there; earlier = ShowsAll-before a b _ _ keeps s.earlier }
 
--- the numbers of the ports to which no wire goes, by switch, of which n come before these
-abbrev open_ids : Network → ℕ → List Content → List (List ℕ)
-open_ids net n [] = []
-open_ids net n (t ∷ ts) = filter (is_open net n) (ids_of t.ports) ∷ open_ids net (n + 1) ts
+-- one of the captures of the ports to which no wire goes
+pub not_got_given : (f : Failure) (files : Option Files) (path : List ℕ) (net : Network) (names : List (List ℕ)) (before after : DeviceLog)
+    → names ≡ open_names path (names_of net.layout.switches) net 0 net.tables → FailsToGetNamed f files names before after → FailsToGetGiven f files path net before after
+not_got_given (failure.Get s) files path net names before after named fails =
+    let at = subst (λ (ns : List (List ℕ)). GetsNamed (string_bytes s) files ns) named fails.0 in
+    (record { place = at.place; got = at.got; is_there = at.is_there; earlier = at.earlier }, fails.1)
+not_got_given failure.Memory files path net names before after named fails = tt
+not_got_given failure.Found files path net names before after named fails = absurd fails
+not_got_given failure.Usage files path net names before after named fails = absurd fails
+not_got_given (failure.Table r) files path net names before after named fails = absurd fails
+not_got_given (failure.Capture r) files path net names before after named fails = absurd fails
+not_got_given (failure.PortCapture p r) files path net names before after named fails = absurd fails
+not_got_given (failure.OutputCapture p r) files path net names before after named fails = absurd fails
+not_got_given (failure.Put s) files path net names before after named fails = absurd fails
+not_got_given (failure.Load r) files path net names before after named fails = absurd fails
+not_got_given (failure.Network r) files path net names before after named fails = absurd fails
+not_got_given failure.Read files path net names before after named fails = absurd fails
+not_got_given failure.Write files path net names before after named fails = absurd fails
 
--- those of the given captures
-abbrev given_ids : Given → List (List ℕ)
-given_ids given = map (λ texts. map (λ text. text.0) texts) given
+-- ---- names of captures, by switch
 
--- the names of the captures of these ports, each switch's in its own folder
-abbrev all_named : List ℕ → Names → List (List ℕ) → List (List ℕ)
-all_named path names [] = []
-all_named path [] (ids ∷ more) = []
-all_named path (name ∷ names) (ids ∷ more) = named (switch_folder path name) ids ++ all_named path names more
+abbrev end_of : ℕ → ℕ → End
+end_of n port = record { switch = n; port = port }
 
-given_named : (path : List ℕ) (names : Names) (given : Given) → names_at path names given ≡ all_named path names (given_ids given)
-given_named path [] [] = refl
-given_named path (name ∷ names) [] = refl
-given_named path [] (texts ∷ more) = refl
-given_named path (name ∷ names) (texts ∷ more) =
-    ap (λ (ns : List (List ℕ)). ns ++ names_at path names more) (named_are (switch_folder path name) texts)
-    ∙ ap (λ (ns : List (List ℕ)). named (switch_folder path name) (numbers_in texts) ++ ns) (given_named path names more)
+-- these are the names of the switches from the n-th on
+abbrev AreFrom : Names → ℕ → Names → Type 0
+AreFrom names n some = (k : ℕ) → name_of names (n + k) ≡ name_of some k
 
-open_named : (path : List ℕ) (names : Names) (net : Network) (n : ℕ) (ts : List Content) → open_names path names net n ts ≡ all_named path names (open_ids net n ts)
-open_named path [] net n [] = refl
-open_named path (name ∷ names) net n [] = refl
-open_named path [] net n (t ∷ ts) = refl
-open_named path (name ∷ names) net n (t ∷ ts) =
-    ap (λ (ns : List (List ℕ)). named (switch_folder path name) (filter (is_open net n) (ids_of t.ports)) ++ ns) (open_named path names net (n + 1) ts)
+first_from : (names : Names) (n : ℕ) (name : List ℕ) (some : Names) → AreFrom names n (name ∷ some) → name_of names n ≡ name
+first_from names n name some are = ap (name_of names) (number n) ∙ are 0 where
+  number : (n : ℕ) → n ≡ n + 0
+  number n = omega arith
 
--- those of one switch come after those of the switches before it
-all_named-append : (path : List ℕ) (names : Names) (before : List (List ℕ)) (ids : List ℕ) (more : List (List ℕ)) → length before < length names
-    → all_named path names (before ++ ids ∷ more)
-    ≡ all_named path names before ++ (named (switch_folder path (name_of names (length before))) ids ++ all_named path (drop (suc (length before)) names) more)
-all_named-append path [] before ids more within = absurd (omega (arith, within))
-all_named-append path (name ∷ names) [] ids more within = refl
-all_named-append path (name ∷ names) (own ∷ before) ids more within =
-    ap (λ (ns : List (List ℕ)). named (switch_folder path name) own ++ ns) (all_named-append path names before ids more (omega (arith, within)))
-    ∙ sym (append_assoc (named (switch_folder path name) own) (all_named path names before)
-    (named (switch_folder path (name_of names (length before))) ids ++ all_named path (drop (suc (length before)) names) more))
+rest_from : (names : Names) (n : ℕ) (name : List ℕ) (some : Names) → AreFrom names n (name ∷ some) → AreFrom names (n + 1) some
+rest_from names n name some are = λ k. ap (name_of names) (number n k) ∙ are (suc k) where
+  number : (n k : ℕ) → (n + 1) + k ≡ n + suc k
+  number n k = omega arith
 
-length-open_ids : (net : Network) (n : ℕ) (ts : List Content) → length (open_ids net n ts) ≡ length ts
-length-open_ids net n [] = refl
-length-open_ids net n (t ∷ ts) = ap suc (length-open_ids net (n + 1) ts)
+all_from_start : (names : Names) → AreFrom names 0 names
+all_from_start names = λ k. ap (name_of names) (number k) where
+  number : (k : ℕ) → 0 + k ≡ k
+  number k = omega arith
 
-open_ids-append : (net : Network) (n m : ℕ) (ts us : List Content) → n + length ts ≡ m → open_ids net n (ts ++ us) ≡ open_ids net n ts ++ open_ids net m us
-open_ids-append net n m [] us e = ap (λ (k : ℕ). open_ids net k us) (omega (arith, e))
-open_ids-append net n m (t ∷ ts) us e =
-    ap (λ (ids : List (List ℕ)). filter (is_open net n) (ids_of t.ports) ∷ ids) (open_ids-append net (n + 1) m ts us (omega (arith, e)))
+-- the captures of some ports of one switch
+named_there : (path : List ℕ) (names : Names) (n : ℕ) (name : List ℕ) (ids : List ℕ) → name_of names n ≡ name
+    → end_names path names (map (end_of n) ids) ≡ map (capture_name (switch_folder path name)) ids
+named_there path names n name ids is =
+    map-map (λ (e : End). capture_name (switch_folder path (name_of names e.switch)) e.port) (end_of n) ids ∙ ap (λ (m : List ℕ). map (capture_name (switch_folder path m)) ids) is
 
--- the captures of the first i switches were got
-pub record GotFirst (files : Option Files) (path : List ℕ) (net : Network) (i : ℕ) (given : Given) : Type 0 where
-  pub has : HasGiven files path (names_of net.layout.switches) given
-  pub ids : map (λ texts. map (λ text. text.0) texts) given ≡ open_ids net 0 (take i net.tables)
+names_apart : (path : List ℕ) (names : Names) (ends more : List End) → end_names path names (ends ++ more) ≡ end_names path names ends ++ end_names path names more
+names_apart path names ends more = map-append (λ (e : End). capture_name (switch_folder path (name_of names e.switch)) e.port) ends more
 
-pub none_got : (files : Option Files) (path : List ℕ) (net : Network) (given : Given) → given ≡ [] → GotFirst files path net 0 given
-none_got files path net given none = subst (GotFirst files path net 0) (sym none) (record {
-  has = subst (λ (ns : List (List ℕ)). ShowsAll files ns []) (sym (given_named path (names_of net.layout.switches) [])) (ShowsAll-nil files);
-  ids = refl;
-})
+-- those of the ports to which no wire goes
+open_from : (path : List ℕ) (names : Names) (net : Network) (n : ℕ) (some : Names) (tables : List Content) → length some ≡ length tables → AreFrom names n some
+    → end_names path names (ends_from net n tables) ≡ open_names path some net n tables
+open_from path names net n [] [] long are = refl
+open_from path names net n [] (t ∷ tables) long are = absurd (omega (arith, long))
+open_from path names net n (name ∷ some) [] long are = refl
+open_from path names net n (name ∷ some) (t ∷ tables) long are =
+    names_apart path names (map (end_of n) (filter (is_open net n) (map (λ (p : PortRow). p.id) t.ports))) (ends_from net (n + 1) tables)
+    ∙ ap (λ (ns : List (List ℕ)). ns ++ end_names path names (ends_from net (n + 1) tables))
+    (named_there path names n name (filter (is_open net n) (map (λ (p : PortRow). p.id) t.ports)) (first_from names n name some are))
+    ∙ ap (λ (ns : List (List ℕ)). map (capture_name (switch_folder path name)) (filter (is_open net n) (map (λ (p : PortRow). p.id) t.ports)) ++ ns)
+    (open_from path names net (n + 1) some tables (omega (arith, long)) (rest_from names n name some are))
 
-pub one_more_given : {Y Z : Type 0} (old new : List (Vec (ℕ × Vec ℕ Z) Y)) (texts : Vec (ℕ × Vec ℕ Z) Y) → new ≡ old ++ texts ∷ [] → given_of new ≡ given_of old ++ texts_of texts.items ∷ []
-one_more_given old new texts grown = ap given_of grown ∙ map-append (λ ts. texts_of ts.items) old (texts ∷ [])
+pub open_named : (path : List ℕ) (names : Names) (net : Network) → length names ≡ length net.tables → end_names path names (open_ends net) ≡ open_names path names net 0 net.tables
+open_named path names net long = open_from path names net 0 names net.tables long (all_from_start names)
 
--- what is known of the next switch, and of what was got of it: `b` are the files after those of the switches before it
-module _ (files b : Option Files) (path : List ℕ) (net : Network) (i : ℕ) (d t : Content) (own : List ℕ) (given : Given) (within : i < length net.tables)
-    (enough : length net.tables ≡ length net.layout.switches) (table_is : t ≡ get_or net.tables i d) (own_is : own ≡ switch_folder path (name_of (names_of net.layout.switches) i))
-    (keeps : KeepsFiles files b) (so_far : GotFirst files path net i given) where
-  abbrev names : Names
-  names = names_of net.layout.switches
+-- those of what left
+left_from : (path : List ℕ) (names : Names) (n : ℕ) (some : Names) (tables : List Content) (came : List (List Text)) (left : List Results) → length some ≡ length tables → AreFrom names n some
+    → AreOutcomes tables came left → end_names path names (all_from n tables) ≡ names_at path some (captures_of left)
+left_from path names n [] [] [] [] long are outcomes = refl
+left_from path names n (name ∷ some) [] came left long are outcomes = absurd (omega (arith, long))
+left_from path names n [] (t ∷ tables) came left long are outcomes = absurd (omega (arith, long))
+left_from path names n some [] [] (r ∷ left) long are outcomes = absurd outcomes
+left_from path names n some [] (texts ∷ came) left long are outcomes = absurd outcomes
+left_from path names n some (t ∷ tables) [] left long are outcomes = absurd outcomes
+left_from path names n some (t ∷ tables) (texts ∷ came) [] long are outcomes = absurd outcomes
+left_from path names n (name ∷ some) (t ∷ tables) (texts ∷ came) (r ∷ left) long are outcomes =
+    names_apart path names (map (λ (p : PortRow). end_of n p.id) t.ports) (all_from (n + 1) tables)
+    ∙ ap (λ (ns : List (List ℕ)). ns ++ end_names path names (all_from (n + 1) tables)) here
+    ∙ ap (λ (ns : List (List ℕ)). names_in (switch_folder path name) r.captures ++ ns)
+    (left_from path names (n + 1) some tables came left (omega (arith, long)) (rest_from names n name some are) outcomes.1) where
+      ids : List ℕ
+      ids = map (λ (p : PortRow). p.id) t.ports
 
-  abbrev ids : List ℕ
-  ids = filter (is_open net i) (ids_of t.ports)
+      here : end_names path names (map (λ (p : PortRow). end_of n p.id) t.ports) ≡ names_in (switch_folder path name) r.captures
+      here =
+          ap (end_names path names) (sym (map-map (end_of n) (λ (p : PortRow). p.id) t.ports)) ∙ named_there path names n name (map (λ (p : PortRow). p.id) t.ports) (first_from names n name some are)
+          ∙ ap (map (capture_name (switch_folder path name))) (sym outcomes.0.ports) ∙ map-map (capture_name (switch_folder path name)) (λ (text : Text). text.0) texts
+          ∙ same_names (switch_folder path name) t texts r outcomes.0
 
-  place_is : 0 + length (take i net.tables) ≡ i
-  place_is = let long = length-take-le i net.tables (omega (arith, within)) in omega (arith, long)
+pub left_named : (path : List ℕ) (names : Names) (net : Network) (came : List (List Text)) (left : List Results) → length names ≡ length net.tables → AreOutcomes net.tables came left
+    → end_names path names (all_ends net) ≡ names_at path names (captures_of left)
+left_named path names net came left long outcomes = left_from path names 0 names net.tables came left long (all_from_start names) outcomes
 
-  count : length (given_ids given) ≡ i
-  count = ap (λ (all : List (List ℕ)). length all) so_far.ids ∙ length-open_ids net 0 (take i net.tables) ∙ length-take-le i net.tables (omega (arith, within))
+-- ---- what is under the names
 
-  there : length (given_ids given) < length names
-  there = let many = length-map net.layout.switches (λ (s : Switch). s.name) in let c = count in omega (arith, within, enough, many, c)
+zip_places : {X Y : Type 0} (P : X → Y → Type 0) (xs : List X) (ys : List Y) → length ys ≡ length xs → ((k : ℕ) (x : X) (y : Y) → slice_get xs k ≡ Some x → slice_get ys k ≡ Some y → P x y)
+    → AllZip P xs ys
+zip_places P [] [] long each = tt
+zip_places P [] (y ∷ ys) long each = absurd (omega (arith, long))
+zip_places P (x ∷ xs) [] long each = absurd (omega (arith, long))
+zip_places P (x ∷ xs) (y ∷ ys) long each = (each 0 x y refl refl, zip_places P xs ys (omega (arith, long)) (λ k a b at there. each (suc k) a b at there))
 
-  -- the names of a switch's captures after those of the switches before it
-  abbrev further : List (List ℕ) → List (List ℕ)
-  further more = all_named path (drop (suc (length (given_ids given))) names) more
+there_at : {X : Type 0} (xs : List X) (k : ℕ) → k < length xs → (x : X) × (slice_get xs k ≡ Some x)
+there_at [] k lt = absurd (omega (arith, lt))
+there_at (x ∷ xs) zero lt = (x, refl)
+there_at (x ∷ xs) (suc k) lt = there_at xs k (omega (arith, lt))
 
-  after : (numbers : List ℕ) (more : List (List ℕ)) → all_named path names (given_ids given ++ numbers ∷ more) ≡ names_at path names given ++ (named own numbers ++ further more)
-  after numbers more =
-      all_named-append path names (given_ids given) numbers more there
-      ∙ ap (λ (ns : List (List ℕ)). ns ++ (named (switch_folder path (name_of names (length (given_ids given)))) numbers ++ further more)) (sym (given_named path names given))
-      ∙ ap (λ (k : ℕ). names_at path names given ++ (named (switch_folder path (name_of names k)) numbers ++ further more)) count
-      ∙ ap (λ (folder : List ℕ). names_at path names given ++ (named folder numbers ++ further more)) (sym own_is)
+shows_append : (files : Option Files) (names more all rest : List (List ℕ)) → ShowsAll files names all → ShowsAll files more rest → ShowsAll files (names ++ more) (all ++ rest)
+shows_append None names more all rest first second = tt
+shows_append (Some f) names more all rest first second =
+    map-append f names more ∙ ap (λ (bs : List (Option (List ℕ))). bs ++ map f more) first ∙ ap (λ (bs : List (Option (List ℕ))). map (λ (x : List ℕ). Some x) all ++ bs) second
+    ∙ sym (map-append (λ (x : List ℕ). Some x) all rest)
 
-  tables_are : net.tables ≡ take i net.tables ++ t ∷ drop (suc i) net.tables
-  tables_are = sym (take-append-drop i net.tables) ∙ ap (λ (ts : List Content). take i net.tables ++ ts) (drop-cons net.tables i d within)
-      ∙ ap (λ (u : Content). take i net.tables ++ u ∷ drop (suc i) net.tables) (sym table_is)
+shows_more : (files : Option Files) (name bytes : List ℕ) (names all : List (List ℕ)) → Shows files name bytes → ShowsAll files names all → ShowsAll files (name ∷ names) (bytes ∷ all)
+shows_more None name bytes names all one rest = tt
+shows_more (Some f) name bytes names all one rest = ap (λ (o : Option (List ℕ)). o ∷ map f names) one ∙ ap (λ (os : List (Option (List ℕ))). Some bytes ∷ os) rest
 
-  -- a name among those of its captures is one among all
-  gets_given : (name : List ℕ) → GetsNamed name b (named own ids) → GetsGiven name files path net
-  gets_given name s = record { place = among.place; got = among.got; is_there = among.is_there; earlier = among.earlier } where
-    rest : List (List ℕ)
-    rest = open_ids net (i + 1) (drop (suc i) net.tables)
+-- the ports at which these come in
+abbrev ends_in : ℕ → Given → List End
+ends_in n [] = []
+ends_in n (own ∷ up) = map (λ (text : Text). end_of n text.0) own ++ ends_in (n + 1) up
 
-    whole : open_ids net 0 net.tables ≡ given_ids given ++ ids ∷ rest
-    whole = ap (open_ids net 0) tables_are ∙ open_ids-append net 0 i (take i net.tables) (t ∷ drop (suc i) net.tables) place_is ∙ ap (λ (all : List (List ℕ)). all ++ ids ∷ rest) (sym so_far.ids)
+ends_are : (net : Network) (n : ℕ) (tables : List Content) (up : Given) → length up ≡ length tables
+    → ((k : ℕ) (t : Content) (own : List Text) → slice_get tables k ≡ Some t → slice_get up k ≡ Some own → AreOpen net (n + k) t own) → ends_from net n tables ≡ ends_in n up
+ends_are net n [] [] long open_at = refl
+ends_are net n [] (own ∷ up) long open_at = absurd (omega (arith, long))
+ends_are net n (t ∷ tables) [] long open_at = absurd (omega (arith, long))
+ends_are net n (t ∷ tables) (own ∷ up) long open_at =
+    ap (λ (ids : List ℕ). map (end_of n) ids ++ ends_from net (n + 1) tables) (sym here)
+    ∙ ap (λ (es : List End). es ++ ends_from net (n + 1) tables) (map-map (end_of n) (λ (text : Text). text.0) own)
+    ∙ ap (λ (es : List End). map (λ (text : Text). end_of n text.0) own ++ es)
+    (ends_are net (n + 1) tables up (omega (arith, long)) (λ k u x is at. subst (λ m. AreOpen net m u x) (number k) (open_at (suc k) u x is at))) where
+      none : n + 0 ≡ n
+      none = omega arith
 
-    split : open_names path names net 0 net.tables ≡ names_at path names given ++ (named own ids ++ further rest)
-    split = open_named path names net 0 net.tables ∙ ap (all_named path names) whole ∙ after ids rest
+      number : (k : ℕ) → n + suc k ≡ (n + 1) + k
+      number k = omega arith
 
-    among : GetsNamed name files (open_names path names net 0 net.tables)
-    among = stands_further files name (names_at path names given) (named own ids) (further rest) (open_names path names net 0 net.tables) (bytes_at given) split so_far.has
-        (GetsNamed-before name files b (named own ids) keeps s)
+      here : AreOpen net n t own
+      here = subst (λ m. AreOpen net m t own) none (open_at 0 t own refl refl)
 
-  pub not_got_given : (f : Failure) (first before now : DeviceLog) → before ≡ first
-      → FailsToGetNamed f b (map (capture_name own) (filter (is_open net i) (map (λ (r : PortRow). r.id) t.ports))) before now
-      → FailsToGetGiven f files path net first now
-  not_got_given (failure.Get s) first before now same fails = (gets_given (string_bytes s) fails.0, fails.1 ∙ ap (one_more (string_bytes s)) same)
-  not_got_given failure.Memory first before now same fails = tt
-  not_got_given failure.Found first before now same fails = absurd fails
-  not_got_given failure.Usage first before now same fails = absurd fails
-  not_got_given (failure.Table r) first before now same fails = absurd fails
-  not_got_given (failure.Capture r) first before now same fails = absurd fails
-  not_got_given (failure.PortCapture p r) first before now same fails = absurd fails
-  not_got_given (failure.OutputCapture p r) first before now same fails = absurd fails
-  not_got_given (failure.Put s) first before now same fails = absurd fails
-  not_got_given (failure.Load r) first before now same fails = absurd fails
-  not_got_given (failure.Network r) first before now same fails = absurd fails
-  not_got_given failure.Read first before now same fails = absurd fails
-  not_got_given failure.Write first before now same fails = absurd fails
+given_at : (net : Network) (up : Given) → AreGiven net up → (k : ℕ) (t : Content) (own : List Text) → slice_get net.tables k ≡ Some t → slice_get up k ≡ Some own → AreOpen net (0 + k) t own
+given_at net up are k t own is at =
+    let there = are.each k (slice_get_within net.tables k t is) in
+    let number : k ≡ 0 + k = omega arith in
+    subst (λ m. AreOpen net m t own) number
+    (subst (λ (u : Content). AreOpen net k u own) (same_Some there.table t (sym there.table_is ∙ is))
+    (subst (λ (x : List Text). AreOpen net k there.table x) (same_Some there.texts own (sym there.texts_is ∙ at)) there.of_open))
 
-  -- where its captures were got, so were those of one switch more
-  pub got_one_more : (texts : List Text) → HasOpen b own net i t texts → GotFirst files path net (i + 1) (given ++ texts ∷ [])
-  got_one_more texts has = record {
-    has = subst (λ (ns : List (List ℕ)). ShowsAll files ns (bytes_at (given ++ texts ∷ []))) (sym names_are)
-        (subst (ShowsAll files (names_at path names given ++ names_in own texts)) (sym bytes_are)
-        (ShowsAll-append files (names_at path names given) (names_in own texts) (bytes_at given) (bytes_of_captures texts) so_far.has (ShowsAll-before files b _ _ keeps has.0)));
-    ids = grown ∙ ap (λ (numbers : List ℕ). given_ids given ++ numbers ∷ []) has.1 ∙ ap (λ (all : List (List ℕ)). all ++ ids ∷ []) so_far.ids
-        ∙ sym (open_ids-append net 0 i (take i net.tables) (t ∷ []) place_is) ∙ ap (open_ids net 0) (sym taken);
-  } where
-    grown : given_ids (given ++ texts ∷ []) ≡ given_ids given ++ numbers_in texts ∷ []
-    grown = map-append numbers_in given (texts ∷ [])
+-- with the same ports at each switch, these are given too
+given_too : (net : Network) (up given : Given) → AreGiven net up → map (map (λ (text : Text). text.0)) given ≡ map (map (λ (text : Text). text.0)) up → AreGiven net given
+given_too net up given are same = record {
+  each = λ n lt.
+      let there = are.each n lt in
+      let own = at given up n there.texts same there.texts_is in
+      record { table = there.table; texts = own.0; table_is = there.table_is; texts_is = own.1; of_open = own.2 ∙ there.of_open };
+  no_more = sym (length-map given (map (λ (text : Text). text.0))) ∙ ap (λ (all : List (List ℕ)). length all) same ∙ length-map up (map (λ (text : Text). text.0)) ∙ are.no_more;
+} where
+  at : (given up : Given) (n : ℕ) (own : List Text) → map (map (λ (text : Text). text.0)) given ≡ map (map (λ (text : Text). text.0)) up → slice_get up n ≡ Some own
+      → (texts : List Text) × (slice_get given n ≡ Some texts) × (map (λ (text : Text). text.0) texts ≡ map (λ (text : Text). text.0) own)
+  at [] [] n own same is = absurd cc
+  at [] (u ∷ up) n own same is = absurd cc
+  at (g ∷ given) [] n own same is = absurd cc
+  at (g ∷ given) (u ∷ up) zero own same is =
+      let first : map (λ (text : Text). text.0) g ≡ map (λ (text : Text). text.0) u = cc in
+      (g, refl, first ∙ ap (map (λ (text : Text). text.0)) (same_Some u own is))
+  at (g ∷ given) (u ∷ up) (suc n) own same is =
+      let rest : map (map (λ (text : Text). text.0)) given ≡ map (map (λ (text : Text). text.0)) up = cc in
+      at given up n own rest is
 
-    taken : take (i + 1) net.tables ≡ take i net.tables ++ t ∷ []
-    taken = take_more net.tables i d within ∙ ap (λ (u : Content). take i net.tables ++ u ∷ []) (sym table_is)
+-- what comes in at a port, and what its name has
+abbrev IsRaw : Option Files → (folder : List ℕ) → Bool → ℕ → List ℕ → Type 0
+IsRaw files folder down port text = (raw : List ℕ) × Shows files (capture_name folder port) raw × ((if down then capture_text [] else raw) ≡ text)
 
-    bytes_are : bytes_at (given ++ texts ∷ []) ≡ bytes_at given ++ bytes_of_captures texts
-    bytes_are = flat_map-append bytes_of_captures given (texts ∷ []) ∙ ap (λ (bs : List (List ℕ)). bytes_at given ++ bs) (append-nil (bytes_of_captures texts))
+raw_of : (files : Option Files) (name : List ℕ) (remaining : Option (List ℕ)) (down : Bool) (text : List ℕ) → IsOpened files name remaining
+    → AreAll (if down then Some (capture_text []) else remaining) text → (raw : List ℕ) × Shows files name raw × ((if down then capture_text [] else raw) ≡ text)
+raw_of None name remaining true text opened given = (text, tt, sym given)
+raw_of None name remaining false text opened given = (text, tt, refl)
+raw_of (Some f) name remaining true text opened given = (opened.0, opened.1, sym given)
+raw_of (Some f) name remaining false text opened given =
+    let same : text ≡ opened.0 = subst (λ (o : Option (List ℕ)). AreAll o text) opened.2 given in
+    (opened.0, opened.1, sym same)
 
-    names_are : names_at path names (given ++ texts ∷ []) ≡ names_at path names given ++ names_in own texts
-    names_are =
-        given_named path names (given ++ texts ∷ []) ∙ ap (all_named path names) grown ∙ after (numbers_in texts) []
-        ∙ ap (λ (ns : List (List ℕ)). names_at path names given ++ ns) (append-nil (named own (numbers_in texts)) ∙ sym (named_are own texts))
+record Own (files : Option Files) (folder : List ℕ) (down : Bool) (own : List Text) : Type 0 where
+  pub texts : List Text
+  pub ports : map (λ (text : Text). text.0) texts ≡ map (λ (text : Text). text.0) own
+  pub shown : ShowsAll files (names_in folder texts) (bytes_of_captures texts)
+  pub up_is : (if down then silent texts else texts) ≡ own
 
--- each switch's captures are given, where those of all were got
-given_each : (net : Network) (n m : ℕ) (ts : List Content) (given : Given) (i : ℕ) → n + i ≡ m → given_ids given ≡ open_ids net n ts → i < length ts
-    → (t : Content) × (texts : List Text) × (slice_get ts i ≡ Some t) × (slice_get given i ≡ Some texts) × AreOpen net m t texts
-given_each net n m [] given i e same within = absurd (omega (arith, within))
-given_each net n m (t ∷ ts) [] i e same within = absurd cc
-given_each net n m (t ∷ ts) (texts ∷ given) zero e same within =
-    let here : numbers_in texts ≡ filter (is_open net n) (ids_of t.ports) = cc in
-    (t, texts, refl, refl, subst (λ (k : ℕ). AreOpen net k t texts) (omega (arith, e)) here)
-given_each net n m (t ∷ ts) (texts ∷ given) (suc i) e same within =
-    let rest : given_ids given ≡ open_ids net (n + 1) ts = cc in
-    given_each net (n + 1) m ts given i (omega (arith, e)) rest (omega (arith, within))
+own_of : (files : Option Files) (folder : List ℕ) (down : Bool) (own : List Text) → AllByRecursion (λ (text : Text). IsRaw files folder down text.0 text.1) own → Own files folder down own
+own_of files folder down [] all = record { texts = []; ports = refl; shown = ShowsAll-nil files; up_is = none down } where
+  none : (b : Bool) → (if b then silent [] else []) ≡ []
+  none true = refl
+  none false = refl
+own_of files folder down (x ∷ own) all =
+    let rest = own_of files folder down own all.1 in
+    record {
+      texts = (x.0, all.0.0) ∷ rest.texts;
+      ports = ap (λ (ns : List ℕ). x.0 ∷ ns) rest.ports;
+      shown = shows_more files (capture_name folder x.0) all.0.0 (names_in folder rest.texts) (bytes_of_captures rest.texts) all.0.1 rest.shown;
+      up_is = one down all.0.0 rest.texts all.0.2 rest.up_is;
+    } where
+      one : (b : Bool) (raw : List ℕ) (texts : List Text) → (if b then capture_text [] else raw) ≡ x.1 → (if b then silent texts else texts) ≡ own
+          → (if b then silent ((x.0, raw) ∷ texts) else (x.0, raw) ∷ texts) ≡ x ∷ own
+      one true raw texts is same = ap (λ (bytes : List ℕ). (x.0, bytes) ∷ silent texts) is ∙ ap (λ (ts : List Text). x ∷ ts) same
+      one false raw texts is same = ap (λ (bytes : List ℕ). (x.0, bytes) ∷ texts) is ∙ ap (λ (ts : List Text). x ∷ ts) same
 
-pub all_given : (files : Option Files) (path : List ℕ) (net : Network) (i : ℕ) (given : Given) → length net.tables ≤ i → GotFirst files path net i given
-    → HasGiven files path (names_of net.layout.switches) given × AreGiven net given
-all_given files path net i given past so_far = (
-  so_far.has,
-  record {
-    each = λ switch within. at switch (given_each net 0 switch net.tables given switch (omega arith) ids within);
-    no_more = sym (length-map given numbers_in) ∙ ap (λ (all : List (List ℕ)). length all) ids ∙ length-open_ids net 0 net.tables;
-  },
-) where
-  ids : given_ids given ≡ open_ids net 0 net.tables
-  ids = so_far.ids ∙ ap (open_ids net 0) (take_all i net.tables past)
+module _ (files : Option Files) (path : List ℕ) (names : Names) (l : Layout) where
+  abbrev IsUnder : End → List ℕ → Type 0
+  IsUnder e text = IsRaw files (switch_folder path (name_of names e.switch)) (is_down l.switches e.switch) e.port text
 
-  at : (switch : ℕ) → (t : Content) × (texts : List Text) × (slice_get net.tables switch ≡ Some t) × (slice_get given switch ≡ Some texts) × AreOpen net switch t texts
-      → IsGivenAt net given switch
-  at switch found = record { table = found.0; texts = found.1; table_is = found.2; texts_is = found.3; of_open = found.4 }
+  parts : (n : ℕ) (own : List Text) (more : List End) (rest : List (List ℕ)) → AllZip IsUnder (map (λ (text : Text). end_of n text.0) own ++ more) (map (λ (text : Text). text.1) own ++ rest)
+      → AllByRecursion (λ (text : Text). IsRaw files (switch_folder path (name_of names n)) (is_down l.switches n) text.0 text.1) own × AllZip IsUnder more rest
+  parts n [] more rest zip = (tt, zip)
+  parts n (x ∷ own) more rest zip = let on = parts n own more rest zip.1 in ((zip.0, on.0), on.1)
+
+  record Revealed (some : Names) (n : ℕ) (up : Given) : Type 0 where
+    pub given : Given
+    pub ports : map (map (λ (text : Text). text.0)) given ≡ map (map (λ (text : Text). text.0)) up
+    pub shown : ShowsAll files (names_at path some given) (bytes_at given)
+    pub up_is : map (up_at l) (enumerate_from n given) ≡ up
+
+  reveal : (some : Names) (n : ℕ) (up : Given) → length some ≡ length up → AreFrom names n some → AllZip IsUnder (ends_in n up) (flat_map (map (λ (text : Text). text.1)) up) → Revealed some n up
+  reveal [] n [] long are zip = record { given = []; ports = refl; shown = ShowsAll-nil files; up_is = refl }
+  reveal [] n (own ∷ up) long are zip = absurd (omega (arith, long))
+  reveal (name ∷ some) n [] long are zip = absurd (omega (arith, long))
+  reveal (name ∷ some) n (own ∷ up) long are zip =
+      let on = parts n own (ends_in (n + 1) up) (flat_map (map (λ (text : Text). text.1)) up) zip in
+      let here = own_of files (switch_folder path (name_of names n)) (is_down l.switches n) own on.0 in
+      let rest = reveal some (n + 1) up (omega (arith, long)) (rest_from names n name some are) on.1 in
+      record {
+        given = here.texts ∷ rest.given;
+        ports = ap (λ (ns : List ℕ). ns ∷ map (map (λ (text : Text). text.0)) rest.given) here.ports ∙ ap (λ (all : List (List ℕ)). map (λ (text : Text). text.0) own ∷ all) rest.ports;
+        shown = shows_append files (names_in (switch_folder path name) here.texts) (names_at path some rest.given) (bytes_of_captures here.texts) (bytes_at rest.given)
+            (subst (λ (m : List ℕ). ShowsAll files (names_in (switch_folder path m) here.texts) (bytes_of_captures here.texts)) (first_from names n name some are) here.shown) rest.shown;
+        up_is = ap (λ (texts : List Text). texts ∷ map (up_at l) (enumerate_from (n + 1) rest.given)) here.up_is ∙ ap (λ (all : Given). own ∷ all) rest.up_is;
+      }
+
+-- what readers of the captures under these names give is what was given there, but for switches that are down
+pub gave : {R : Type 0} (remaining : R → Option (List ℕ)) (files : Option Files) (path : List ℕ) (net : Network) (names : List (List ℕ)) (all : List (Incoming R)) (up : Given)
+    → length (names_of net.layout.switches) ≡ length net.tables → AreOpenedEnds remaining files path net names all → AreGivenBy (coming remaining) net all up
+    → (given : Given) × HasGiven files path (names_of net.layout.switches) given × AreGiven net given × (given_up net.layout given ≡ up)
+gave {R} remaining files path net names all up long opened by =
+    (found.given, found.shown, given_too net up found.given by.are found.ports, found.up_is) where
+      switches : Names
+      switches = names_of net.layout.switches
+
+      texts : List (List ℕ)
+      texts = flat_map (map (λ (text : Text). text.1)) up
+
+      many : length names ≡ length (open_ends net)
+      many = ap (λ (ns : List (List ℕ)). length ns) opened.named
+          ∙ length-map (open_ends net) (λ (e : End). capture_name (switch_folder path (name_of (names_of net.layout.switches) e.switch)) e.port)
+
+      same : ends_from net 0 net.tables ≡ ends_in 0 up
+      same = ends_are net 0 net.tables up by.are.no_more (given_at net up by.are)
+
+      at : (k : ℕ) (e : End) (text : List ℕ) → slice_get (open_ends net) k ≡ Some e → slice_get (flat_map (map (λ (text : Text). text.1)) up) k ≡ Some text
+          → IsUnder files path (names_of net.layout.switches) net.layout e text
+      at k e text is has =
+          let within = slice_get_within (open_ends net) k e is in
+          let readers = opened.opened.many in
+          let incoming = opened.come.many in
+          let r = there_at opened.readers k (omega (arith, within, many, readers)) in
+          let i = there_at all k (omega (arith, within, many, readers, incoming)) in
+          let name = capture_name (switch_folder path (name_of (names_of net.layout.switches) e.switch)) e.port in
+          let under : slice_get names k ≡ Some name =
+          ap (λ (ns : List (List ℕ)). slice_get ns k) opened.named ∙ name_there (open_ends net) k e is in
+          raw_of files name (remaining r.0) (is_down net.layout.switches e.switch) text (opened.opened.each k r.0 name r.1 under)
+          (subst (λ (o : Option (List ℕ)). AreAll o text) (opened.come.each k e r.0 i.0 is r.1 i.1) (by.read.each k i.0 text i.1 has)) where
+            name_there : (ends : List End) (k : ℕ) (e : End) → slice_get ends k ≡ Some e
+                → slice_get (end_names path (names_of net.layout.switches) ends) k ≡ Some (capture_name (switch_folder path (name_of (names_of net.layout.switches) e.switch)) e.port)
+            name_there [] k e is = absurd cc
+            name_there (x ∷ ends) zero e is = ap (λ (y : End). Some (capture_name (switch_folder path (name_of (names_of net.layout.switches) y.switch)) y.port)) (same_Some x e is)
+            name_there (x ∷ ends) (suc k) e is = name_there ends k e is
+
+      zip : AllZip (IsUnder files path (names_of net.layout.switches) net.layout) (open_ends net) (flat_map (map (λ (text : Text). text.1)) up)
+      zip = zip_places (IsUnder files path (names_of net.layout.switches) net.layout) (open_ends net) (flat_map (map (λ (text : Text). text.1)) up)
+          (let texts_many = by.read.many in let readers = opened.opened.many in let incoming = opened.come.many in omega (arith, texts_many, many, readers, incoming)) at
+
+      found : Revealed files path (names_of net.layout.switches) net.layout (names_of net.layout.switches) 0 up
+      found = reveal files path (names_of net.layout.switches) net.layout (names_of net.layout.switches) 0 up (long ∙ sym by.are.no_more) (all_from_start (names_of net.layout.switches))
+          (subst (λ (es : List End). AllZip (IsUnder files path (names_of net.layout.switches) net.layout) es (flat_map (map (λ (text : Text). text.1)) up)) same zip)

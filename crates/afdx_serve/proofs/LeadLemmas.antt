@@ -25,7 +25,7 @@ use Rattle.afdx_folder.specs.Input.{AreGiven}
 use Rattle.afdx_serve.specs.Runs.{capture_name, names_in, port_names, bytes_of_captures, inputs_of, HasPlan, HasCaptures, FailsToGet, FailsToGetAll, FailsToGather, GetsNamed}
 use Rattle.afdx_serve.specs.Inner.Outputs.{AreEmpty, HaveBytes}
 use Rattle.afdx_serve.specs.Inner.Leading.{IsPlanOf, AreOpened, AreOpenedPorts, IsInFiles, FailsToLeadFrom, IsLed}
-use Rattle.afdx_serve.specs.Inner.OpenPorts.{FailsToGetNamed}
+use Rattle.afdx_serve.specs.Inner.NotGot.{FailsToGetNamed}
 use Rattle.afdx_serve.proofs.FileLemmas.{KeepsFiles-refl, KeepsFiles-trans, ShowsAll-before, IsOpened-before}
 use Rattle.afdx_serve.proofs.GivenLemmas.{not_got_named}
 use Rattle.afdx_serve.proofs.PutLemmas.{have_bytes, written_back}
@@ -126,7 +126,7 @@ in_files contents a b t texts begun new len counts keeps empty long is = record 
   counted = is.counted;
 }
 
-have_before : {N : Type 0} (contents : N → Option (List ℕ)) (a b : Option Files) (files : List N) (all : List (List ℕ)) → KeepsFiles a b → HaveBytes contents b files all
+pub have_before : {N : Type 0} (contents : N → Option (List ℕ)) (a b : Option Files) (files : List N) (all : List (List ℕ)) → KeepsFiles a b → HaveBytes contents b files all
     → HaveBytes contents a files all
 have_before contents None b files all keeps have = tt
 have_before contents (Some f) None files all keeps have = absurd keeps

@@ -24,7 +24,8 @@ use Rattle.afdx_trace.specs.declared.shown.Selection.{Selection}
 use Rattle.afdx_messages.specs.declared.failure.Failure.{Failure}
 use Rattle.afdx_messages.specs.declared.failure.Failure.TheVariants as failure
 use Rattle.afdx_folder.specs.Files.{Files, DeviceLog, KeepsFiles, PutsFiles, one_more, settled_after}
-use Rattle.afdx_serve.specs.Runs.{inputs_of, IsRunOf, LeadsTo, names_in, bytes_of_captures, StopsAt, EndsAt, StopsRun, EndsRun, FailsToPut, FailsToEnd, FailsToRun, HasPlan, FailsToGetAll, FailsToGather, FailsToLead}
+use Rattle.afdx_serve.specs.Runs.{inputs_of, IsRunOf, LeadsTo, names_in, bytes_of_captures, StopsAt, EndsAt, StopsRun, EndsRun, FailsToPut, FailsToEnd, FailsToRun, HasPlan, FailsToGetAll}
+use Rattle.afdx_serve.specs.Runs.{FailsToGather, FailsToLead}
 use Rattle.afdx_serve.specs.Runs.{capture_name}
 use Rattle.afdx_serve.specs.Traces.{trace_names, trace_texts, IsTraceIn, PutsTrace, StopsTrace, EndsTrace, FailsToTrace}
 use Rattle.std.specs.Io.KnownBytes.{Keeps}
@@ -64,7 +65,8 @@ module _ (paths : Paths) (results : Results) (a b c : Option Files) (first befor
       (λ name. EndsRun name paths a c first after) ended (λ name. StopsRun name paths a c) stopped
 
   -- what was led to was not all put, and nothing was written
-  pub not_all : (options : RunOptions) (f : Failure) (w v : Option (List ℕ)) → Keeps w v → FailsToPut f (names_in paths.output.now results.captures) (bytes_of_captures results.captures) b c before after
+  pub not_all : (options : RunOptions) (f : Failure) (w v : Option (List ℕ)) → Keeps w v
+      → FailsToPut f (names_in paths.output.now results.captures) (bytes_of_captures results.captures) b c before after
       → FailsToRunAll f paths options (world w a first) (world v c after)
   not_all options (failure.Put name) w v none h = (not_put_run (failure.Put name) h, none)
   not_all options failure.Memory w v none h = (not_put_run failure.Memory h, none)

@@ -1,5 +1,5 @@
 pub mod Leading
 pub mod NetworkRunning
-pub mod OpenPorts
+pub mod NotGot
 pub mod Outputs
 pub mod Reports

@@ -5,7 +5,7 @@ ghost use Rattle.afdx_session.specs.Texts.{texts_of};
 ghost use Rattle.afdx_folder.specs.Files.{Shows, KeepsFiles, DeviceLog, IsCause};
 ghost use Rattle.afdx_serve.specs.Runs.{HasTable, HasCaptures, FailsToGet, FailsToGetAll, FailsToRead};
 ghost use Rattle.afdx_serve.specs.Inner.Leading.{AreOpened, AreOpenedPorts};
-ghost use Rattle.afdx_serve.specs.Inner.OpenPorts.{FailsToGetNamed};
+ghost use Rattle.afdx_serve.specs.Inner.NotGot.{FailsToGetNamed};
 
 use crate::names::{capture_name, port_names};
 use afdx_folder::{Folder, FolderFault};

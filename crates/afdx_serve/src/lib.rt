@@ -1,6 +1,19 @@
 //! What the program does with the arguments of its command line, over any reader, writers and folder.
 //!
 //! [`serve`] is the whole of it; the program `afdx` hands it the real ones.
+//!
+//! # Example
+//!
+//! From `crates/afdx_fixtures/src/commands.rt`:
+//!
+//! ```
+//! let arguments = split(alloc, line)?;
+//! let mut out = Vec::new(alloc);
+//! let mut err = Vec::new(alloc);
+//! let ending = serve(
+//!     alloc, VERSION, &arguments, &mut input, &mut out, &mut err, folder,
+//! );
+//! ```
 #![tactic(auto)]
 
 mod check;

@@ -1,37 +1,42 @@
 //! The command `network run`.
 
-ghost use Rattle.std.specs.Prelude.{◌≡◌, ◌≢◌, ◌++◌, List, length, map, filter, string_bytes, IfOk, IfErr, OnOk, MatchResult};
-ghost use Rattle.afdx_session.specs.Texts.{Text, texts_of};
-ghost use Rattle.afdx_network.specs.Given.{given_of, is_open, AreGiven, IsUncheckedRefusal, NoneShareAPort};
-ghost use Rattle.afdx_network.specs.Outage.{given_up};
-ghost use Rattle.afdx_folder.specs.Files.{KeepsFiles};
-ghost use Rattle.afdx_serve.specs.Runs.{capture_name, bytes_of_captures};
+ghost use Rattle.std.specs.Prelude.{◌≡◌, ◌≢◌, ◌++◌, ℕ, List, length, map, string_bytes, Option, IfOk, IfErr, OnOk, MatchResult};
+ghost use Rattle.afdx_session.specs.Outcome.{Results};
+ghost use Rattle.afdx_session.specs.Written.{AreAppended};
+ghost use Rattle.afdx_wiring.specs.Net.{Network};
+ghost use Rattle.afdx_network.specs.Runs.{Given};
+ghost use Rattle.afdx_network.specs.Given.{open_ends, all_ends, AreGivenBy, IsUncheckedRefusal, IsFaultOver, NoneShareAPort};
+ghost use Rattle.afdx_network.specs.Outage.{coming};
+ghost use Rattle.afdx_network.specs.declared.outage.Incoming.{Incoming as Coming};
+ghost use Rattle.afdx_network.specs.Written.{captures_in, AreWritten};
+ghost use Rattle.afdx_folder.specs.Files.{Files, KeepsFiles};
 ghost use Rattle.afdx_serve.specs.Networks.{names_of};
-ghost use Rattle.afdx_serve.specs.NetworkRuns.{switch_folder, names_at, bytes_at, captures_of, reports_of, switch_rows, runs_text, HasGiven, FailsToGetGiven};
-ghost use Rattle.afdx_serve.specs.Inner.OpenPorts.{HasOpen, FailsToGetNamed};
-ghost use Rattle.afdx_serve.specs.Inner.NetworkRunning.{network_in, IsRunFailure, HasRun, FailsToLeadGiven};
+ghost use Rattle.afdx_serve.specs.NetworkRuns.{switch_folder, bytes_at, captures_of, reports_of, switch_rows, runs_text, HasGiven, FailsToGetGiven};
+ghost use Rattle.afdx_serve.specs.Inner.Leading.{AreOpened};
+ghost use Rattle.afdx_serve.specs.Inner.Outputs.{HaveBytes};
+ghost use Rattle.afdx_serve.specs.Inner.NetworkRunning.{network_in, end_names, AreOpenedEnds, HasRun, LeadsFrom, IsCaptureFailure};
 ghost use Rattle.afdx_serve.specs.Serving.{world, RunsNetwork, FailsToRunNetwork};
 
-use crate::get::get;
-use crate::names::{capture_name, names_in};
+use crate::get::{get_failure, open_all};
+use crate::names::capture_name;
 use crate::network_get::{get_network, names_of};
 use crate::network_plan::{NetworkPlan, plan};
-use crate::outputs::put_texts;
+use crate::outputs::{abandon_all, begin_all, put_all};
 use afdx_arguments::NetworkPaths;
+use afdx_count::Counts;
 use afdx_csv::{Form, put_heading};
-use afdx_folder::{Folder, write_bytes};
+use afdx_folder::{Folder, NewFile, write_bytes};
 use afdx_messages::{Failure, NetworkFailure};
 use afdx_network::laws::{network_runs_deliver, runs_are_unchecked};
-use afdx_network::{NetworkRunFault, Texts, given_up, is_open};
+use afdx_network::{NetworkRunFault, all_ends, incoming_at, open_ends};
 use afdx_network_report::{name_of, push_report};
+use afdx_pcap::PcapFault;
 use afdx_rows::{NETWORK_RUN, put_counts};
-use afdx_session::Outcome;
-use afdx_table::Table;
 use afdx_table::laws::tables_are_well_formed;
-use afdx_wiring::Network;
+use afdx_wiring::End;
 use afdx_wiring::laws::{layouts_are_within_limits, no_port_has_two_wires};
 use std::alloc::{AllocError, Global};
-use std::io::Write;
+use std::io::{Read, Write};
 
 /// The folder of a switch's captures in a folder.
 fn switch_folder(alloc: Global, folder: &str, name: &str) -> Result<String, AllocError>
@@ -43,110 +48,92 @@ fn switch_folder(alloc: Global, folder: &str, name: &str) -> Result<String, Allo
     Ok(path)
 }
 
-/// The captures of the ports of a switch to which no wire goes, by rising number, from this folder.
-fn get_open<F: Folder>(
+/// The names of the captures of these ports in a folder, each in that of its switch, which has its name.
+fn names_at(
     alloc: Global,
-    folder: &mut F,
-    path: &str,
-    network: &Network,
-    switch: usize,
-    table: &Table,
-) -> Result<Texts, Failure>
-    ensures got { MatchResult result
-        (λ texts. HasOpen (F.files folder.old) path.now network.now switch table.now (texts_of texts.items) × (F.failed folder.new ≡ F.failed folder.old))
-        (λ f. FailsToGetNamed f (F.files folder.old) (map (capture_name path.now) (filter (is_open network.now switch) (map (λ p. p.id) table.now.ports)))
-        (F.failed folder.old) (F.failed folder.new)) }
-    ensures same { KeepsFiles (F.files folder.old) (F.files folder.new) }
-{
-    let mut texts = Vec::new(alloc);
-    for row in table.ports() {
-        if is_open(network, switch, row.id) {
-            let name = capture_name(alloc, path, row.id)?;
-            let text = get(alloc, folder, &name)?;
-            texts.push((row.id, text))?;
-        }
-    }
-    Ok(texts)
-}
-
-/// Those of each switch, by its name in this folder.
-fn get_given<F: Folder>(
-    alloc: Global,
-    folder: &mut F,
     path: &str,
     names: &[String],
-    network: &Network,
-) -> Result<Vec<Texts>, Failure>
-    requires names { map string_bytes names.now ≡ names_of network.now.layout.switches }
-    requires tables { length network.now.tables ≡ length network.now.layout.switches }
-    ensures got { MatchResult result
-        (λ given. (HasGiven (F.files folder.old) path.now (names_of network.now.layout.switches) (given_of given.items)
-        × AreGiven network.now (given_of given.items)) × (F.failed folder.new ≡ F.failed folder.old))
-        (λ f. FailsToGetGiven f (F.files folder.old) path.now network.now (F.failed folder.old) (F.failed folder.new)) }
-    ensures same { KeepsFiles (F.files folder.old) (F.files folder.new) }
+    ends: &[End],
+) -> Result<Vec<String>, AllocError>
+    ensures { IfOk result (λ all. map string_bytes all.items ≡ end_names path.now (map string_bytes names.now) ends.now) }
 {
-    let mut given = Vec::new(alloc);
-    for (switch, table) in network.tables().iter().enumerate() {
-        let switch_path = switch_folder(alloc, path, name_of(names, switch))?;
-        given.push(get_open(alloc, folder, &switch_path, network, switch, table)?)?;
+    let mut all = Vec::with_capacity(alloc, ends.len())?;
+    for end in ends {
+        let folder = switch_folder(alloc, path, name_of(names, end.switch))?;
+        all.push(capture_name(alloc, &folder, end.port)?)?;
     }
-    Ok(given)
+    Ok(all)
 }
 
-/// The failure of a run, with the name of its switch among these.
-fn run_failure(alloc: Global, names: &[String], fault: NetworkRunFault) -> Failure
-    requires { fault ≢ NetworkRunFault.WrongWires }
-    ensures { IsRunFailure (map string_bytes names.now) fault result }
+/// The failure of the capture of a port of the switch at a place among these names.
+fn capture_failure(
+    alloc: Global,
+    names: &[String],
+    switch: usize,
+    port: u8,
+    why: PcapFault,
+) -> Failure
+    ensures { IsCaptureFailure (map string_bytes names.now) switch port why result }
+{
+    match String::from_str(alloc, name_of(names, switch)) {
+        Ok(name) => Failure::Network(NetworkFailure::Capture(port, why, name)),
+        Err(_) => Failure::Memory,
+    }
+}
+
+/// The failure that a fault of a run leads to, over captures that were opened under these names.
+fn run_failure<F: Folder>(
+    alloc: Global,
+    folder: &mut F,
+    names: &[String],
+    opened: &[String],
+    fault: NetworkRunFault,
+) -> Failure
+    requires wires { fault ≢ NetworkRunFault.WrongWires }
+    requires of { (files : Option Files) × (path : List ℕ) × (net : Network) × (all : List (Coming F.Opened))
+        × AreOpenedEnds F.Opened.remaining files path net (map string_bytes opened.now) all
+        × IsFaultOver (coming F.Opened.remaining) net all (IsUncheckedRefusal net) fault }
+    ensures failed { (files : Option Files) (path : List ℕ) (net : Network) (all : List (Coming F.Opened))
+        → map string_bytes names.now ≡ names_of net.layout.switches → length net.tables ≡ length net.layout.switches
+        → AreOpenedEnds F.Opened.remaining files path net (map string_bytes opened.now) all
+        → IsFaultOver (coming F.Opened.remaining) net all (IsUncheckedRefusal net) fault
+        → FailsToGetGiven result files path net (F.failed folder.old) (F.failed folder.new) }
+    ensures same { KeepsFiles (F.files folder.old) (F.files folder.new) }
 {
     match fault {
         NetworkRunFault::Memory => Failure::Memory,
         // No two wires of a file go to one port.
         NetworkRunFault::WrongWires => unreachable!(),
-        // Exactly the captures of the ports without a wire are got, so that this is not met.
-        NetworkRunFault::WrongPorts(_) => Failure::Usage,
-        NetworkRunFault::Capture(switch, port, fault) => {
-            match String::from_str(alloc, name_of(names, switch)) {
-                Ok(name) => Failure::Network(NetworkFailure::Capture(port, fault, name)),
-                Err(_) => Failure::Memory,
-            }
+        NetworkRunFault::Read(place) => {
+            let name = &opened[place];
+            let fault = folder.note_unread(name);
+            get_failure(alloc, name, fault)
+        }
+        NetworkRunFault::Capture(switch, port, why) => {
+            capture_failure(alloc, names, switch, port, why)
         }
     }
 }
 
-/// What the switches of a plan lead to, over these captures.
-fn outcomes_of(
+/// The counts of the switches of a plan, over what these readers give; what leaves goes to these files.
+fn counts_of<R: Read, N: NewFile>(
     alloc: Global,
     plan: &NetworkPlan,
-    given: Vec<Texts>,
-) -> Result<Vec<Outcome<Global>>, NetworkRunFault>
-    ensures ok { IfOk result (λ outcomes. HasRun plan.now (given_of given.items) outcomes.items) }
-    ensures err { IfErr result (IsUncheckedRefusal (network_in plan.now) (given_of given.items)) }
+    readers: &mut [R],
+    files: &mut [N],
+) -> Result<Vec<Counts<Global>>, NetworkRunFault>
+    requires readers { length readers.old ≡ length (open_ends (network_in plan.now)) }
+    requires files { length files.old ≡ length (all_ends (network_in plan.now)) }
+    ensures ok { IfOk result (λ counts. (given : Given) × (left : List Results) × AreGivenBy R.remaining (network_in plan.now) readers.old given
+        × HasRun plan.now given left × AreWritten N.contents left files.old files.new counts.items) }
+    ensures err { IfErr result (IsFaultOver R.remaining (network_in plan.now) readers.old (IsUncheckedRefusal (network_in plan.now))) }
 {
     runs_are_unchecked();
     match plan {
-        NetworkPlan::Unchecked(network) => afdx_network::run_unchecked(alloc, network, given),
-        NetworkPlan::Accepted(cleared) => afdx_network::run(alloc, cleared, given),
-    }
-}
-
-/// What the captures lead to at each switch, without those of switches that are down.
-fn lead(
-    alloc: Global,
-    names: &[String],
-    plan: &NetworkPlan,
-    given: Vec<Texts>,
-) -> Result<Vec<Outcome<Global>>, Failure>
-    requires names { map string_bytes names.now ≡ names_of (network_in plan.now).layout.switches }
-    requires given { AreGiven (network_in plan.now) (given_of given.items) }
-    requires one_each { NoneShareAPort (network_in plan.now) }
-    ensures { MatchResult result
-        (λ outcomes. HasRun plan.now (given_up (network_in plan.now).layout (given_of given.items)) outcomes.items)
-        (λ f. FailsToLeadGiven f (network_in plan.now) (given_up (network_in plan.now).layout (given_of given.items))) }
-{
-    let up = given_up(alloc, plan.network(), given)?;
-    match outcomes_of(alloc, plan, up) {
-        Ok(outcomes) => Ok(outcomes),
-        Err(fault) => Err(run_failure(alloc, names, fault)),
+        NetworkPlan::Unchecked(network) => {
+            afdx_network::run_unchecked(alloc, network, readers, files)
+        }
+        NetworkPlan::Accepted(cleared) => afdx_network::run(alloc, cleared, readers, files),
     }
 }
 
@@ -154,14 +141,14 @@ fn lead(
 fn reports(
     alloc: Global,
     names: &[String],
-    outcomes: &[Outcome<Global>],
+    counts: &[Counts<Global>],
 ) -> Result<Vec<u8>, AllocError>
-    requires { length names.now ≡ length outcomes.now }
-    ensures { IfOk result (λ text. text.items ≡ reports_of (map string_bytes names.now) outcomes.now) }
+    requires { length names.now ≡ length counts.now }
+    ensures { (left : List Results) → counts.now ≡ map (λ r. r.counts) left → IfOk result (λ text. text.items ≡ reports_of (map string_bytes names.now) left) }
 {
     let mut text = Vec::new(alloc);
-    for (switch, outcome) in outcomes.iter().enumerate() {
-        let report = outcome.counts.report(alloc)?;
+    for (switch, own) in counts.iter().enumerate() {
+        let report = own.report(alloc)?;
         push_report(&mut text, name_of(names, switch), &report)?;
     }
     Ok(text)
@@ -171,13 +158,13 @@ fn reports(
 fn put_switches(
     text: &mut String,
     names: &[String],
-    outcomes: &[Outcome<Global>],
+    counts: &[Counts<Global>],
 ) -> Result<(), AllocError>
-    requires { length names.now ≡ length outcomes.now }
-    ensures { OnOk result (string_bytes text.new ≡ string_bytes text.old ++ switch_rows (map string_bytes names.now) outcomes.now) }
+    requires { length names.now ≡ length counts.now }
+    ensures { (left : List Results) → counts.now ≡ map (λ r. r.counts) left → OnOk result (string_bytes text.new ≡ string_bytes text.old ++ switch_rows (map string_bytes names.now) left) }
 {
-    for (switch, outcome) in outcomes.iter().enumerate() {
-        put_counts(text, NETWORK_RUN, name_of(names, switch), &outcome.counts)?;
+    for (switch, own) in counts.iter().enumerate() {
+        put_counts(text, NETWORK_RUN, name_of(names, switch), own)?;
     }
     Ok(())
 }
@@ -186,14 +173,14 @@ fn put_switches(
 fn runs_rows(
     alloc: Global,
     names: &[String],
-    outcomes: &[Outcome<Global>],
+    counts: &[Counts<Global>],
 ) -> Result<Vec<u8>, AllocError>
-    requires { length names.now ≡ length outcomes.now }
-    ensures { IfOk result (λ text. text.items ≡ runs_text Form.Csv (map string_bytes names.now) outcomes.now) }
+    requires { length names.now ≡ length counts.now }
+    ensures { (left : List Results) → counts.now ≡ map (λ r. r.counts) left → IfOk result (λ text. text.items ≡ runs_text Form.Csv (map string_bytes names.now) left) }
 {
     let mut text = String::new(alloc);
     put_heading(&mut text, NETWORK_RUN)?;
-    put_switches(&mut text, names, outcomes)?;
+    put_switches(&mut text, names, counts)?;
     Ok(text.into_bytes())
 }
 
@@ -202,66 +189,91 @@ fn runs_text(
     alloc: Global,
     form: Form,
     names: &[String],
-    outcomes: &[Outcome<Global>],
+    counts: &[Counts<Global>],
 ) -> Result<Vec<u8>, AllocError>
-    requires { length names.now ≡ length outcomes.now }
-    ensures { IfOk result (λ text. text.items ≡ runs_text form (map string_bytes names.now) outcomes.now) }
+    requires { length names.now ≡ length counts.now }
+    ensures { (left : List Results) → counts.now ≡ map (λ r. r.counts) left → IfOk result (λ text. text.items ≡ runs_text form (map string_bytes names.now) left) }
 {
     match form {
-        Form::Lines => reports(alloc, names, outcomes),
-        Form::Csv => runs_rows(alloc, names, outcomes),
+        Form::Lines => reports(alloc, names, counts),
+        Form::Csv => runs_rows(alloc, names, counts),
     }
 }
 
-/// The names of the captures of all switches, each in its switch's folder.
-fn output_names(
+/// What the captures of a folder lead to, each of which is opened and read once, or not read where its switch is down: what leaves goes
+/// to these files, and these are the reports.
+fn reports_of_folder<F: Folder>(
     alloc: Global,
+    folder: &mut F,
     path: &str,
     names: &[String],
-    outcomes: &[Outcome<Global>],
-) -> Result<Vec<String>, AllocError>
-    requires { length names.now ≡ length outcomes.now }
-    ensures { IfOk result (λ all. map string_bytes all.items ≡ names_at path.now (map string_bytes names.now) (captures_of outcomes.now)) }
+    plan: &NetworkPlan,
+    form: Form,
+    files: &mut [F::New],
+) -> Result<Vec<u8>, Failure>
+    requires names { map string_bytes names.now ≡ names_of (network_in plan.now).layout.switches }
+    requires tables { length (network_in plan.now).tables ≡ length (network_in plan.now).layout.switches }
+    requires one_each { NoneShareAPort (network_in plan.now) }
+    requires files { length files.old ≡ length (all_ends (network_in plan.now)) }
+    ensures led { MatchResult result
+        (λ text. ((left : List Results) × LeadsFrom (F.files folder.old) path.now plan.now left
+        × AreAppended F.New.contents files.old files.new (captures_in left) × (text.items ≡ runs_text form (names_of (network_in plan.now).layout.switches) left))
+        × (F.failed folder.new ≡ F.failed folder.old))
+        (λ f. FailsToGetGiven f (F.files folder.old) path.now (network_in plan.now) (F.failed folder.old) (F.failed folder.new)) }
+    ensures same { KeepsFiles (F.files folder.old) (F.files folder.new) }
 {
-    let mut all = Vec::new(alloc);
-    for (switch, outcome) in outcomes.iter().enumerate() {
-        let switch_path = switch_folder(alloc, path, name_of(names, switch))?;
-        let mut own = names_in(alloc, &switch_path, &outcome.captures)?;
-        all.append(&mut own)?;
+    let ends = open_ends(alloc, plan.network())?;
+    let opened_names = names_at(alloc, path, names, &ends)?;
+    let opened = open_all(alloc, folder, &opened_names)?;
+    let mut all = incoming_at(alloc, plan.network(), &ends, opened)?;
+    match counts_of(alloc, plan, &mut all, files) {
+        Ok(counts) => Ok(runs_text(alloc, form, names, &counts)?),
+        Err(fault) => Err(run_failure(alloc, folder, names, &opened_names, fault)),
     }
-    Ok(all)
 }
 
-/// Adds the texts of captures to others.
-fn push_texts(texts: &mut Vec<Vec<u8>>, captures: Texts) -> Result<(), AllocError>
-    ensures { OnOk result (map (λ text. text.items) texts.new.items ≡ map (λ text. text.items) texts.old.items ++ bytes_of_captures (texts_of captures.items)) }
+/// What the captures of a folder lead to: new files to be put under these names, and the reports. After an error no new file is left.
+fn lead<F: Folder>(
+    alloc: Global,
+    folder: &mut F,
+    path: &str,
+    names: &[String],
+    plan: &NetworkPlan,
+    form: Form,
+    outputs: &[String],
+) -> Result<(Vec<F::New>, Vec<u8>), Failure>
+    requires names { map string_bytes names.now ≡ names_of (network_in plan.now).layout.switches }
+    requires tables { length (network_in plan.now).tables ≡ length (network_in plan.now).layout.switches }
+    requires one_each { NoneShareAPort (network_in plan.now) }
+    requires outputs { length outputs.now ≡ length (all_ends (network_in plan.now)) }
+    ensures led { MatchResult result
+        (λ both. ((left : List Results) × LeadsFrom (F.files folder.old) path.now plan.now left
+        × HaveBytes F.New.contents (F.files folder.old) both.0.items (bytes_at (captures_of left)) × (both.1.items ≡ runs_text form (names_of (network_in plan.now).layout.switches) left))
+        × (F.failed folder.new ≡ F.failed folder.old))
+        (λ f. FailsToGetGiven f (F.files folder.old) path.now (network_in plan.now) (F.failed folder.old) (F.failed folder.new)) }
+    ensures count { IfOk result (λ both. length both.0.items ≡ length outputs.now) }
+    ensures same { KeepsFiles (F.files folder.old) (F.files folder.new) }
 {
-    for capture in captures {
-        let (_port, text) = capture;
-        texts.push(text)?;
+    let mut files = begin_all(alloc, folder, outputs)?;
+    match reports_of_folder(alloc, folder, path, names, plan, form, &mut files) {
+        Ok(text) => Ok((files, text)),
+        Err(failure) => {
+            abandon_all(folder, files.into_iter());
+            Err(failure)
+        }
     }
-    Ok(())
-}
-
-/// The texts of the captures of all switches.
-fn output_texts(alloc: Global, outcomes: Vec<Outcome<Global>>) -> Result<Vec<Vec<u8>>, AllocError>
-    ensures { IfOk result (λ texts. map (λ text. text.items) texts.items ≡ bytes_at (captures_of outcomes.items)) }
-{
-    let mut texts = Vec::new(alloc);
-    for outcome in outcomes {
-        push_texts(&mut texts, outcome.captures)?;
-    }
-    Ok(texts)
 }
 
 /// Runs the network of a file over the captures of a folder, puts what leaves each switch into another, and writes the
 /// report of each switch, with its name before each line, or in the first column of each row.
 ///
 /// IN/A has the captures of the ports of switch A to which no wire goes; those of all its ports are put into OUT/A, which has
-/// to be there. The network is accepted before a capture is got, unless the run is unchecked, and all captures are got before the
-/// first switch runs. Nothing comes in at a switch that is down: its captures are got, and what they hold is not looked at. All
-/// names and reports are made before the first put, and the device has all files by then: where it fails to take one, none is
-/// put. After a put that failed the files before it are there, and no later one is put.
+/// to be there. The network is accepted before a file is begun, unless the run is unchecked. Then a new file is begun for each output, by
+/// switch and port, and the captures are opened in this order, and read once, in pieces, while the switches run. Where one cannot be read
+/// or has a fault, the others are read on to their ends, so that the failure is the first in this order. What leaves goes to the new files;
+/// then these are put in the same order, and then the reports are written. All names and reports are made before the first put, and the
+/// device has all files by then: where it fails to take one, none is put. After a put that failed the files before it are there, and no
+/// later one is put. New files that are not put are let go.
 ///
 /// # Errors
 ///
@@ -289,12 +301,10 @@ pub(crate) fn network_run<O: Write, F: Folder>(
     let network = get_network(alloc, folder, paths.network)?;
     let names = names_of(alloc, &network.layout().switches)?;
     let plan = plan(alloc, &names, network, paths.unchecked)?;
-    let given = get_given(alloc, folder, paths.input, &names, plan.network())?;
-    let outcomes = lead(alloc, &names, &plan, given)?;
-    let files = output_names(alloc, paths.output, &names, &outcomes)?;
-    let text = runs_text(alloc, form, &names, &outcomes)?;
-    let texts = output_texts(alloc, outcomes)?;
-    put_texts(alloc, folder, &files, &texts)?;
+    let ends = all_ends(alloc, plan.network())?;
+    let outputs = names_at(alloc, paths.output, &names, &ends)?;
+    let (files, text) = lead(alloc, folder, paths.input, &names, &plan, form, &outputs)?;
+    put_all(alloc, folder, &outputs, files)?;
     write_bytes(out, &text)?;
     Ok(())
 }

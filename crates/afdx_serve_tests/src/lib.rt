@@ -14,6 +14,8 @@ mod networks;
 #[cfg(test)]
 mod policing;
 #[cfg(test)]
+mod progress;
+#[cfg(test)]
 mod recordings;
 #[cfg(test)]
 mod streams;

@@ -3,7 +3,7 @@
 use afdx_alone::AloneFault;
 use afdx_folder::FolderFault;
 use afdx_load::{LoadFault, Rule};
-use afdx_messages::Failure;
+use afdx_messages::{Failure, report};
 use afdx_pcap::PcapFault;
 use afdx_table::TableFault;
 use std::alloc::{AllocError, Global};
@@ -78,4 +78,15 @@ fn failures_are_named(rt: HostRuntime) {
     let files = files_are_named(rt.alloc()) == Ok(true);
     let others = others_are_named(rt.alloc()) == Ok(true);
     assert!(rt; inputs && files && others);
+}
+
+#[test]
+fn line_of_a_failure(rt: HostRuntime) {
+    // example of afdx_messages
+    let mut line = Vec::new(rt.alloc());
+    let ending = report(rt.alloc(), &Failure::Usage, false, &mut line);
+    assert!(rt;
+        ending.status == 2 && ending.is_told && line.as_slice() == b"afdx: usage\n".as_slice()
+    );
+    // end of example
 }

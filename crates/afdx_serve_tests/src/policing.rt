@@ -15,15 +15,18 @@ fn link() -> Option<Alone> {
 
 /// What these arguments ask for, where it is the policing of one link.
 fn link_in(alloc: Global, line: &str) -> Result<Option<Alone>, AllocError> {
+    // example of afdx_arguments
     let arguments = split(alloc, line)?;
     match parse(alloc, VERSION, &arguments) {
         Ok(Request::Alone(link)) => Ok(Some(link)),
         _ => Ok(None),
     }
+    // end of example
 }
 
 /// Whether the frame that comes a nanosecond early is policed, and no other.
 fn polices(alloc: Global, link: &Alone) -> Result<bool, AllocError> {
+    // example of afdx_alone
     let early = large(10, 999_999);
     let input = capture(alloc, &[large(10, 0), early, large(10, 1_000_000)])?;
     let want = capture(alloc, &[large(10, 0), large(10, 1_000_000)])?;
@@ -31,6 +34,7 @@ fn polices(alloc: Global, link: &Alone) -> Result<bool, AllocError> {
         Ok(passed) => Ok(passed.as_slice() == want.as_slice()),
         Err(_) => Ok(false),
     }
+    // end of example
 }
 
 #[test]

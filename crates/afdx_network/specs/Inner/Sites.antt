@@ -1,5 +1,5 @@
 -- A network in the course of a run: what came in at each switch so far, and what left it.
-use Rattle.std.specs.Prelude.{◌≡◌, ◌+◌, ◌-◌, ◌*◌, ◌<◌, ◌≤◌, ◌∷◌, ◌++◌, nat_lt, Bool, false, if◌then◌else◌, min, ℕ, List, [], length, map, filter, set, slice_get, slice_set, Option, Some, None}
+use Rattle.std.specs.Prelude.{◌≡◌, ◌+◌, ◌-◌, ◌*◌, ◌<◌, ◌≤◌, ◌∷◌, ◌++◌, nat_lt, Bool, false, if◌then◌else◌, min, ℕ, List, [], length, map, flat_map, set, slice_get, slice_set, Option, Some, None}
 use Rattle.std.specs.Prelude.{option_and_then, All, Contains}
 use Rattle.std.specs.Prelude.{Result, MatchResult}
 use Rattle.std.specs.List.{AllByRecursion, position_or_len}
@@ -11,10 +11,9 @@ use Rattle.afdx_pcap.specs.Capture.{IsCapture}
 use Rattle.afdx_table.specs.declared.rows.PortRow.{PortRow}
 use Rattle.afdx_table.specs.Content.{Content, port_row}
 use Rattle.afdx_table.specs.WellFormed.{IsWellFormed}
+use Rattle.afdx_count.specs.Tally.{Tally}
 use Rattle.afdx_count.specs.Run.{counts_of}
-use Rattle.afdx_core.specs.Merge.{Capture}
 use Rattle.afdx_session.specs.Texts.{Text}
-use Rattle.afdx_session.specs.Reading.{AreCaptures}
 use Rattle.afdx_session.specs.Output.{rows_of}
 use Rattle.afdx_session.specs.Outcome.{Results}
 use Rattle.afdx_paced.specs.Paced.{Lane, Paced, fresh_paced, lane_at, arrivals, out_up_to, put_refusal, after_put, after_going, GoesOut, NoneGoesOut, IsNext}
@@ -29,10 +28,12 @@ use Rattle.afdx_load.specs.Accepted.{IsAccepted}
 use Rattle.afdx_network.specs.Runs.{Given}
 use Rattle.afdx_network.specs.Given.{NoneIsLateAnywhere}
 
--- a switch that is fed by time, the captures of what left its ports so far, and an instant before which nothing happens there
+-- a switch that is fed by time, the captures of what left its ports so far, how much of each has gone to its file, and an instant before
+-- which nothing happens there
 pub record Site : Type 0 where
   pub paced : Paced
   pub left : List Text
+  pub gone : List (List ℕ)
   pub next : Option ℕ
 
 -- the earlier of two instants, of which there may be one alone
@@ -191,11 +192,11 @@ abbrev pub IsFirst : List Site → Option ℕ → Type 0
 IsFirst sites None = All (λ s. s.next ≡ None) sites
 IsFirst sites (Some n) = All (λ s. acts_before n s.next ≡ false) sites
 
--- the switches before the first window: all that was given came in, and nothing left
-pub record AreStarted (net : Network) (given : Given) (sites : List Site) : Type 0 where
+-- the switches between two windows: all have come to an instant, and what was given so far came in
+pub record HaveCome (net : Network) (given : Given) (h : ℕ) (sites : List Site) : Type 0 where
   pub carried : AreCarried net given sites
   pub one_each : All (λ w. wire_to net w.to ≡ Some w) net.layout.wires
-  pub come : All (HasCome 0) sites
+  pub come : All (HasCome h) sites
 
 -- a switch has a port's capture at this place
 pub record IsPortAt (sites : List Site) (e : End) (place : ℕ) : Type 0 where
@@ -208,53 +209,20 @@ pub record IsPortAt (sites : List Site) (e : End) (place : ℕ) : Type 0 where
 
 -- a record came in at a port
 abbrev pub after_putting : ℕ → Record → Site → Site
-after_putting port frame s = record { paced = after_put port frame s.paced; left = s.left; next = Some (earlier s.next frame.stamp) }
-
--- these records came in at a port, one after the other
-abbrev pub after_all : ℕ → List Record → Site → Site
-after_all port [] s = s
-after_all port (r ∷ rs) s = after_all port rs (after_putting port r s)
-
--- a port takes these records, one after the other
-abbrev pub AllTake : ℕ → List Record → Paced → Type 0
-AllTake port [] v = Unit {0}
-AllTake port (r ∷ rs) v = (put_refusal v port r.stamp ≡ None) × AllTake port rs (after_put port r v)
+after_putting port frame s = record { paced = after_put port frame s.paced; left = s.left; gone = s.gone; next = Some (earlier s.next frame.stamp) }
 
 -- a switch at which nothing came in
 pub record IsFresh (t : Content) (s : Site) : Type 0 where
   pub paced : s.paced ≡ fresh_paced t
   pub left : s.left ≡ map (λ p. (p.id, capture_text [])) t.ports
+  pub gone : s.gone ≡ map (λ p. []) t.ports
   pub next : IsNext s.paced s.next
-
--- nothing came in at a port of a switch that has not gone anywhere
-pub record IsSilent (port : ℕ) (v : Paced) : Type 0 where
-  pub lane : Lane
-  pub lane_is : lane_at v port ≡ Some lane
-  pub none : lane.came ≡ []
-  pub start : v.reached ≡ 0
-
--- what was read for several ports came in, port by port
-abbrev pub after_reads : List Capture → Site → Site
-after_reads [] s = s
-after_reads (c ∷ read) s = after_reads read (after_all c.port c.records s)
-
--- captures for some of a table's ports, by rising number
-pub record AreForPorts (t : Content) (texts : List Text) : Type 0 where
-  pub chosen : ℕ → Bool
-  pub are : map (λ text. text.0) texts ≡ filter chosen (map (λ p. p.id) t.ports)
-
--- these captures came in at a switch at which nothing came in before
-pub record HasRead (t : Content) (own : List Text) (s : Site) : Type 0 where
-  pub fresh : Site
-  pub is_fresh : IsFresh t fresh
-  pub read : List Capture
-  pub are_read : AreCaptures own read
-  pub after : s ≡ after_reads read fresh
 
 -- the switch went to an instant, and next is another one
 pub record WentTo (h : ℕ) (old new : Site) : Type 0 where
   pub paced : new.paced ≡ after_going h old.paced
   pub left : new.left ≡ old.left
+  pub gone : new.gone ≡ old.gone
   pub next : IsNext new.paced new.next
 
 -- the next record that left the port at a place, or none, went to its capture
@@ -263,16 +231,39 @@ pub record HandsOut (old new : Site) (place port : ℕ) (out : Record) : Type 0 
   pub text : List ℕ
   pub was : slice_get old.left place ≡ Some (port, text)
   pub left : new.left ≡ set old.left place (port, text ++ record_text out)
+  pub gone : new.gone ≡ old.gone
   pub next : new.next ≡ old.next
 
 abbrev pub IsHandedOut : Site → Site → (place port : ℕ) → Option Record → Type 0
-IsHandedOut old new place port None = NoneGoesOut old.paced new.paced port × (new.left ≡ old.left) × (new.next ≡ old.next)
+IsHandedOut old new place port None = NoneGoesOut old.paced new.paced port × (new.left ≡ old.left) × (new.gone ≡ old.gone) × (new.next ≡ old.next)
 IsHandedOut old new place port (Some out) = HandsOut old new place port out
+
+-- what has gone to the files of a switch may be more; it is as it was else
+pub record HandsOver (old new : Site) : Type 0 where
+  pub paced : new.paced ≡ old.paced
+  pub left : new.left ≡ old.left
+  pub next : new.next ≡ old.next
+  pub long : length new.gone ≡ length old.gone
+
+-- what has gone to the files of each switch, and of all of them
+abbrev pub gone_at : List Site → List (List (List ℕ))
+gone_at sites = map (λ s. s.gone) sites
+
+abbrev pub gone_of : List Site → List (List ℕ)
+gone_of sites = flat_map (λ all. all) (gone_at sites)
+
+-- the whole captures of all switches
+abbrev pub texts_of : List Site → List (List ℕ)
+texts_of sites = flat_map (λ s. map (λ text. text.1) s.left) sites
 
 -- a switch from which all has left has led to these captures and counts
 pub record HasLed (s : Site) (results : Results) : Type 0 where
   pub captures : results.captures ≡ s.left
   pub counts : results.counts ≡ counts_of s.paced.table (rows_of s.paced.table (arrivals s.paced))
+
+-- the counts of what came in at these switches
+abbrev pub counts_at : List Site → List Tally
+counts_at sites = map (λ s. counts_of s.paced.table (rows_of s.paced.table (arrivals s.paced))) sites
 
 -- the port at a wire's end takes a record that much later
 pub record CanCome (sites : List Site) (w : Wire) (frame : Record) : Type 0 where
@@ -293,7 +284,7 @@ pub record CameOver (old new : List Site) (w : Wire) (frame : Record) : Type 0 w
 abbrev pub IsLateFault : Wire → Record → NetworkRunFault → Type 0
 IsLateFault w frame fault.Memory = Unit {0}
 IsLateFault w frame (fault.Capture switch port why) = (switch ≡ w.to.switch) × (port ≡ w.to.port) × (last_second ≤ frame.stamp + w.delay)
-IsLateFault w frame (fault.WrongPorts switch) = ⊥
+IsLateFault w frame (fault.Read place) = ⊥
 IsLateFault w frame fault.WrongWires = ⊥
 
 -- a switch goes on within a window: nothing that leaves it up to the window's end becomes more, and no less has left

@@ -1,19 +1,25 @@
 -- A network's run: what it is made over, what that leads to, and its failures.
-use Rattle.std.specs.Prelude.{◌≡◌, ℕ, Bool, true, false, List, string_bytes}
+use Rattle.std.specs.Prelude.{◌≡◌, ℕ, Bool, true, false, List, map, Option, string_bytes}
+use Rattle.afdx_pcap.specs.declared.fault.PcapFault.{PcapFault}
 use Rattle.afdx_session.specs.Texts.{Text}
 use Rattle.afdx_session.specs.Outcome.{Results}
+use Rattle.afdx_wiring.specs.declared.layout.End.{End}
 use Rattle.afdx_wiring.specs.Net.{Network}
 use Rattle.afdx_network.specs.Runs.{Given, IsRunOf, IsUncheckedRunOf}
-use Rattle.afdx_network.specs.Given.{IsUncheckedRefusal}
-use Rattle.afdx_network.specs.declared.fault.NetworkRunFault.{NetworkRunFault}
-use Rattle.afdx_network.specs.declared.fault.NetworkRunFault.TheVariants as run
+use Rattle.afdx_network.specs.Given.{open_ends, AreGiven}
+use Rattle.afdx_network.specs.Outage.{given_up, AreComing}
+use Rattle.afdx_network.specs.declared.outage.Incoming.{Incoming}
 use Rattle.afdx_network_report.specs.Lines.{Names, name_of}
 use Rattle.afdx_messages.specs.declared.network_failure.NetworkFailure.TheVariants as network
 use Rattle.afdx_messages.specs.declared.failure.Failure.{Failure}
 use Rattle.afdx_messages.specs.declared.failure.Failure.TheVariants as failure
+use Rattle.afdx_folder.specs.Files.{Files}
 use Rattle.afdx_serve.specs.declared.network_plan.NetworkPlan.{NetworkPlan}
 use Rattle.afdx_serve.specs.declared.network_plan.NetworkPlan.TheVariants.{Unchecked, Accepted}
+use Rattle.afdx_serve.specs.Runs.{capture_name}
 use Rattle.afdx_serve.specs.Networks.{names_of}
+use Rattle.afdx_serve.specs.NetworkRuns.{switch_folder, HasGiven}
+use Rattle.afdx_serve.specs.Inner.Leading.{AreOpened}
 
 -- the network that a plan holds
 abbrev pub network_in : NetworkPlan → Network
@@ -30,17 +36,26 @@ abbrev pub HasRun : NetworkPlan → Given → List Results → Type 0
 HasRun plan given left =
     (came : List (List Text)) × IsUncheckedRunOf (network_in plan) given came left × (is_accepted plan ≡ true → IsRunOf (network_in plan) given came left)
 
--- the failure that a refusal of a run leads to: the refusal, with the name of its switch; or memory. That something else was given
--- than is asked for has no failure of its own: it is never met
-abbrev pub IsRunFailure : Names → NetworkRunFault → Failure → Type 0
-IsRunFailure names e (failure.Network (network.Capture port why name)) = (switch : ℕ) × (e ≡ run.Capture switch port why) × (string_bytes name ≡ name_of names switch)
-IsRunFailure names e failure.Usage = (switch : ℕ) × (e ≡ run.WrongPorts switch)
-IsRunFailure names e failure.Memory = Unit {0}
-IsRunFailure names e _ = ⊥
+-- the captures of a folder lead to this; those of a switch that is down do not come in
+pub record LeadsFrom (files : Option Files) (path : List ℕ) (plan : NetworkPlan) (left : List Results) : Type 0 where
+  pub given : Given
+  pub has_given : HasGiven files path (names_of (network_in plan).layout.switches) given
+  pub are_given : AreGiven (network_in plan) given
+  pub led : HasRun plan (given_up (network_in plan).layout given) left
 
--- what was given leads to nothing
-abbrev pub FailsToLeadGiven : Failure → Network → Given → Type 0
-FailsToLeadGiven (failure.Network (network.Capture port why name)) net given =
-    (switch : ℕ) × IsUncheckedRefusal net given (run.Capture switch port why) × (string_bytes name ≡ name_of (names_of net.layout.switches) switch)
-FailsToLeadGiven failure.Memory net given = Unit {0}
-FailsToLeadGiven _ net given = ⊥
+-- the names of the captures of these ports in a folder, each in that of its switch
+abbrev pub end_names : List ℕ → Names → List End → List (List ℕ)
+end_names path names ends = map (λ e. capture_name (switch_folder path (name_of names e.switch)) e.port) ends
+
+-- these are the names of the captures of the ports to which no wire goes, and this comes in there
+pub record AreOpenedEnds {R : Type 0} (remaining : R → Option (List ℕ)) (files : Option Files) (path : List ℕ) (net : Network) (names : List (List ℕ)) (all : List (Incoming R)) : Type 0 where
+  pub readers : List R
+  pub named : names ≡ end_names path (names_of net.layout.switches) (open_ends net)
+  pub opened : AreOpened remaining files names readers
+  pub come : AreComing remaining net.layout (open_ends net) readers all
+
+-- the failure of the capture of a port of the switch at a place among these names; or memory
+abbrev pub IsCaptureFailure : Names → ℕ → ℕ → PcapFault → Failure → Type 0
+IsCaptureFailure names switch port why (failure.Network (network.Capture at reason name)) = (at ≡ port) × (reason ≡ why) × (string_bytes name ≡ name_of names switch)
+IsCaptureFailure names switch port why failure.Memory = Unit {0}
+IsCaptureFailure names switch port why _ = ⊥

@@ -1,117 +1,80 @@
-use Rattle.std.proofs.Common.{◌≡◌, ◌≤◌, List, length, sym, ◌∙◌, ap, arith, subst, false}
-use Rattle.std.specs.Prelude.{All}
-use Rattle.std.specs.List.{AllZip}
-use Rattle.afdx_load.specs.Accepted.{IsAccepted}
-use Rattle.afdx_network.specs.declared.fault.NetworkRunFault.TheVariants as fault
-use Rattle.afdx_network.specs.Given.{given_of, NoneIsLateAnywhere, IsUncheckedRefusal}
-use Rattle.afdx_network.specs.Inner.Sites.{Site, AreStarted, AreEarly, HasLed}
-use Rattle.afdx_network.proofs.AllLeft.{is_unchecked_run, are_formed}
-use Rattle.afdx_network.proofs.Answering.{of_error, written_back}
-use Rattle.afdx_network.proofs.Refusing.{refused_ports, refused_texts, refused_wires, refused_memory, refused_wire}
-use Rattle.afdx_network.proofs.Rounds.{started_going}
+use Rattle.std.proofs.Common.{List, subst}
+use Rattle.afdx_network.specs.declared.fault.Stop.{Stop}
+use Rattle.afdx_network.specs.Given.{IsFaultOver, IsUncheckedRefusal}
+use Rattle.afdx_network.specs.Inner.Windows.{IsStop}
+use Rattle.afdx_network.proofs.Answering.{of_error}
+use Rattle.afdx_network.proofs.Answered.{answered}
+use Rattle.afdx_network.proofs.Stopping.{intake_refuses, stop_refuses}
 use Rattle.afdx_network.proofs.running.run_unchecked.Goals as goal
 
-pub returns-in_err-check_ports-clause-err : goal.returns-in_err-check_ports-clause-err
-returns-in_err-check_ports-clause-err c =
+pub returns-in_err-intake-clause-err : goal.returns-in_err-intake-clause-err
+returns-in_err-intake-clause-err g c =
     let net = c.args.network.now in
-    let given = given_of c.args.given.items in
-    let why = c.in_err-check_ports.field-0.0 in
-    of_error (IsUncheckedRefusal net given) c.from_residual.result why c.from_residual.ensures
-    (refused_ports (NoneIsLateAnywhere net given × All IsAccepted net.tables) net given why (rw c.deref.ensures.value at c.in_err-check_ports.ensures.err))
+    let why = c.in_err-intake.field-0.0 in
+    of_error (IsFaultOver g.R.Read.remaining net c.args.readers.now (IsUncheckedRefusal net)) c.from_residual.result why c.from_residual.ensures
+    (intake_refuses g.R.Read.remaining net c.args.readers.now why c.requires.readers c.in_err-intake.ensures.err)
 
-pub returns-in_err-check_captures-clause-err : goal.returns-in_err-check_captures-clause-err
-returns-in_err-check_captures-clause-err c =
+pub go_on-requires-clause-taken : goal.go_on-requires-clause-taken
+go_on-requires-clause-taken g c = (c.args.readers.now, c.in_ok-intake.ensures.ok)
+
+pub end-requires : goal.end-requires
+end-requires g c =
+    let h = c.in-Ok.ensures.ok c.args.readers.now c.in_ok-intake.ensures.ok in
+    (c.args.network.now, c.args.readers.now, h.through.came, h.through.taken)
+
+pub returns-in_ok-end-in-Ok-clause-ok : goal.returns-in_ok-end-in-Ok-clause-ok
+returns-in_ok-end-in-Ok-clause-ok g c =
     let net = c.args.network.now in
-    let given = given_of c.args.given.items in
-    let are = rw c.deref.ensures.value at c.in_ok-check_ports.ensures.ok in
-    let why = c.in_err-check_captures.field-0.0 in
-    of_error (IsUncheckedRefusal net given) c.from_residual-in_err-check_captures.result why c.from_residual-in_err-check_captures.ensures
-    (refused_texts (NoneIsLateAnywhere net given × All IsAccepted net.tables) net given why are (rw c.deref-2.ensures.value at c.in_err-check_captures.ensures.err))
+    let first = c.args.readers.now in
+    let h = c.in-Ok.ensures.ok first c.in_ok-intake.ensures.ok in
+    let a = answered c.each_file_has_one_reading.ensures.one_list c.out_goes_on.ensures c.out_is_in_order.ensures c.what_is_written_is_a_capture.ensures
+    g.R.Read.remaining g.F.NewFile.contents net first
+    c.go_on.new.readers c.go_on.new.intake c.args.files.now c.go_on.new.files c.in-Ok.counts h (c.in_ok-end-in-Ok.ensures.ok net first h.through.came h.through.taken) in
+    (a.given, a.came, a.left, a.given_by, a.run, a.put)
 
-pub returns-in_err-check_wires-clause-err : goal.returns-in_err-check_wires-clause-err
-returns-in_err-check_wires-clause-err c =
+pub returns-in_ok-end-in-Ok-clause-formed : goal.returns-in_ok-end-in-Ok-clause-formed
+returns-in_ok-end-in-Ok-clause-formed g c =
     let net = c.args.network.now in
-    let given = given_of c.args.given.items in
-    let are = rw c.deref.ensures.value at c.in_ok-check_ports.ensures.ok in
-    let sound = rw c.deref-2.ensures.value at c.in_ok-check_captures.ensures.ok in
-    let why = c.in_err-check_wires.field-0.0 in
-    of_error (IsUncheckedRefusal net given) c.from_residual-in_err-check_wires.result why c.from_residual-in_err-check_wires.ensures
-    (refused_wires (NoneIsLateAnywhere net given × All IsAccepted net.tables) net given why are sound c.in_err-check_wires.ensures.err)
+    let first = c.args.readers.now in
+    let h = c.in-Ok.ensures.ok first c.in_ok-intake.ensures.ok in
+    (answered c.each_file_has_one_reading.ensures.one_list c.out_goes_on.ensures c.out_is_in_order.ensures c.what_is_written_is_a_capture.ensures g.R.Read.remaining g.F.NewFile.contents net first
+    c.go_on.new.readers c.go_on.new.intake c.args.files.now c.go_on.new.files c.in-Ok.counts h (c.in_ok-end-in-Ok.ensures.ok net first h.through.came h.through.taken)).formed
 
-pub sites_of-requires-clause-given : goal.sites_of-requires-clause-given
-sites_of-requires-clause-given c = rw c.deref-3.ensures.value (rw c.deref.ensures.value at c.in_ok-check_ports.ensures.ok)
-
-pub sites_of-requires-clause-sound : goal.sites_of-requires-clause-sound
-sites_of-requires-clause-sound c = rw c.deref-3.ensures.value (rw c.deref-2.ensures.value at c.in_ok-check_captures.ensures.ok)
-
-pub returns-in_err-sites-clause-err : goal.returns-in_err-sites-clause-err
-returns-in_err-sites-clause-err c =
+pub returns-in_err-end-in-Ok-clause-err : goal.returns-in_err-end-in-Ok-clause-err
+returns-in_err-end-in-Ok-clause-err g c =
     let net = c.args.network.now in
-    let given = given_of c.args.given.items in
-    let are = rw c.deref.ensures.value at c.in_ok-check_ports.ensures.ok in
-    let why = c.in_err-sites.field-0.0 in
-    of_error (IsUncheckedRefusal net given) c.from_residual-in_err-sites.result why c.from_residual-in_err-sites.ensures
-    (refused_memory (NoneIsLateAnywhere net given × All IsAccepted net.tables) net given why are c.in_err-sites.ensures.err)
+    let first = c.args.readers.now in
+    let h = c.in-Ok.ensures.ok first c.in_ok-intake.ensures.ok in
+    let why = c.in_err-end-in-Ok.field-0.0 in
+    of_error (IsFaultOver g.R.Read.remaining net first (IsUncheckedRefusal net)) c.from_residual-in_err-end-in-Ok.result why c.from_residual-in_err-end-in-Ok.ensures
+    (intake_refuses g.R.Read.remaining net first why c.requires.readers (c.in_err-end-in-Ok.ensures.err net first h.through.came h.through.taken))
 
-pub go_through-requires-clause-going : goal.go_through-requires-clause-going
-go_through-requires-clause-going c =
-    let started = rw c.deref-3.ensures.value at c.in_ok-sites.ensures.ok in
-    subst (All (λ (s : Site). (s.paced.failed ≡ false) × (s.paced.reached ≤ 0))) (sym c.deref_mut.ensures.value)
-    (started_going c.args.network.now (given_of c.args.given.items) c.in_ok-sites.sites.items started)
-
-pub go_through-requires-clause-all : goal.go_through-requires-clause-all
-go_through-requires-clause-all c = ap (λ (xs : List Site). length xs) c.deref_mut.ensures.value ∙ c.in_ok-sites.ensures.ok.carried.are.all
-
-pub returns-in_err-go_through-clause-err : goal.returns-in_err-go_through-clause-err
-returns-in_err-go_through-clause-err c =
+pub returns-in-Err-Intake-clause-err : goal.returns-in-Err-Intake-clause-err
+returns-in-Err-Intake-clause-err g c =
     let net = c.args.network.now in
-    let given = given_of c.args.given.items in
-    let are = rw c.deref.ensures.value at c.in_ok-check_ports.ensures.ok in
-    let sound = rw c.deref-2.ensures.value at c.in_ok-check_captures.ensures.ok in
-    let started : AreStarted net given c.in_ok-sites.sites.items = rw c.deref-3.ensures.value at c.in_ok-sites.ensures.ok in
-    let lent = subst (AreStarted net given) (sym c.deref_mut.ensures.value) started in
-    let early : (none : NoneIsLateAnywhere net given) → AreEarly none.order.place c.deref_mut.result.now
-    = λ none. subst (AreEarly none.order.place) (sym c.deref_mut.ensures.value) ((rw c.deref-3.ensures.value at c.in_ok-sites.ensures.early) none) in
-    let why = c.in_err-go_through.field-0.0 in
-    of_error (IsUncheckedRefusal net given) c.from_residual-in_err-go_through.result why c.from_residual-in_err-go_through.ensures
-    (refused_wire (NoneIsLateAnywhere net given × All IsAccepted net.tables) net given why are sound (c.in_err-go_through.ensures.err given lent)
-    (λ none. c.in_err-go_through.ensures.early given lent none.0 none.1 (early none.0)))
+    let first = c.args.readers.now in
+    intake_refuses g.R.Read.remaining net first c.in-Err-Intake.fault c.requires.readers
+    (subst (IsStop g.R.Read.remaining net first c.go_on.new.readers c.go_on.new.intake) c.in-Err-Intake.field-0-is (c.in-Err-Intake.ensures.err first c.in_ok-intake.ensures.ok))
 
-pub outcomes_of-requires : goal.outcomes_of-requires
-outcomes_of-requires c =
-    let old = c.in_ok-sites.sites in
-    let new = c.go_through.new.sites in
-    let long = old.ok.0 in
-    let kept = c.go_through.auto.sites ∙ ap (λ (xs : List Site). length xs) c.deref_mut.ensures.value in
-    let back = written_back old.items new old.len kept (omega (arith, long)) in
-    subst (All (λ (s : Site). s.paced.failed ≡ false)) (sym back) c.in_ok-go_through.ensures.going
-
-pub returns-in_err-outcomes_of-clause-err : goal.returns-in_err-outcomes_of-clause-err
-returns-in_err-outcomes_of-clause-err c =
+pub end-requires-in-Err-Run : goal.end-requires-in-Err-Run
+end-requires-in-Err-Run g c =
     let net = c.args.network.now in
-    let given = given_of c.args.given.items in
-    let are = rw c.deref.ensures.value at c.in_ok-check_ports.ensures.ok in
-    of_error (IsUncheckedRefusal net given) c.from_residual-in_err-outcomes_of.result fault.Memory c.from_residual-in_err-outcomes_of.ensures are
+    let first = c.args.readers.now in
+    let s = subst (IsStop g.R.Read.remaining net first c.go_on.new.readers c.go_on.new.intake) c.in-Err-Run.field-0-is (c.in-Err-Run.ensures.err first c.in_ok-intake.ensures.ok) in
+    (net, first, s.came, s.taken)
 
-pub returns-clause-ok : goal.returns-clause-ok
-returns-clause-ok c =
+pub returns-in_ok-end-in-Err-Run-clause-err : goal.returns-in_ok-end-in-Err-Run-clause-err
+returns-in_ok-end-in-Err-Run-clause-err g c =
     let net = c.args.network.now in
-    let given = given_of c.args.given.items in
-    let started : AreStarted net given c.in_ok-sites.sites.items = rw c.deref-3.ensures.value at c.in_ok-sites.ensures.ok in
-    let ran = c.in_ok-go_through.ensures.ok given (subst (AreStarted net given) (sym c.deref_mut.ensures.value) started) in
-    let old = c.in_ok-sites.sites in
-    let new = c.go_through.new.sites in
-    let long = old.ok.0 in
-    let kept = c.go_through.auto.sites ∙ ap (λ (xs : List Site). length xs) c.deref_mut.ensures.value in
-    let back = written_back old.items new old.len kept (omega (arith, long)) in
-    let left = c.in_ok-outcomes_of.field-0.items in
-    let led = subst (λ (xs : List Site). AllZip HasLed xs left) back c.in_ok-outcomes_of.ensures in
-    is_unchecked_run c.out_goes_on.ensures c.out_is_in_order.ensures c.what_is_written_is_a_capture.ensures net given new left ran.0 c.in_ok-check_wires.ensures.ok ran.1 led
+    let first = c.args.readers.now in
+    let s = subst (IsStop g.R.Read.remaining net first c.go_on.new.readers c.go_on.new.intake) c.in-Err-Run.field-0-is (c.in-Err-Run.ensures.err first c.in_ok-intake.ensures.ok) in
+    stop_refuses g.R.Read.remaining net first c.go_on.new.readers c.go_on.new.intake c.in-Err-Run.fault s (c.in_ok-end-in-Err-Run.ensures.ok net first s.came s.taken)
 
-pub returns-clause-formed : goal.returns-clause-formed
-returns-clause-formed c =
+pub returns-in_err-end-in-Err-Run-clause-err : goal.returns-in_err-end-in-Err-Run-clause-err
+returns-in_err-end-in-Err-Run-clause-err g c =
     let net = c.args.network.now in
-    let given = given_of c.args.given.items in
-    let started : AreStarted net given c.in_ok-sites.sites.items = rw c.deref-3.ensures.value at c.in_ok-sites.ensures.ok in
-    let ran = c.in_ok-go_through.ensures.ok given (subst (AreStarted net given) (sym c.deref_mut.ensures.value) started) in
-    are_formed net given c.go_through.new.sites ran.0
+    let first = c.args.readers.now in
+    let s = subst (IsStop g.R.Read.remaining net first c.go_on.new.readers c.go_on.new.intake) c.in-Err-Run.field-0-is (c.in-Err-Run.ensures.err first c.in_ok-intake.ensures.ok) in
+    let why = c.in_err-end-in-Err-Run.field-0.0 in
+    of_error (IsFaultOver g.R.Read.remaining net first (IsUncheckedRefusal net)) c.from_residual-in_err-end-in-Err-Run.result why c.from_residual-in_err-end-in-Err-Run.ensures
+    (intake_refuses g.R.Read.remaining net first why c.requires.readers (c.in_err-end-in-Err-Run.ensures.err net first s.came s.taken))

@@ -7,7 +7,7 @@ use Rattle.afdx_wiring.specs.File.{Layout}
 use Rattle.afdx_wiring.specs.declared.layout.Wire.{Wire}
 use Rattle.afdx_network.specs.declared.fault.NetworkRunFault.TheVariants as fault
 use Rattle.afdx_network.specs.Given.{IsWireFault}
-use Rattle.afdx_network.specs.Inner.Sites.{Site, AreEarly, IsPortAt, GoesOver, IsHandedOut, CanCome, CameOver, IsLateFault}
+use Rattle.afdx_network.specs.Inner.Sites.{Site, AreEarly, IsPortAt, GoesOver, IsHandedOut, CanCome, CameOver, IsLateFault, gone_at}
 use Rattle.afdx_network.proofs.Answering.{of_error, match_error}
 use Rattle.afdx_network.proofs.Carries.{OnItsWay, Going, way_begins, none_same, none_carries, wire_within, never_both, way_goes_on, way_fails, way_never_fails, way_passes, way_ends}
 use Rattle.afdx_network.proofs.windows.carry.Goals as goal
@@ -54,6 +54,15 @@ returns-in_default-clause-reached c =
     let h = subst (IsHandedOut (get_or old switch d) c.hand_out.new.self c.args.place c.args.from.port) c.in_default.is c.in_ok-frame.ensures in
     let same = none_same old switch c.args.place c.args.from.port (get_or old switch d) c.hand_out.new.self at h in
     λ n all. subst (All (λ (s : Site). s.paced.reached ≤ n)) (sym same) all
+
+pub returns-in_default-clause-gone : goal.returns-in_default-clause-gone
+returns-in_default-clause-gone c =
+    let old = c.args.sites.now in
+    let switch = c.args.from.switch in
+    let d = c.index-sites-from.result in
+    let at = slice_get-get_or old switch d (slice_get_within old switch c.requires.place.site c.requires.place.at) in
+    let h = subst (IsHandedOut (get_or old switch d) c.hand_out.new.self c.args.place c.args.from.port) c.in_default.is c.in_ok-frame.ensures in
+    ap gone_at (none_same old switch c.args.place c.args.from.port (get_or old switch d) c.hand_out.new.self at h)
 
 pub returns-in_default-clause-ok : goal.returns-in_default-clause-ok
 returns-in_default-clause-ok c =
@@ -175,6 +184,9 @@ returns-clause-going c = (c.loop-index.invariant.going, c.loop-index.invariant.p
 
 pub returns-clause-reached : goal.returns-clause-reached
 returns-clause-reached c = λ n all. c.loop-index.invariant.reached n all
+
+pub returns-clause-gone : goal.returns-clause-gone
+returns-clause-gone c = c.loop-index.invariant.gone
 
 pub returns-clause-fewer : goal.returns-clause-fewer
 returns-clause-fewer c = λ yes. c.loop-index.invariant.fewer

@@ -1,4 +1,4 @@
-use Rattle.std.proofs.Common.{◌≡◌, ◌∙◌}
+use Rattle.std.proofs.Common.{◌≡◌, refl, ◌∙◌}
 use Rattle.afdx_network.specs.declared.fault.NetworkRunFault.TheVariants as fault
 use Rattle.afdx_network.specs.Given.{IsWireFault}
 use Rattle.afdx_network.specs.Inner.Sites.{AreEarly}
@@ -11,6 +11,7 @@ loop-init c = record {
   going = c.requires.going;
   all = c.requires.all;
   place = c.requires.place;
+  gone = refl;
   reached = λ h all. all;
   ok = λ given begin end le w. (w, all_stay end c.args.sites.now);
   early = λ given begin end le w none accepted early. early;
@@ -24,6 +25,7 @@ loop-preserved c =
       going = now.going.0;
       all = c.carry.auto.sites ∙ before.all;
       place = now.going.1;
+      gone = now.gone ∙ before.gone;
       reached = λ h all. now.reached h (before.reached h all);
       ok = λ given begin end le w.
           let was = before.ok given begin end le w in
@@ -38,6 +40,9 @@ loop-smaller c = c.in_ok-carry.ensures.fewer c.if-branch.true
 
 pub returns-clause-reached : goal.returns-clause-reached
 returns-clause-reached c = λ h all. c.in_ok-carry.ensures.reached h (c.loop.invariant.reached h all)
+
+pub returns-clause-gone : goal.returns-clause-gone
+returns-clause-gone c = c.in_ok-carry.ensures.gone ∙ c.loop.invariant.gone
 
 pub returns-clause-ok : goal.returns-clause-ok
 returns-clause-ok c = λ given begin end le w.

@@ -3,7 +3,7 @@ use Rattle.std.specs.Prelude.{All}
 use Rattle.afdx_load.specs.Accepted.{IsAccepted}
 use Rattle.afdx_network.specs.Runs.{Given}
 use Rattle.afdx_network.specs.Given.{NoneIsLateAnywhere}
-use Rattle.afdx_network.specs.Inner.Sites.{AreInWindow, SendOn, AreEarly, IsPortAt, waits_at}
+use Rattle.afdx_network.specs.Inner.Sites.{AreInWindow, SendOn, AreEarly, IsPortAt, waits_at, gone_at}
 use Rattle.afdx_network.proofs.windows.drain.Given as goal
 
 abbrev pub invariant-loop : goal.invariant-loop
@@ -11,6 +11,7 @@ invariant-loop l = record {
   going : All (λ s. s.paced.failed ≡ false) l.sites;
   all : length l.sites ≡ length l.network.tables;
   place : IsPortAt l.sites l.from l.place;
+  gone : gone_at l.sites ≡ gone_at l.initial.sites;
   reached : (h : ℕ) → All (λ s. s.paced.reached ≤ h) l.initial.sites → All (λ s. s.paced.reached ≤ h) l.sites;
   ok : (given : Given) (begin end : ℕ) → begin ≤ end → AreInWindow l.network given begin end l.initial.sites
       → AreInWindow l.network given begin end l.sites × SendOn end l.initial.sites l.sites;

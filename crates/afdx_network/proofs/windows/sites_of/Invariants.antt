@@ -1,13 +1,10 @@
-use Rattle.std.proofs.Common.{◌≡◌, ℕ, length, slice_get, Some}
-use Rattle.afdx_network.specs.Given.{given_of, NoneIsLateAnywhere}
-use Rattle.afdx_network.specs.Inner.Sites.{Site, AreEarly}
-use Rattle.afdx_network.proofs.Started.{HasStarted}
+use Rattle.std.proofs.Common.{◌≡◌, take}
+use Rattle.std.specs.List.{AllZip}
+use Rattle.afdx_network.proofs.Beginning.{IsNew}
 use Rattle.afdx_network.proofs.windows.sites_of.Given as goal
 
-abbrev pub invariant-loop-switch : goal.invariant-loop-switch
-invariant-loop-switch l = record {
+abbrev pub invariant-loop-table : goal.invariant-loop-table
+invariant-loop-table l = record {
   tables : l.table-items ≡ l.network.tables;
-  all : length l.sites.items ≡ l.switch;
-  started : (n : ℕ) (s : Site) → slice_get l.sites.items n ≡ Some s → HasStarted l.network (given_of l.given) n s;
-  early : (none : NoneIsLateAnywhere l.network (given_of l.given)) → AreEarly none.order.place l.sites.items;
+  new : AllZip IsNew (take l.table-index l.table-items) l.sites.items;
 }

@@ -43,6 +43,7 @@ loop-place-preserved c =
           (sym c.port.ensures ∙ w.in-Some.is) (ap (λ (xs : List Site). length xs) (sym w.sites-is) ∙ c.match-port.auto.sites)
           (record {
             going = now.going;
+            gone = now.gone;
             reached = now.reached;
             ok = λ given begin le v. now.ok given begin end le v;
             early = λ given begin le v none accepted early. now.early given begin end le v none accepted early;
@@ -68,6 +69,9 @@ drain-requires-clause-place c =
 pub returns-clause-going : goal.returns-clause-going
 returns-clause-going c = c.loop-place.invariant.going
 
+pub returns-clause-gone : goal.returns-clause-gone
+returns-clause-gone c = c.loop-place.invariant.gone
+
 pub returns-clause-ok : goal.returns-clause-ok
 returns-clause-ok c =
     let old = c.args.sites.now in
@@ -75,7 +79,7 @@ returns-clause-ok c =
     let d = c.index-sites-switch.result in
     let new = c.go_to.new.self in
     let past = c.loop-place-test.false in
-    let many = c.ports-place-end.ensures in
+    let many = c.ports-place-end.ensures.left in
     let same = ap (λ (s : Site). length s.left) (get_or-set_same old switch new c.index-sites-switch-2.result c.requires.within) in
     visit_ends c.out_goes_on.ensures c.args.network.now c.args.end switch old (get_or old switch d) new c.loop-place.place c.loop-place.sites c.loop-place.invariant
     (slice_get-get_or old switch d c.requires.within) c.in_ok-go_to.ensures (omega (arith, past, many, same))

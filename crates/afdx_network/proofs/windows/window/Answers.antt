@@ -29,6 +29,7 @@ loop-switch-preserved c =
           subst (OnWindow net end c.args.sites.now (k + 1)) (sym w.sites-is)
           (window_goes_on net end c.args.sites.now k sites w.visit.new.sites c.loop-switch.invariant (ap (λ (xs : List Site). length xs) (sym w.sites-is) ∙ c.if-acts_before.auto.sites) (record {
             going = now.going;
+            gone = now.gone;
             ok = now.ok;
             early = now.early;
           }))
@@ -41,6 +42,9 @@ loop-switch-preserved c =
 
 pub returns-clause-going : goal.returns-clause-going
 returns-clause-going c = c.loop-switch.invariant.going
+
+pub returns-clause-gone : goal.returns-clause-gone
+returns-clause-gone c = c.loop-switch.invariant.gone
 
 pub returns-clause-ok : goal.returns-clause-ok
 returns-clause-ok c = λ given begin le w from.

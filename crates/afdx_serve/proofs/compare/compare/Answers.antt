@@ -20,7 +20,8 @@ pub returns-in_err-findings : goal.returns-in_err-findings
 returns-in_err-findings g c =
     let got = c.in_ok-table.ensures.got in
     of_error _ _ _ c.in_err-findings.field-0.0 c.from_residual-in_err-findings.ensures
-    (not_found_under c.args.form c.in_err-findings.field-0.0 c.args.compare.now c.args.recordings.now _ _ _ _ _ _ _ _ _ got.0 c.in_ok-table.ensures.same got.1 c.in_err-findings.ensures.same (Keeps-refl _)
+    (not_found_under c.args.form c.in_err-findings.field-0.0 c.args.compare.now c.args.recordings.now _ _ _ _ _ _ _ _ _ got.0 c.in_ok-table.ensures.same got.1 c.in_err-findings.ensures.same
+    (Keeps-refl _)
     c.in_err-findings.ensures.found)
 
 pub returns-in_err-text : goal.returns-in_err-text

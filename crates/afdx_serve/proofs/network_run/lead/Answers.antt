@@ -1,35 +1,34 @@
-use Rattle.std.proofs.Common.{◌≡◌, map, string_bytes, ap, ◌∙◌, subst}
-use Rattle.afdx_wiring.specs.Net.{Network}
-use Rattle.afdx_network.specs.declared.fault.NetworkRunFault.{NetworkRunFault}
-use Rattle.afdx_network.specs.Runs.{Given}
-use Rattle.afdx_network.specs.Given.{given_of, AreGiven, IsUncheckedRefusal}
-use Rattle.afdx_network.specs.Outage.{given_up}
-use Rattle.afdx_network_report.specs.Lines.{Names, name_of}
-use Rattle.afdx_messages.specs.declared.network_failure.NetworkFailure.TheVariants as network
-use Rattle.afdx_messages.specs.declared.failure.Failure.{Failure}
-use Rattle.afdx_messages.specs.declared.failure.Failure.TheVariants as failure
-use Rattle.afdx_serve.specs.Networks.{names_of}
-use Rattle.afdx_serve.specs.Inner.NetworkRunning.{network_in, IsRunFailure, FailsToLeadGiven}
+use Rattle.std.proofs.Common.{◌∙◌, sym, subst}
+use Rattle.afdx_serve.specs.NetworkRuns.{FailsToGetGiven}
+use Rattle.afdx_serve.specs.Inner.NetworkRunning.{network_in}
+use Rattle.afdx_serve.proofs.FileLemmas.{KeepsFiles-trans}
+use Rattle.afdx_serve.proofs.NetworkRunLemmas.{leads_before, written_bytes, not_given_before}
 use Rattle.afdx_serve.proofs.network_run.lead.Goals as goal
 
--- the failure of a refusal says why what comes in leads to nothing, as it is for the right ports
-failed : (names : Names) (net : Network) (given : Given) (e : NetworkRunFault) (f : Failure) → names ≡ names_of net.layout.switches → AreGiven net given → IsUncheckedRefusal net given e
-    → IsRunFailure names e f → FailsToLeadGiven f net given
-failed names net given e (failure.Network (network.Capture port why name)) named are refused is =
-    (is.0, subst (IsUncheckedRefusal net given) is.1 refused, is.2 ∙ ap (λ (ns : Names). name_of ns is.0) named)
-failed names net given e failure.Usage named are refused is =
-    let ungiven = subst (IsUncheckedRefusal net given) is.1 refused in ungiven.here (are.each is.0 (ungiven.one are.no_more))
-failed names net given e failure.Memory named are refused is = tt
-failed names net given e f named are refused is = absurd is
+pub returns-in-Ok-clause-led : goal.returns-in-Ok-clause-led
+returns-in-Ok-clause-led g c =
+    let led = c.in-Ok.ensures.led in
+    let files = g.F.Folder.files c.args.folder.now in
+    let long = sym c.deref_mut.ensures.len ∙ sym led.0.2.0 in
+    let appended = rw c.deref_mut.ensures.value at led.0.2 in (
+      (
+        led.0.0,
+        leads_before files _ c.args.path.now c.args.plan.now led.0.0 c.in_ok-files.ensures.same led.0.1,
+        written_bytes g.F.New.NewFile.contents files c.in_ok-files.files.items c.reports_of_folder.new.files c.in_ok-files.files.len led.0.0 c.in_ok-files.ensures.empty long appended,
+        led.0.3,
+      ),
+      led.1 ∙ c.in_ok-files.ensures.failed,
+    )
 
-pub run_failure-requires : goal.run_failure-requires
-run_failure-requires c = λ is. (rw is at c.in-Err.ensures.err).2 c.requires.one_each
+pub returns-in-Err-clause-led : goal.returns-in-Err-clause-led
+returns-in-Err-clause-led g c =
+    let f = c.in-Err.failure in
+    let net = network_in c.args.plan.now in
+    let path = c.args.path.now in
+    let begun = g.F.Folder.files c.begin_all.new.folder in
+    let now = subst (λ log. FailsToGetGiven f begun path net (g.F.Folder.failed c.begin_all.new.folder) log) (sym c.abandon_all.ensures.failed) c.in-Err.ensures.led in
+    let first = subst (λ log. FailsToGetGiven f begun path net log (g.F.Folder.failed c.abandon_all.new.folder)) c.in_ok-files.ensures.failed now in
+    not_given_before f (g.F.Folder.files c.args.folder.now) begun path net (g.F.Folder.failed c.args.folder.now) (g.F.Folder.failed c.abandon_all.new.folder) c.in_ok-files.ensures.same first
 
-pub returns-in-Err : goal.returns-in-Err
-returns-in-Err c =
-    let net : Network = network_in c.args.plan.now in
-    let up : Given = given_of c.in_ok-up.up.items in
-    let is : up ≡ given_up net.layout (given_of c.args.given.items) = c.in_ok-up.ensures.up ∙ ap (λ (n : Network). given_up n.layout (given_of c.args.given.items)) c.network.ensures in
-    let are : AreGiven net up = subst (λ (n : Network). AreGiven n up) c.network.ensures c.in_ok-up.ensures.given in
-    subst (λ (given : Given). FailsToLeadGiven c.run_failure.result net given) is
-    (failed (map string_bytes c.args.names.now) net up c.in-Err.fault c.run_failure.result c.requires.names are c.in-Err.ensures.err c.run_failure.ensures)
+pub returns-in-Err-clause-same : goal.returns-in-Err-clause-same
+returns-in-Err-clause-same g c = KeepsFiles-trans _ _ _ (KeepsFiles-trans _ _ _ c.in_ok-files.ensures.same c.in-Err.ensures.same) c.abandon_all.ensures.same

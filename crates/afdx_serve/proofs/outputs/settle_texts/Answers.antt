@@ -33,5 +33,6 @@ returns-in-Err-clause-settled g c =
     let lt : i < length names = search rules in
     let str : String Global → _ = λ s. string_bytes s in
     subst (λ l. FailsToSettle c.in-Err.failure (map str names) (g.F.Folder.failed c.args.folder.now) l) (sym c.abandon_all.ensures.failed)
-    (not_settled c.in-Err.failure c.deref.result.now (map str names) i _ _ _ (mapped str names i c.index-names-place.result lt ∙ ap (λ n. Some n) (ap str (sym c.index-names-place.is) ∙ sym c.deref.ensures))
+    (not_settled c.in-Err.failure c.deref.result.now (map str names) i _ _ _
+    (mapped str names i c.index-names-place.result lt ∙ ap (λ n. Some n) (ap str (sym c.index-names-place.is) ∙ sym c.deref.ensures))
     c.loop-place.invariant.failed c.in-Err.ensures.settled)

@@ -1,25 +1,30 @@
-use Rattle.std.proofs.Common.{◌≡◌, ◌++◌, ℕ, List, ap, ◌∙◌, subst}
+use Rattle.std.proofs.Common.{◌∙◌, ◌++◌, ℕ, List, set, refl, ap}
 use Rattle.afdx_pcap.specs.Record.{whole}
-use Rattle.afdx_pcap.specs.Text.{record_text}
-use Rattle.afdx_paced.specs.Paced.{Paced, GoesOut}
-use Rattle.afdx_network.specs.Inner.Sites.{Site}
-use Rattle.afdx_network.proofs.Recording.{text_more}
+use Rattle.afdx_session.specs.Texts.{Text}
+use Rattle.afdx_network.specs.Inner.Outputs.{Output, texts_in}
+use Rattle.afdx_network.proofs.Recording.{same_text, there, text_more, gone_stays}
+use Rattle.afdx_network.proofs.site.Site.hand_out.Goals.{then-is_full, else-is_full}
 use Rattle.afdx_network.proofs.site.Site.hand_out.Goals as goal
 
-pub returns-in_ok-write_frame-in-Some : goal.returns-in_ok-write_frame-in-Some
-returns-in_ok-write_frame-in-Some c =
-    let out = rw c.in-Some.is at c.in_ok-frame.ensures.ok in
-    let pair = c.index_mut.result.now in
-    let stamp = c.in-Some.frame.stamp in
-    let written : c.write_frame.new.out.items ≡ pair.1.items ++ record_text (whole stamp c.in-Some.frame.bytes)
-    = c.in_ok-write_frame-in-Some.ensures.ok
-    ∙ ap (λ (n : ℕ). pair.1.items ++ record_text (whole n c.bytes.result.now)) c.stamp.ensures
-    ∙ ap (λ (bytes : List ℕ). pair.1.items ++ record_text (whole stamp bytes)) c.bytes.ensures.bytes in
-    record {
-      out_is = subst (λ (v : Paced). GoesOut v c.next_out.new.self c.args.port c.in-Some.frame) (ap (λ (s : Site). s.paced) c.self.view_is) out;
-      text = c.requires.place.0;
-      was = c.requires.place.1;
-      left = text_more c.self.inside.left.items c.args.self.now.left c.args.place c.args.port pair.0 pair.1 c.write_frame.new.out c.requires.place.0 c.in-Some.frame
-          (ap (λ (s : Site). s.left) c.self.view_is) c.requires.place.1 c.index_mut.ensures.value written;
-      next = ap (λ (s : Site). s.next) c.self.view_is;
-    }
+abbrev by_number : ℕ → List ℕ → Text
+by_number n bytes = (n, bytes)
+
+pub returns-after-is_full : goal.returns-after-is_full
+returns-after-is_full c =
+    let outputs = c.self.inside.outputs.items in
+    let place = c.args.place in
+    let port = c.args.port in
+    let was : Output = c.index_mut-output.result.now in
+    let frame = c.in-Some.frame in
+    let out = whole frame.stamp frame.bytes in
+    let new : Output = c.push.new.self in
+    let made = c.in_ok-push-in-Some.ensures.ok in
+    let here = rw (← c.self.view_is) at c.requires.place in
+    let is = c.index_mut-output.ensures.value in
+    let left = text_more outputs place port was here.0 out here.1 is new made ∙ ap (λ (bytes : List ℕ). set (texts_in outputs) place (by_number port (here.0 ++ bytes))) (same_text frame) in
+    let gone = gone_stays outputs place was new (there outputs place port was here.0 out here.1 is) (ap (λ (o : Output). o.gone) made) in
+    let goes = rw c.in-Some.is at c.in_ok-frame.ensures.ok in
+    elim c.if-is_full.branch [
+      | then-is_full w ↦ rw (w.self-is, ← c.self.view_is) (record { out_is = goes; text = here.0; was = here.1; left = left; gone = gone; next = refl })
+      | else-is_full w ↦ rw (w.self-is, ← c.self.view_is) (record { out_is = goes; text = here.0; was = here.1; left = left; gone = gone; next = refl })
+    ]

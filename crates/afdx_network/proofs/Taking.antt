@@ -1,0 +1,178 @@
+-- What is known of arrivals that were taken: when they came, and in which order.
+use Rattle.std.proofs.Common.{◌≡◌, ◌<◌, ◌≤◌, ◌+◌, ◌==◌, ℕ, min, Bool, true, false, cond, List, [], ◌∷◌, ◌++◌, length, map, slice_get, Option, Some, None, refl, ap, sym, ◌∙◌, arith, inl, inr, subst}
+use Rattle.std.proofs.Common.{append_assoc}
+use Rattle.std.specs.Prelude.{◌⊎◌, option_to_list}
+use Rattle.std.specs.Option.{option_map}
+use Rattle.std.specs.List.{AllByRecursion}
+use Rattle.std.proofs.lemmas.Bool.{eq-eqb}
+use Rattle.std.proofs.lemmas.List.{append-nil, length-map}
+use Rattle.std.proofs.lemmas.Option.{same_Some, slice_get-map, slice_get_within}
+use Rattle.afdx_units.specs.Time.{last_second}
+use Rattle.afdx_pcap.specs.Record.{Record}
+use Rattle.afdx_pairing.specs.Events.{Numbered}
+use Rattle.afdx_merging.specs.declared.clock.Clock.{Clock}
+use Rattle.afdx_merging.specs.declared.fault.MergeFault.{MergeFault}
+use Rattle.afdx_merging.specs.declared.fault.MergeFault.TheVariants as merge
+use Rattle.afdx_merging.specs.Merge.{Arrival, arrival_at, at_place, numbered_from, IsBy, IsAfter, due_at}
+use Rattle.afdx_merging.specs.Read.{AreMerged, IsMergeFault}
+use Rattle.afdx_merging.specs.Inner.Merging.{HasMerged, lesser}
+use Rattle.afdx_wiring.specs.declared.layout.End.{End}
+use Rattle.afdx_wiring.specs.Net.{Network}
+use Rattle.afdx_network.specs.declared.intake.Intake.{Intake}
+use Rattle.afdx_network.specs.declared.fault.NetworkRunFault.{NetworkRunFault}
+use Rattle.afdx_network.specs.Given.{open_ends}
+use Rattle.afdx_network.specs.Inner.Intake.{same_clock, next_of, HasTaken, HasTakenAll, IsNextIn, IsFaultAt, IsAmong, IsIntakeFault}
+use Rattle.afdx_network.specs.Inner.Sites.{end_at}
+use Rattle.afdx_network.proofs.Arriving.{first_early}
+use Rattle.afdx_network.proofs.SoFar.{there_at}
+
+-- what holds of the arrivals of each capture holds of all
+pub of_each_place : (P : Arrival → Type 0) (count : ℕ) (came : List Arrival) → AllByRecursion (λ (a : Arrival). a.place < count) came
+    → ((k : ℕ) → k < count → AllByRecursion P (at_place k came)) → AllByRecursion P came
+of_each_place P count [] within each = tt
+of_each_place P count (a ∷ came) within each = (first, of_each_place P count came within.1 rest) where
+  first : P a
+  first = (subst (λ b. AllByRecursion P (cond b (a ∷ at_place a.place came) (at_place a.place came))) (eq-eqb a.place a.place refl) (each a.place within.0)).0
+
+  rest : (k : ℕ) → k < count → AllByRecursion P (at_place k came)
+  rest k lt = by (a.place == k) (each k lt) where
+    by : (b : Bool) → AllByRecursion P (cond b (a ∷ at_place k came) (at_place k came)) → AllByRecursion P (at_place k came)
+    by true all = all.1
+    by false all = all
+
+-- an arrival by the clock of all captures
+pub record IsTimed (a : Arrival) : Type 0 where
+  pub due : a.due ≡ a.head.frame.stamp
+  pub early : a.head.frame.stamp < last_second
+
+front_early : (n : ℕ) (given more : List Numbered) (rs : List Record) → given ++ more ≡ numbered_from n same_clock rs → AllByRecursion (λ (r : Record). r.stamp < last_second) rs
+    → AllByRecursion (λ (m : Numbered). m.frame.stamp < last_second) given
+front_early n [] more rs is early = tt
+front_early n (m ∷ given) more [] is early = absurd cc
+front_early n (m ∷ given) more (r ∷ rs) is early =
+    let first = early.0 in (
+      subst (λ (k : ℕ). k < last_second) (sym (ap (λ (x : Numbered). x.frame.stamp) (head_is is))) (omega (arith, first)),
+      front_early (n + 1) given more rs (tail_is is) early.1,
+    ) where
+      head_is : {x y : Numbered} {xs ys : List Numbered} → x ∷ xs ≡ y ∷ ys → x ≡ y
+      head_is e = cc
+
+      tail_is : {x y : Numbered} {xs ys : List Numbered} → x ∷ xs ≡ y ∷ ys → xs ≡ ys
+      tail_is e = cc
+
+timed_at : (place : ℕ) (given : List Numbered) → AllByRecursion (λ (m : Numbered). m.frame.stamp < last_second) given → AllByRecursion IsTimed (map (arrival_at place same_clock) given)
+timed_at place [] early = tt
+timed_at place (m ∷ given) early = (record { due = omega arith; early = early.0 }, timed_at place given early.1)
+
+pub all_timed : {R : Type 0} (remaining : R → Option (List ℕ)) (net : Network) (first now : List R) (i : Intake) (came : List Arrival) → HasTaken remaining net first now i came
+    → AllByRecursion IsTimed came
+all_timed remaining net first now i came taken = of_each_place IsTimed (length (map (λ (x : End). same_clock) (open_ends net))) came taken.merged.within each where
+  each : (k : ℕ) → k < length (map (λ (x : End). same_clock) (open_ends net)) → AllByRecursion IsTimed (at_place k came)
+  each k lt =
+      let count = length-map (open_ends net) (λ (x : End). same_clock) in
+      let f = there_at first k (let long = taken.merged.long in omega (arith, lt, long)) in
+      let r = there_at now k (let long = taken.merged.readers in omega (arith, lt, long)) in
+      let l = there_at i.merging.lanes.items k (let long = taken.merged.many in omega (arith, lt, long)) in
+      let e = there_at (open_ends net) k (omega (arith, lt, count)) in
+      let is = taken.merged.each k same_clock f.0 r.0 l.0 (slice_get-map (λ (x : End). same_clock) (open_ends net) k ∙ ap (option_map (λ (x : End). same_clock)) e.1) f.1 r.1 l.1 in
+      let has = is.read.has in
+      subst (AllByRecursion IsTimed) (sym is.are)
+      (timed_at k is.given (front_early 1 is.given (option_to_list l.0.head) has.records (has.numbered ∙ ap (λ (c : Clock). numbered_from 1 c has.records) is.clock)
+      (first_early l.0.reader.bytes has.records has.taken.first)))
+
+pub all_last : (P : Arrival → Type 0) (came : List Arrival) (a : Arrival) → AllByRecursion P (came ++ a ∷ []) → P a
+all_last P [] a all = all.0
+all_last P (b ∷ came) a all = all_last P came a all.1
+
+-- none of those before came later
+pub in_order : (came : List Arrival) (a : Arrival) → IsTimed a → AllByRecursion IsTimed came → AllByRecursion (λ (b : Arrival). IsBy b a) came
+    → AllByRecursion (λ (b : Arrival). b.head.frame.stamp ≤ a.head.frame.stamp) came
+in_order [] a timed all after = tt
+in_order (b ∷ came) a timed all after = (one after.0, in_order came a timed all.1 after.1) where
+  one : (b.due < a.due) ⊎ ((b.due ≡ a.due) × (b.place ≤ a.place)) → b.head.frame.stamp ≤ a.head.frame.stamp
+  one (inl less) = let here = all.0.due in let there = timed.due in omega (arith, less, here, there)
+  one (inr same) = let here = all.0.due in let there = timed.due in let is = same.0 in omega (arith, is, here, there)
+
+-- ---- the next arrival of all
+
+pub opened : {R : Type 0} (remaining : R → Option (List ℕ)) (net : Network) (first now : List R) (i : Intake) (clocks : List Clock) (came : List Arrival) → i.ends.items ≡ open_ends net
+    → clocks ≡ map (λ (e : End). same_clock) i.ends.items → HasMerged remaining clocks first now i.merging came → HasTaken remaining net first now i came
+opened remaining net first now i clocks came ends are merged = record {
+  ends = ends;
+  merged = subst (λ (cs : List Clock). HasMerged remaining cs first now i.merging came) (are ∙ ap (λ (es : List End). map (λ (e : End). same_clock) es) ends) merged;
+}
+
+-- its place is one of the ports
+pub place_within : {R : Type 0} (remaining : R → Option (List ℕ)) (net : Network) (first now : List R) (old new : Intake) (came : List Arrival) (a : Arrival) → old.ends.items ≡ open_ends net
+    → HasMerged remaining (map (λ (e : End). same_clock) (open_ends net)) first now new.merging (came ++ a ∷ []) → a.place < length old.ends.items
+place_within remaining net first now old new came a ends merged =
+    let lt = all_last (λ (b : Arrival). b.place < length (map (λ (e : End). same_clock) (open_ends net))) came a merged.within in
+    omega (arith, lt, length-map (open_ends net) (λ (e : End). same_clock), ap (λ (es : List End). length es) ends)
+
+pub takes_next : {R : Type 0} (remaining : R → Option (List ℕ)) (net : Network) (first before now : List R) (old new : Intake) (came : List Arrival) (a : Arrival) (to : End) (frame : Record)
+    → HasTaken remaining net first before old came → new.ends.items ≡ old.ends.items → HasMerged remaining (map (λ (e : End). same_clock) (open_ends net)) first now new.merging (came ++ a ∷ [])
+    → IsAfter (map (λ (e : End). same_clock) (open_ends net)) came a → slice_get old.ends.items a.place ≡ Some to → frame ≡ a.head.frame
+    → lesser (Some a.head.frame.stamp) (next_of new) ≡ next_of old → IsNextIn remaining net first now old new came to frame
+takes_next remaining net first before now old new came a to frame taken ends merged after at is least = record {
+  arrival = a;
+  to_is = ap (λ (es : List End). slice_get es a.place) (sym taken.ends) ∙ at;
+  frame_is = is;
+  taken = now_taken;
+  last = subst (λ (r : Record). AllByRecursion (λ (b : Arrival). b.head.frame.stamp ≤ r.stamp) came) (sym is) (in_order came a timed (all_timed remaining net first before old came taken) after.after);
+  least = subst (λ (r : Record). lesser (Some r.stamp) (next_of new) ≡ next_of old) (sym is) least;
+  early = subst (λ (r : Record). r.stamp < last_second) (sym is) timed.early;
+} where
+  now_taken : HasTaken remaining net first now new (came ++ a ∷ [])
+  now_taken = record { ends = ends ∙ taken.ends; merged = merged }
+
+  timed : IsTimed a
+  timed = all_last IsTimed came a (all_timed remaining net first now new (came ++ a ∷ []) now_taken)
+
+-- ---- all of them
+
+-- more was taken; where none was left it is none
+pub record ReadsOn {R : Type 0} (remaining : R → Option (List ℕ)) (net : Network) (first : List R) (start : Intake) (came : List Arrival) (now : List R) (i : Intake) : Type 0 where
+  pub more : List Arrival
+  pub taken : HasTaken remaining net first now i (came ++ more)
+  pub none : next_of start ≡ None → (more ≡ []) × (next_of i ≡ None)
+
+pub reads_none : {R : Type 0} (remaining : R → Option (List ℕ)) (net : Network) (first : List R) (start : Intake) (came : List Arrival) (now : List R) → HasTaken remaining net first now start came
+    → ReadsOn remaining net first start came now start
+reads_none remaining net first start came now taken = record {
+  more = [];
+  taken = subst (HasTaken remaining net first now start) (sym (append-nil came)) taken;
+  none = λ is. (refl, is);
+}
+
+pub reads_one : {R : Type 0} (remaining : R → Option (List ℕ)) (net : Network) (first : List R) (start : Intake) (came : List Arrival) (now later : List R) (i new : Intake) (a : Arrival)
+    → (r : ReadsOn remaining net first start came now i) → new.ends.items ≡ i.ends.items
+    → HasMerged remaining (map (λ (e : End). same_clock) (open_ends net)) first later new.merging ((came ++ r.more) ++ a ∷ []) → lesser (Some a.head.frame.stamp) (next_of new) ≡ next_of i
+    → ReadsOn remaining net first start came later new
+reads_one remaining net first start came now later i new a r ends merged least = record {
+  more = r.more ++ a ∷ [];
+  taken = subst (HasTaken remaining net first later new) (append_assoc came r.more (a ∷ [])) (record { ends = ends ∙ r.taken.ends; merged = merged });
+  none = λ is. absurd (never (next_of new) (least ∙ (r.none is).1));
+} where
+  never : (o : Option ℕ) → lesser (Some a.head.frame.stamp) o ≡ None → ⊥
+  never None is = cc
+  never (Some n) is = cc
+
+pub reads_all : {R : Type 0} (remaining : R → Option (List ℕ)) (net : Network) (first : List R) (start : Intake) (came : List Arrival) (now : List R) (i : Intake)
+    → (r : ReadsOn remaining net first start came now i)
+    → AreMerged remaining (map (λ (e : End). same_clock) (open_ends net)) first (came ++ r.more) → HasTakenAll remaining net first start came
+reads_all remaining net first start came now i r merged = record { more = r.more; merged = merged; none = λ is. (r.none is).0 }
+
+-- ---- a fault of a capture
+
+pub fault_among : {R : Type 0} (remaining : R → Option (List ℕ)) (readers : List R) (ends : List End) (fault : MergeFault) → length readers ≡ length ends → IsMergeFault remaining readers fault
+    → IsAmong (length ends) fault
+fault_among remaining readers ends merge.Memory same is = tt
+fault_among remaining readers ends (merge.Read place) same is = omega (arith, same, is)
+fault_among remaining readers ends (merge.Capture place why) same is = let lt = is.within in let many = is.read.many in omega (arith, same, lt, many)
+
+pub fault_there : {R : Type 0} (remaining : R → Option (List ℕ)) (net : Network) (readers : List R) (ends : List End) (fault : MergeFault) (why : NetworkRunFault) → ends ≡ open_ends net
+    → IsMergeFault remaining readers fault → IsFaultAt ends fault why → IsIntakeFault remaining net readers why
+fault_there remaining net readers ends merge.Memory why same is at = subst (IsIntakeFault remaining net readers) (sym at) tt
+fault_there remaining net readers ends (merge.Read place) why same is at = subst (IsIntakeFault remaining net readers) (sym at) is
+fault_there remaining net readers ends (merge.Capture place reason) why same is at =
+    subst (IsIntakeFault remaining net readers) (sym at.2) (place, ap (λ (es : List End). slice_get es place) (sym same) ∙ at.1, is)

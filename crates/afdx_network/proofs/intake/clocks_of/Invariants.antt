@@ -1,0 +1,6 @@
+use Rattle.std.proofs.Common.{◌≡◌, ◌++◌, map, drop}
+use Rattle.afdx_network.specs.Inner.Intake.{same_clock}
+use Rattle.afdx_network.proofs.intake.clocks_of.Given as goal
+
+abbrev pub invariant-loop-end : goal.invariant-loop-end
+invariant-loop-end l = map (λ e. same_clock) l.ends ≡ l.clocks.items ++ map (λ e. same_clock) (drop l._end-index l.ends)

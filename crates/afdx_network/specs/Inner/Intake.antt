@@ -1,0 +1,97 @@
+-- What is given for a run, as far as it was read.
+use Rattle.std.specs.Prelude.{◌≡◌, ◌<◌, ◌≤◌, ◌+◌, ◌*◌, ◌∷◌, ◌++◌, ℕ, List, [], map, length, slice_get, Option, Some, None, Contains}
+use Rattle.std.specs.List.{AllByRecursion, position_or_len}
+use Rattle.afdx_units.specs.Time.{second, last_second}
+use Rattle.afdx_pcap.specs.Record.{Record}
+use Rattle.afdx_pcap.specs.Capture.{IsCapture}
+use Rattle.afdx_session.specs.Texts.{Text}
+use Rattle.afdx_merging.specs.declared.clock.Clock.{Clock}
+use Rattle.afdx_merging.specs.declared.fault.MergeFault.{MergeFault}
+use Rattle.afdx_merging.specs.declared.fault.MergeFault.TheVariants as merge
+use Rattle.afdx_merging.specs.Merge.{Arrival, at_place}
+use Rattle.afdx_merging.specs.Read.{AreMerged, HasFirstFault}
+use Rattle.afdx_merging.specs.Inner.Merging.{HasMerged, least_of, lesser}
+use Rattle.afdx_wiring.specs.declared.layout.End.{End}
+use Rattle.afdx_wiring.specs.File.{is_end}
+use Rattle.afdx_wiring.specs.Net.{Network}
+use Rattle.afdx_network.specs.declared.intake.Intake.{Intake}
+use Rattle.afdx_network.specs.declared.fault.NetworkRunFault.{NetworkRunFault}
+use Rattle.afdx_network.specs.declared.fault.NetworkRunFault.TheVariants as fault
+use Rattle.afdx_network.specs.Runs.{Given}
+use Rattle.afdx_network.specs.Given.{open_ends, AreGiven}
+use Rattle.afdx_network.specs.Inner.Sites.{end_at}
+
+-- the clock of all captures: stamps are as they are
+abbrev pub same_clock : Clock
+same_clock = record { later = 0; sooner = 0; delay = 0 }
+
+-- the place of a port among these
+abbrev pub end_place : List End → End → ℕ
+end_place ends e = position_or_len (λ x. is_end x e) ends
+
+-- the records of these arrivals that came in at a port: those of the capture at its place
+abbrev pub came_at : List End → List Arrival → (switch port : ℕ) → List Record
+came_at ends came switch port = map (λ a. a.head.frame) (at_place (end_place ends (end_at switch port)) came)
+
+-- readers gave this at first, and of what they gave these arrivals were taken
+pub record HasTaken {R : Type 0} (remaining : R → Option (List ℕ)) (net : Network) (first now : List R) (i : Intake) (came : List Arrival) : Type 0 where
+  pub ends : i.ends.items ≡ open_ends net
+  pub merged : HasMerged remaining (map (λ e. same_clock) (open_ends net)) first now i.merging came
+
+-- the stamp of the first record that was not taken
+abbrev pub next_of : Intake → Option ℕ
+next_of i = least_of i.merging.lanes.items
+
+-- none of them comes before this instant
+abbrev pub IsNotBefore : ℕ → Option ℕ → Type 0
+IsNotBefore h None = Unit {0}
+IsNotBefore h (Some n) = h ≤ n
+
+-- these captures were given so far: those of the arrivals at each port
+pub record AreGivenSoFar (net : Network) (came : List Arrival) (given : Given) : Type 0 where
+  pub are : AreGiven net given
+  pub each : (switch : ℕ) (own : List Text) (text : Text) → slice_get given switch ≡ Some own → Contains own text → IsCapture text.1 (came_at (open_ends net) came switch text.0)
+
+-- no record of these came in the last 64 seconds that pcap can hold
+abbrev pub NoneCameLate : List Arrival → Type 0
+NoneCameLate came = AllByRecursion (λ a. a.head.frame.stamp + 64 * second ≤ last_second) came
+
+-- ---- a record is taken
+
+-- the next arrival of all came at this port
+pub record IsNextIn {R : Type 0} (remaining : R → Option (List ℕ)) (net : Network) (first now : List R) (old new : Intake) (came : List Arrival) (to : End) (frame : Record) : Type 0 where
+  pub arrival : Arrival
+  pub to_is : slice_get (open_ends net) arrival.place ≡ Some to
+  pub frame_is : frame ≡ arrival.head.frame
+  pub taken : HasTaken remaining net first now new (came ++ arrival ∷ [])
+  pub last : AllByRecursion (λ a. a.head.frame.stamp ≤ frame.stamp) came
+  pub least : lesser (Some frame.stamp) (next_of new) ≡ next_of old
+  pub early : frame.stamp < last_second
+
+-- all were taken
+pub record HasTakenAll {R : Type 0} (remaining : R → Option (List ℕ)) (net : Network) (first : List R) (old : Intake) (came : List Arrival) : Type 0 where
+  pub more : List Arrival
+  pub merged : AreMerged remaining (map (λ e. same_clock) (open_ends net)) first (came ++ more)
+  pub none : next_of old ≡ None → more ≡ []
+
+-- ---- what is given is not read on
+
+-- the same fault, said of a port
+abbrev pub IsFaultAt : List End → MergeFault → NetworkRunFault → Type 0
+IsFaultAt ends merge.Memory why = why ≡ fault.Memory
+IsFaultAt ends (merge.Read place) why = why ≡ fault.Read place
+IsFaultAt ends (merge.Capture place reason) why = (e : End) × (slice_get ends place ≡ Some e) × (why ≡ fault.Capture e.switch e.port reason)
+
+-- it is of one of so many captures
+abbrev pub IsAmong : ℕ → MergeFault → Type 0
+IsAmong count merge.Memory = Unit {0}
+IsAmong count (merge.Read place) = place < count
+IsAmong count (merge.Capture place reason) = place < count
+
+-- memory ran out or a reader failed, which may be at any time; or all was read, and what this port's gives is the first that is no capture
+abbrev pub IsIntakeFault : {R : Type 0} → (R → Option (List ℕ)) → Network → List R → NetworkRunFault → Type 0
+IsIntakeFault remaining net readers fault.Memory = Unit {0}
+IsIntakeFault remaining net readers (fault.Read place) = place < length readers
+IsIntakeFault remaining net readers (fault.Capture switch port why) =
+    (place : ℕ) × (slice_get (open_ends net) place ≡ Some (end_at switch port)) × HasFirstFault remaining readers place why
+IsIntakeFault remaining net readers fault.WrongWires = ⊥

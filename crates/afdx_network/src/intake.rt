@@ -1,0 +1,135 @@
+//! What is given for a run: captures that readers give, of the ports to which no wire goes.
+
+ghost use Rattle.std.specs.Prelude.{◌≡◌, ◌++◌, [], List, None, length, map, IfOk, IfErr, OnOk, IfSome, IfNone};
+ghost use Rattle.afdx_merging.specs.Merge.{Arrival as Came};
+ghost use Rattle.afdx_wiring.specs.Net.{Network as Net};
+ghost use Rattle.afdx_network.specs.Given.{open_ends};
+ghost use Rattle.afdx_network.specs.Inner.Intake.{same_clock, HasTaken, next_of, IsNextIn, HasTakenAll, IsAmong, IsFaultAt, IsIntakeFault};
+
+use crate::fault::NetworkRunFault;
+use crate::given::open_ends;
+use afdx_merging::{Clock, MergeFault, Merging};
+use afdx_pcap::Record;
+use afdx_units::Stamp;
+use afdx_wiring::{End, Network};
+use std::alloc::{AllocError, Global};
+use std::io::Read;
+
+/// The captures that are given, of each of which the next record is at hand, and the port of each.
+#[derive(Drop)]
+pub(crate) struct Intake {
+    pub(crate) ends: Vec<End>,
+    pub(crate) merging: Merging<Global>,
+}
+
+/// The clock of a capture at each of these ports: stamps are as they are.
+fn clocks_of(alloc: Global, ends: &[End]) -> Result<Vec<Clock>, AllocError>
+    ensures { IfOk result (λ clocks. clocks.items ≡ map (λ e. same_clock) ends.now) }
+{
+    let mut clocks = Vec::with_capacity(alloc, ends.len())?;
+    for _end in ends {
+        clocks.push(Clock {
+            later: 0,
+            sooner: 0,
+            delay: 0,
+        })?;
+    }
+    Ok(clocks)
+}
+
+/// The same fault, said of a port.
+fn fault_at(ends: &[End], fault: MergeFault) -> NetworkRunFault
+    requires { IsAmong (length ends.now) fault }
+    ensures { IsFaultAt ends.now fault result }
+{
+    match fault {
+        MergeFault::Memory => NetworkRunFault::Memory,
+        MergeFault::Read(place) => NetworkRunFault::Read(place),
+        MergeFault::Capture(place, why) => {
+            let end = ends[place];
+            NetworkRunFault::Capture(end.switch, end.port, why)
+        }
+    }
+}
+
+impl Intake {
+    /// The captures that these readers give, of the ports of a network to which no wire goes, in their order. The first record of each is
+    /// read.
+    ///
+    /// # Errors
+    ///
+    /// Those of [`Intake::next`].
+    pub(crate) fn open<R: Read>(
+        alloc: Global,
+        network: &Network,
+        readers: &mut [R],
+    ) -> Result<Intake, NetworkRunFault>
+        requires { length readers.old ≡ length (open_ends network.now) }
+        ensures ok { IfOk result (λ i. HasTaken R.remaining network.now readers.old readers.new i []) }
+        ensures err { IfErr result (IsIntakeFault R.remaining network.now readers.old) }
+    {
+        let ends = open_ends(alloc, network)?;
+        let clocks = clocks_of(alloc, &ends)?;
+        match Merging::open(alloc, &clocks, readers) {
+            Ok(merging) => Ok(Intake { ends, merging }),
+            Err(fault) => Err(fault_at(&ends, fault)),
+        }
+    }
+
+    /// The stamp of the first of the next records, if there is one. O(captures).
+    pub(crate) fn least(&self) -> Option<Stamp>
+        ensures { result ≡ next_of self.now }
+    {
+        self.merging.least()
+    }
+
+    /// The next record of all captures, by stamp, and the port at which it comes in. O(captures), beside what is read.
+    ///
+    /// # Errors
+    ///
+    /// `Memory` where memory ran out. Else all readers are read to their ends, and it is `Read` with the place of the first one that
+    /// fails; else `Capture` with the port of the first one that gives no capture, and its first fault.
+    pub(crate) fn next<R: Read>(
+        &mut self,
+        alloc: Global,
+        readers: &mut [R],
+    ) -> Result<Option<(End, Record<'static, Global>)>, NetworkRunFault>
+        requires { (net : Net) × (first : List R) × (came : List Came) × HasTaken R.remaining net first readers.old self.old came }
+        ensures some { IfOk result (λ found. IfSome found (λ both. (net : Net) (first : List R) (came : List Came)
+            → HasTaken R.remaining net first readers.old self.old came
+            → IsNextIn R.remaining net first readers.new self.old self.new came both.0 both.1)) }
+        ensures none { IfOk result (λ found. IfNone found (next_of self.old ≡ None)) }
+        ensures err { IfErr result (λ why. (net : Net) (first : List R) (came : List Came)
+            → HasTaken R.remaining net first readers.old self.old came → IsIntakeFault R.remaining net first why) }
+    {
+        match self.merging.next(readers) {
+            Ok(Some(arrival)) => {
+                let to = self.ends[arrival.place];
+                let frame = arrival.head.into_frame(alloc)?;
+                Ok(Some((to, frame)))
+            }
+            Ok(None) => Ok(None),
+            Err(fault) => Err(fault_at(&self.ends, fault)),
+        }
+    }
+
+    /// Reads all captures on to their ends.
+    ///
+    /// The errors are those of [`Intake::next`]. O(what is left of them), and O(captures) for each record.
+    pub(crate) fn end<R: Read>(mut self, readers: &mut [R]) -> Result<(), NetworkRunFault>
+        requires { (net : Net) × (first : List R) × (came : List Came) × HasTaken R.remaining net first readers.old self came }
+        ensures ok { OnOk result ((net : Net) (first : List R) (came : List Came) → HasTaken R.remaining net first readers.old self came
+            → HasTakenAll R.remaining net first self came) }
+        ensures err { IfErr result (λ why. (net : Net) (first : List R) (came : List Came)
+            → HasTaken R.remaining net first readers.old self came → IsIntakeFault R.remaining net first why) }
+    {
+        for _record in 0..u64::MAX {
+            match self.merging.next(readers) {
+                Ok(Some(_arrival)) => {}
+                Ok(None) => return Ok(()),
+                Err(fault) => return Err(fault_at(&self.ends, fault)),
+            }
+        }
+        Err(NetworkRunFault::Memory)
+    }
+}
