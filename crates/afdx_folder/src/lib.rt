@@ -2,6 +2,17 @@
 //!
 //! [`read_to_end`] and [`write_bytes`] make a bounded number of calls and try none again. A [`Folder`] names which file it
 //! failed for at last; [`Disk`] is the one of real files. A file is put as a whole, as a [`NewFile`] that was written in parts.
+//!
+//! # Example
+//!
+//! From `crates/afdx_refusal_tests/src/folders.rt`:
+//!
+//! ```
+//! let mut new = folder.begin(name)?;
+//! new.append(bytes)?;
+//! let settled = folder.settle(new, name)?;
+//! folder.put_new(settled, name)
+//! ```
 #![tactic(auto)]
 
 mod claims;
