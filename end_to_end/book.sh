@@ -1,8 +1,9 @@
 #!/usr/bin/env bash
 # The pages against the repository: the quotes of docs/trust are what their sources have, and its counts of definitions are right; all
-# that the contracts of `run`, `Session` and `serve` rest on is quoted; the maps of crates are those of crates.txt; numbers that stand
-# in the code and on a page are the same, and so is the version; each wrong body can be applied and PROOFS names it; the contracts that
-# pages claim are there, and say what they said; and no page names a file or a section that is not there.
+# that the contracts of `run`, `Session` and `serve` rest on is quoted; the maps of crates are those of crates.txt; the examples on the
+# crates' front pages are what tests run; numbers that stand in the code and on a page are the same, and so is the version; each wrong
+# body can be applied and PROOFS names it; the contracts that pages claim are there, and say what they said; and no page names a file or
+# a section that is not there.
 . "$(dirname "$0")/common.sh"
 install python3=python3
 export PYTHONDONTWRITEBYTECODE=1 LC_ALL=C.UTF-8
@@ -10,20 +11,39 @@ cd "$top" || exit 1
 
 check "the quotes are their sources' texts, and nothing that the contracts rest on is left out" python3 docs/trust/quotes.py --check
 check "the maps of crates are those of crates.txt, and each crate's proofs have a place" python3 docs/develop/crates.py --check
+check "the examples on the crates' front pages are what tests run" python3 docs/develop/examples.py --check
 check "what \`afdx explain\` prints is in MESSAGES" python3 docs/develop/remedies.py --check
 check "numbers on the pages are the constants of the code" python3 end_to_end/constants.py
 check "the version is that of the code" python3 end_to_end/versions.py
 check "each wrong body can be applied, and PROOFS names it" python3 end_to_end/edits.py
 
+# --- what turns, in a copy ---
+
+mkdir "$room/tree"
+tar -c --exclude=out ./*.md crates.txt bench/*.md crates docs end_to_end/*.py examples/*.md | tar -x -C "$room/tree"
+
+# turned_by COMMAND FILE OLD NEW LINE: with this text of the file turned, in the copy, the copy's script fails and says so.
+turned_by() {
+    local status=0 words
+    read -ra words <<<"$1"
+    sed -i "s/$3/$4/" "$room/tree/$2"
+    diff "$2" "$room/tree/$2"
+    python3 "$room/tree/${words[0]}" "${words[@]:1}" >"$room/answer.txt" 2>&1 || status=$?
+    cat "$room/answer.txt" && cp "$2" "$room/tree/$2" && [ "$status" -eq 1 ] && grep -qF -- "$5" "$room/answer.txt"
+}
+
+# --- examples on front pages ---
+
+examples='docs/develop/examples.py --check'
+check "an example that is not as its test has it" turned_by "$examples" crates/afdx_rule_tests/src/first_calls.rt \
+    'Instants::new(3)' 'Instants::new(4)' 'crates/afdx_earliest/src/lib.rt: the example is not as its test has it'
+check "a crate whose example is gone" turned_by "$examples" crates/afdx_rule_tests/src/first_calls.rt \
+    'example of afdx_lines' 'start of afdx_lines' 'afdx_lines: no example in any test'
+
 # --- claims of contracts ---
 
-# turned FILE OLD NEW LINE: with this text of the file turned, in a copy, claims.py fails and says so.
 turned() {
-    local status=0
-    sed -i "s/$2/$3/" "$room/tree/$1"
-    diff "$1" "$room/tree/$1"
-    python3 "$room/tree/end_to_end/claims.py" >"$room/answer.txt" || status=$?
-    cat "$room/answer.txt" && cp "$1" "$room/tree/$1" && [ "$status" -eq 1 ] && grep -qF -- "$4" "$room/answer.txt"
+    turned_by end_to_end/claims.py "$@"
 }
 
 # renewed: with a clause turned the list is written anew, and then nothing is wrong.
@@ -35,8 +55,6 @@ renewed() {
 
 session=crates/afdx_session/src/session.rt
 headline=crates/afdx_session/specs/Headline.antt
-mkdir "$room/tree"
-tar -c --exclude=out ./*.md bench/*.md crates docs end_to_end/*.py examples/*.md | tar -x -C "$room/tree"
 check "what pages claim is in the contracts, and is what it was" python3 end_to_end/claims.py
 check "a clause with another name" turned $session 'ensures known' 'ensures there' 'Session::take has no clause known'
 check "a weaker clause" turned crates/afdx_session/src/whole.rt 'ensures isolated { ' '&true ≡ false → ' \

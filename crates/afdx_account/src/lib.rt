@@ -3,6 +3,20 @@
 //!
 //! `specs/Policing.antt` defines the passed frames by the windows over one link's own frames. An account
 //! keeps one level; its `offer` is proved to answer by that definition. Every call is O(1) and takes no memory.
+//!
+//! # Example
+//!
+//! From `crates/afdx_rule_tests/src/accounts.rt`:
+//!
+//! ```
+//! let mut account = Account::new(Police::Frame, 1518, Bag::Ms1, 1_000_000);
+//! let terms = [account.cap(), account.rate(), account.price(64)];
+//! let weight = account.weight(Speed::Hundred);
+//! let first = account.offer(Stamp::ZERO, 64);
+//! let second = account.offer(Stamp::ZERO, 1518);
+//! let third = account.offer(Stamp::ZERO, 64);
+//! let soon = early_by(&account, Stamp::ZERO, 64);
+//! ```
 #![tactic(auto)]
 
 mod account;

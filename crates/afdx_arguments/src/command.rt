@@ -5,7 +5,7 @@ ghost use Rattle.clap.specs.Words.{App, app_of, new_app, rule_of, with_rule, wit
 ghost use Rattle.clap.specs.declared.builder.command.Command.TheViews.{out-Command};
 ghost use Rattle.afdx_arguments.specs.Commands.{number_rule, path_rule, flag_rule, csv_rule, text_rule, links_rule};
 ghost use Rattle.afdx_arguments.specs.Commands.{alone_app, check_app, size_app, files_app, paths_app, run_app, inputs_app, trace_app};
-ghost use Rattle.afdx_arguments.specs.Commands.{compare_app, network_app, bare_program, program};
+ghost use Rattle.afdx_arguments.specs.Commands.{network_app, bare_program, program};
 
 use crate::compare_command::compare;
 use crate::explaining::explain;

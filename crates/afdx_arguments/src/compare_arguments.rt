@@ -1,6 +1,6 @@
 //! What the arguments of `compare` ask for.
 
-ghost use Rattle.std.specs.Prelude.{◌≡◌, ◌≢◌, ◌↔◌, ℕ, [], IsTrue, MatchOption, Option as Optional, Some, codes, option_map};
+ghost use Rattle.std.specs.Prelude.{◌≡◌, ◌↔◌, ℕ, [], IsTrue, MatchOption, Option as Optional, Some, codes, option_map};
 ghost use Rattle.clap.specs.Words.{first_of, found_of, rows_of};
 ghost use Rattle.afdx_recordings.specs.declared.offsets.Offsets.{Offsets as Added};
 ghost use Rattle.afdx_recordings.specs.declared.outputs.Outputs.{Outputs as Recorded};

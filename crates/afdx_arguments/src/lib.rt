@@ -1,4 +1,16 @@
 //! The command line: from its arguments, as `clap` reads them, to what they ask for.
+//!
+//! # Example
+//!
+//! From `crates/afdx_serve_tests/src/policing.rt`:
+//!
+//! ```
+//! let arguments = split(alloc, line)?;
+//! match parse(alloc, VERSION, &arguments) {
+//!     Ok(Request::Alone(link)) => Ok(Some(link)),
+//!     _ => Ok(None),
+//! }
+//! ```
 #![tactic(auto)]
 
 mod arguments;

@@ -6,6 +6,7 @@ use Rattle.std.specs.Option.{option_map_or}
 use Rattle.std.proofs.Math.Nat.{min-le_left, le_trans}
 use Rattle.std.proofs.lemmas.Bool.{leb-true}
 use Rattle.std.proofs.lemmas.List.{length-map}
+use Rattle.afdx_units.specs.Time.{last_instant}
 use Rattle.afdx_units.specs.declared.line.Priority.{Priority}
 use Rattle.afdx_table.specs.declared.rows.PortRow.{PortRow}
 use Rattle.afdx_table.specs.Link.{Link}
@@ -14,7 +15,7 @@ use Rattle.afdx_table.specs.WellFormed.{IsWellFormed}
 use Rattle.afdx_following.specs.declared.watch.Watch.{Watch}
 use Rattle.afdx_following.specs.declared.watch.Start.{Start}
 use Rattle.afdx_following.specs.declared.watch.Start.TheVariants.{Rest, Cut}
-use Rattle.afdx_following.specs.Watch.{has_begun, has_not_ended, last_instant, unknown_from}
+use Rattle.afdx_following.specs.Watch.{has_begun, has_not_ended, unknown_from}
 use Rattle.afdx_following.specs.Output.{Output}
 use Rattle.afdx_following.specs.Watched.{Watched}
 use Rattle.afdx_merging.specs.Merge.{Arrival}

@@ -1,5 +1,5 @@
 -- What a call does to a comparison is what its definition says.
-use Rattle.std.proofs.Common.{◌≡◌, ℕ, Bool, true, false, List, set, Option, Some, None, sym, ap, ◌∙◌}
+use Rattle.std.proofs.Common.{◌≡◌, ℕ, Bool, true, List, set, Option, Some, None, sym, ap, ◌∙◌}
 use Rattle.std.specs.Prelude.{if◌then◌else◌, slice_get}
 use Rattle.afdx_pairing.specs.declared.event.Mark.{Mark}
 use Rattle.afdx_pairing.specs.Events.{Numbered, mark_of}
@@ -14,12 +14,6 @@ use Rattle.afdx_compare.specs.Comparison.{Port, Comparison, with_seen, with_fore
 came_is : (c : Comparison) (port : ℕ) (n : Numbered) (of : Option ℕ) → has_frame c.watch n.frame.stamp ≡ true → place_of_own c.table port n.frame ≡ of → own_came of n c ≡ with_came port n c
 came_is c port n of has is =
     ap (λ (o : Option ℕ). own_came o n c) (sym is) ∙ ap (λ (b : Bool). if b then own_came (place_of_own c.table port n.frame) n c else c) (sym has)
-
-pub came_not : (c : Comparison) (port : ℕ) (n : Numbered) → has_frame c.watch n.frame.stamp ≡ false → c ≡ with_came port n c
-came_not c port n has = ap (λ (b : Bool). if b then own_came (place_of_own c.table port n.frame) n c else c) (sym has)
-
-pub came_of_none : (c : Comparison) (port : ℕ) (n : Numbered) → has_frame c.watch n.frame.stamp ≡ true → place_of_own c.table port n.frame ≡ None → c ≡ with_came port n c
-came_of_none c port n has is = came_is c port n None has is
 
 pub came_made : (c : Comparison) (port : ℕ) (n m : Numbered) (place : ℕ) (f new : Watched) → has_frame c.watch n.frame.stamp ≡ true → place_of_own c.table port n.frame ≡ Some place
     → slice_get c.links place ≡ Some f → m ≡ n → new ≡ with_own m f → record c { links = set c.links place new } ≡ with_came port n c
@@ -38,9 +32,6 @@ left_is : (c : Comparison) (s : Source) (n : Numbered) (to : Option (ℕ × ℕ)
 left_is c s n to has is =
     ap (λ (o : Option (ℕ × ℕ)). record_left s.place o n (seen_at s c)) (sym is)
     ∙ ap (λ (b : Bool). if b then record_left s.place (link_at s.port n.frame.bytes c) n (seen_at s c) else c) (sym has)
-
-pub left_not : (c : Comparison) (s : Source) (n : Numbered) → has_record c.watch n.frame.stamp ≡ false → c ≡ with_left s n c
-left_not c s n has = ap (λ (b : Bool). if b then record_left s.place (link_at s.port n.frame.bytes c) n (seen_at s c) else c) (sym has)
 
 pub left_made : (c : Comparison) (s : Source) (n m : Numbered) (link output : ℕ) (f new : Watched) (p : Port) (ports : List Port) → has_record c.watch n.frame.stamp ≡ true
     → link_at s.port n.frame.bytes c ≡ Some (link, output) → slice_get c.ports s.place ≡ Some p → ports ≡ set c.ports s.place (with_seen p) → slice_get c.links link ≡ Some f → m ≡ n

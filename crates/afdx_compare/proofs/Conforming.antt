@@ -6,6 +6,7 @@ use Rattle.std.specs.Option.{option_map_or}
 use Rattle.std.proofs.lemmas.Bool.{eqb-true, eqb-false, eq-eqb, ne_eqb}
 use Rattle.std.proofs.lemmas.List.Elements.{All-nil, All-cons}
 use Rattle.std.proofs.lemmas.Option.{same_Some, slice_get-map, slice_get-get_or, slice_get_within}
+use Rattle.afdx_units.specs.Time.{last_instant}
 use Rattle.afdx_pcap.specs.Record.{Record}
 use Rattle.afdx_frame.specs.Address.{link_of}
 use Rattle.afdx_account.specs.declared.account.Account.{Account}
@@ -34,7 +35,7 @@ use Rattle.afdx_following.specs.Watched.{Watched, levels_at_first, conforms, wit
 use Rattle.afdx_following.specs.Followed.{Notice, Arrived, Departed, with_notice, with_notices, own_in, left_in, judged, IsExplained, FollowedIsKept}
 use Rattle.afdx_core.specs.Merge.{Capture}
 use Rattle.afdx_session.specs.Headline.{records_for}
-use Rattle.afdx_merging.specs.Merge.{Arrival, last_instant, IsMergeOf}
+use Rattle.afdx_merging.specs.Merge.{Arrival, IsMergeOf}
 use Rattle.afdx_merging.proofs.Lists.{mapped_at}
 use Rattle.afdx_recordings.specs.declared.recordings.Recordings.{Recordings}
 use Rattle.afdx_recordings.specs.Recordings.{is_recorded}
@@ -76,7 +77,7 @@ pub record Lower : Type 0 where
 
 -- ---- lists
 
-contained_at : {X : Type 0} (xs : List X) (x : X) → Contains xs x → (k : ℕ) × (slice_get xs k ≡ Some x)
+pub contained_at : {X : Type 0} (xs : List X) (x : X) → Contains xs x → (k : ℕ) × (slice_get xs k ≡ Some x)
 contained_at {X} xs x has = (has.0, slice_get-get_or xs has.0 x has.1 ∙ ap (λ (y : X). Some y) has.2)
 
 filter_of : {X : Type 0} (test : X → Bool) (xs : List X) (j : ℕ) (x : X) → slice_get (filter test xs) j ≡ Some x → (k : ℕ) × (slice_get xs k ≡ Some x) × (test x ≡ true)
@@ -135,7 +136,7 @@ allowed_as account terms tolerance since frames fates is allowed =
 
 -- ---- the link that a record names
 
-named_if : (b : Bool) (o : Option ℕ) (x : ℕ) → (if b then o else None) ≡ Some x → o ≡ Some x
+pub named_if : (b : Bool) (o : Option ℕ) (x : ℕ) → (if b then o else None) ≡ Some x → o ≡ Some x
 named_if true o x is = is
 named_if false o x is = absurd (let never = is in cc)
 
@@ -146,7 +147,7 @@ pub record IsLedBy (t : Content) (links : List Watched) (port : ℕ) (bytes : Li
   pub there : slice_get links link ≡ Some followed
   pub place : position (λ o. o.port == port) followed.outputs ≡ Some output
 
-led_by : (t : Content) (links : List Watched) (port : ℕ) (bytes : List ℕ) (link output : ℕ) → link_among port links (place_of_named t bytes) ≡ Some (link, output)
+pub led_by : (t : Content) (links : List Watched) (port : ℕ) (bytes : List ℕ) (link output : ℕ) → link_among port links (place_of_named t bytes) ≡ Some (link, output)
     → IsLedBy t links port bytes link output
 led_by t links port bytes link output is =
     let by = among_links port link output links (place_of_named t bytes) is in
@@ -180,7 +181,7 @@ ports_lead w t r keeping links l place of port k is =
     (all_at (λ (x : Output). names_port x.port l.to ≡ true) outputs k o.0 o.1 (all_lead w t r.outputs keeping l.priority l.to l.to (names_all l.to)))
 
 -- a record that is led there is of the link exactly where it has the link's number
-led_alike : LinksAreFound → LinksAreAtTheirPlaces → (t : Content) (c : Comparison) (l : Link) (place k port : ℕ) (f : Watched) (r : Record) → c.table ≡ t → IsPlaced t l place
+pub led_alike : LinksAreFound → LinksAreAtTheirPlaces → (t : Content) (c : Comparison) (l : Link) (place k port : ℕ) (f : Watched) (r : Record) → c.table ≡ t → IsPlaced t l place
     → slice_get c.links place ≡ Some f → position (λ o. o.port == port) f.outputs ≡ Some k → (link output : ℕ) → link_at port r.bytes c ≡ Some (link, output)
     → is_at place k (link_at port r.bytes c) ≡ (link_of r.bytes == l.id)
 led_alike found places t c l place k port f r table at there is link output led = by (link_of r.bytes == l.id) refl where

@@ -7,16 +7,16 @@ use Rattle.std.proofs.lemmas.Bool.{leb-true, le-leb}
 use Rattle.afdx_pairing.specs.Events.{Numbered}
 use Rattle.afdx_following.specs.declared.watch.Watch.{Watch}
 use Rattle.afdx_following.specs.Watch.{has_begun, has_not_ended, has_frame, has_record}
-use Rattle.afdx_following.specs.Watched.{changed_at}
 use Rattle.afdx_merging.specs.Merge.{Arrival}
 use Rattle.afdx_merging.specs.Inner.Merging.{lesser as both_lesser}
 use Rattle.afdx_merging.proofs.Firsts.{lesser_joins}
 use Rattle.afdx_recordings.specs.declared.recordings.Recordings.{Recordings}
 use Rattle.afdx_compare.specs.declared.sources.Source.{Source}
-use Rattle.afdx_compare.specs.Comparison.{Comparison, with_seen, place_of_own, own_came, with_came, link_at, record_left, with_left, with_until}
+use Rattle.afdx_compare.specs.Comparison.{Comparison, place_of_own, own_came, with_came, link_at, record_left, with_left, with_until}
 use Rattle.afdx_compare.specs.Arrivals.{with_record_of, with_arrivals, lesser, greater, least_of, greatest_of}
 use Rattle.afdx_compare.specs.Inner.Due.{counts_as, counts}
 use Rattle.afdx_compare.specs.Inner.Held.{is_settled_of}
+use Rattle.afdx_compare.proofs.Calling.{seen_at}
 use Rattle.afdx_compare.proofs.Next.{arrival_same}
 
 -- ---- the least stamp
@@ -134,11 +134,8 @@ came_until true None until n c = refl
 came_until true (Some place) until n c = refl
 came_until false of until n c = refl
 
-abbrev seen_by : Source → Comparison → Comparison
-seen_by s c = record c { ports = changed_at s.place with_seen c.ports }
-
 left_until : (b : Bool) (to : Option (ℕ × ℕ)) (until : ℕ) (s : Source) (n : Numbered) (c : Comparison)
-    → with_until until (if b then record_left s.place to n (seen_by s c) else c) ≡ (if b then record_left s.place to n (seen_by s (with_until until c)) else with_until until c)
+    → with_until until (if b then record_left s.place to n (seen_at s c) else c) ≡ (if b then record_left s.place to n (seen_at s (with_until until c)) else with_until until c)
 left_until true None until s n c = refl
 left_until true (Some (link, output)) until s n c = refl
 left_until false to until s n c = refl
@@ -148,7 +145,7 @@ side_until : (leaves : Bool) (until : ℕ) (s : Source) (n : Numbered) (c : Comp
 side_until true until s n c still =
     let to = link_at s.port n.frame.bytes c in
     left_until (has_record c.watch n.frame.stamp) to until s n c
-    ∙ ap (λ (b : Bool). if b then record_left s.place to n (seen_by s (with_until until c)) else with_until until c) (sym still)
+    ∙ ap (λ (b : Bool). if b then record_left s.place to n (seen_at s (with_until until c)) else with_until until c) (sym still)
 side_until false until s n c still =
     let of = place_of_own c.table s.port n.frame in
     came_until (has_frame c.watch n.frame.stamp) of until n c

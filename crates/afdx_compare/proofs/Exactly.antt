@@ -104,7 +104,7 @@ price_fits : (police : Police) (max_size : ℕ) (bag : Bag) (jitter size : ℕ) 
 price_fits Byte max_size bag jitter size le = mul-le size (bag_ns bag) max_size (bag_ns bag + jitter) le (omega arith)
 price_fits ByFrames max_size bag jitter size le = omega arith
 
-is_clean : (id : ℕ) (v : Verdict) → says_clean id v ≡ true → v ≡ Clean id
+pub is_clean : (id : ℕ) (v : Verdict) → says_clean id v ≡ true → v ≡ Clean id
 is_clean id (Clean j) says = ap (λ n. Clean n) (sym (eqb-true id j says))
 is_clean id Cut says = absurd cc
 is_clean id Short says = absurd cc
@@ -121,7 +121,7 @@ module _ (clean : CleanFramesHaveALink) (found : LinksAreFound) (t : Content) (f
       let same = same_Some has.link l (sym has.is_link ∙ found.found t formed l there) in
       price_fits l.police l.max_size l.bag l.jitter (size_of (length r.bytes)) (subst (λ (k : Link). size_of (length r.bytes) ≤ k.max_size) same has.size_most)
 
-  all_fit : (rs : List Record) → AllFit (terms_of l) (map frame_of (filter (λ r. says_clean l.id (verdict_of t l.from r)) rs))
+  pub all_fit : (rs : List Record) → AllFit (terms_of l) (map frame_of (filter (λ r. says_clean l.id (verdict_of t l.from r)) rs))
   all_fit [] = tt
   all_fit (r ∷ rs) = elim (cases_Bool (says_clean l.id (verdict_of t l.from r))) [
     | inl says ↦ rw says (one_fits r says, all_fit rs)

@@ -20,7 +20,7 @@ use Rattle.afdx_compare.specs.Inner.Laws.{recorded_ports, left_out}
 use Rattle.afdx_compare.specs.Inner.Reading.{AreClocked}
 use Rattle.afdx_compare.proofs.Captured.{IsAlone, output_alone, output_by, left_at_port}
 use Rattle.afdx_compare.proofs.Leading.{left_from, all_left}
-use Rattle.afdx_compare.proofs.Owning.{records_at}
+use Rattle.afdx_compare.proofs.Owning.{none_if, records_at}
 use Rattle.afdx_compare.proofs.Picking.{flat_filter, picked, frames, all_place, frames_numbered}
 use Rattle.afdx_compare.proofs.Places.{get_there}
 
@@ -58,11 +58,6 @@ merge_clocked clocks captures arrivals merge =
 left_picked : (w : Watch) (port : ℕ) (captures : List Source) (arrivals : List Arrival) → all_left w port captures arrivals ≡ picked (left_from w port) captures arrivals
 left_picked w port captures [] = refl
 left_picked w port captures (a ∷ arrivals) = ap (λ (rs : List Record). left_from w port (slice_get captures a.place) a.head.frame ++ rs) (left_picked w port captures arrivals)
-
-none_if : (b d : Bool) (r : Record) → d ≡ false → (if b && d then r ∷ [] else []) ≡ []
-none_if true true r never = absurd cc
-none_if true false r is = refl
-none_if false d r is = refl
 
 not_same : (s : Source) (port : ℕ) (b : Bool) → (s.port == port) ≡ b → (s.port ≡ port → ⊥) → b ≡ false
 not_same s port true is never = absurd (never (eqb-true s.port port is))

@@ -14,9 +14,10 @@ use Rattle.afdx_following.specs.Watched.{Watched, changed_at, with_own, with_rec
 use Rattle.afdx_following.specs.Followed.{Notice, Arrived, Departed, left_in}
 use Rattle.afdx_merging.specs.Merge.{Arrival}
 use Rattle.afdx_compare.specs.declared.sources.Source.{Source}
-use Rattle.afdx_compare.specs.Comparison.{Comparison, with_seen, place_of_own, own_came, with_came, led_to, output_among, link_among, place_of_named, link_at, record_left, with_left}
+use Rattle.afdx_compare.specs.Comparison.{Comparison, place_of_own, own_came, with_came, led_to, output_among, link_among, place_of_named, link_at, record_left, with_left}
 use Rattle.afdx_compare.specs.Arrivals.{with_record_of, with_arrival}
 use Rattle.afdx_compare.specs.Inner.Told.{told_own, told_record, told_came, told_left, told_of, told}
+use Rattle.afdx_compare.proofs.Calling.{seen_at}
 use Rattle.afdx_compare.proofs.Keeping.{Setting, setting, settings, IsLike, own_like, record_like}
 use Rattle.afdx_compare.proofs.Next.{arrival_same}
 
@@ -58,10 +59,7 @@ came_leads true None n c port bytes = refl
 came_leads true (Some place) n c port bytes = links_lead port (with_own n) (own_like n) place c.links (place_of_named c.table bytes)
 came_leads false of n c port bytes = refl
 
-abbrev ports_seen : Source → Comparison → Comparison
-ports_seen s c = record c { ports = changed_at s.place with_seen c.ports }
-
-left_leads : (b : Bool) (s : Source) (to : Option (ℕ × ℕ)) (n : Numbered) (c : Comparison) → LeadAlike c (if b then record_left s.place to n (ports_seen s c) else c)
+left_leads : (b : Bool) (s : Source) (to : Option (ℕ × ℕ)) (n : Numbered) (c : Comparison) → LeadAlike c (if b then record_left s.place to n (seen_at s c) else c)
 left_leads true s None n c port bytes = refl
 left_leads true s (Some (link, output)) n c port bytes = links_lead port (with_record output n) (record_like output n) link c.links (place_of_named c.table bytes)
 left_leads false s to n c port bytes = refl

@@ -9,15 +9,16 @@ use Rattle.afdx_filter.specs.Inner.Clean.{CleanFramesHaveALink}
 use Rattle.afdx_pairing.specs.Events.{Numbered}
 use Rattle.afdx_following.specs.declared.watch.Watch.{Watch}
 use Rattle.afdx_following.specs.Watch.{has_frame, has_record}
-use Rattle.afdx_following.specs.Watched.{Watched, changed_at, with_own, with_record}
+use Rattle.afdx_following.specs.Watched.{Watched, with_own, with_record}
 use Rattle.afdx_following.specs.Followed.{Notice, Arrived, Departed, with_notice, with_notices, AreNext}
 use Rattle.afdx_merging.specs.Merge.{Arrival, IsBy as IsBefore, AreInOrder}
 use Rattle.afdx_compare.specs.declared.sources.Source.{Source}
-use Rattle.afdx_compare.specs.Comparison.{Comparison, with_seen, place_of_own, own_came, with_came, link_at, record_left, with_left}
+use Rattle.afdx_compare.specs.Comparison.{Comparison, place_of_own, own_came, with_came, link_at, record_left, with_left}
 use Rattle.afdx_compare.specs.Arrivals.{with_record_of, with_arrival}
 use Rattle.afdx_compare.specs.Inner.Sound.{IsSound, IsBy, due_of, IsInTurn}
 use Rattle.afdx_compare.specs.Inner.Told.{told_own, told_record, told_came, told_left, told_of, told}
 use Rattle.afdx_compare.specs.Inner.Due.{IsDueOf, IsDueBy, IsDue, AreDue, counts_as, counts, AreFrom}
+use Rattle.afdx_compare.proofs.Calling.{seen_at}
 use Rattle.afdx_compare.proofs.Keeping.{own_latest, record_latest}
 use Rattle.afdx_compare.proofs.Places.{changed_all}
 use Rattle.afdx_compare.proofs.Sounding.{came_sound, left_sound}
@@ -57,15 +58,12 @@ came_same : (b : Bool) (place : Option ℕ) (n : Numbered) (c : Comparison) → 
 came_same true place n c = own_same place n c
 came_same false place n c = record { table = refl; watch = refl }
 
-abbrev with_ports_seen : Source → Comparison → Comparison
-with_ports_seen s c = record c { ports = changed_at s.place with_seen c.ports }
-
 left_same : (b : Bool) (s : Source) (at : Option (ℕ × ℕ)) (n : Numbered) (c seen : Comparison) → IsSame c seen → IsSame c (if b then record_left s.place at n seen else c)
 left_same true s at n c seen same = (let one = record_same s.place at n seen in record { table = one.table ∙ same.table; watch = one.watch ∙ same.watch })
 left_same false s at n c seen same = record { table = refl; watch = refl }
 
 side_same : (leaves : Bool) (s : Source) (n : Numbered) (c : Comparison) → IsSame c (if leaves then with_left s n c else with_came s.port n c)
-side_same true s n c = left_same (has_record c.watch n.frame.stamp) s (link_at s.port n.frame.bytes c) n c (with_ports_seen s c) (record { table = refl; watch = refl })
+side_same true s n c = left_same (has_record c.watch n.frame.stamp) s (link_at s.port n.frame.bytes c) n c (seen_at s c) (record { table = refl; watch = refl })
 side_same false s n c = came_same (has_frame c.watch n.frame.stamp) (place_of_own c.table s.port n.frame) n c
 
 pub arrival_same : (s : Option Source) (a : Arrival) (c : Comparison) → IsSame c (with_record_of s a c)
@@ -112,11 +110,11 @@ came_by false at place a c due from by = by
 
 left_by : PortsAreFound → (b : Bool) (at : ℕ) (s : Source) (a : Arrival) (c : Comparison) → has_record c.watch a.head.frame.stamp ≡ b → IsSound c → IsDueOf c.watch c.table s a
     → (has_record c.watch a.head.frame.stamp ≡ true → at ≤ a.due) → IsBy at c
-    → IsBy (if b then a.due else at) (if b then record_left s.place (link_at s.port a.head.frame.bytes c) a.head (with_ports_seen s c) else c)
+    → IsBy (if b then a.due else at) (if b then record_left s.place (link_at s.port a.head.frame.bytes c) a.head (seen_at s c) else c)
 left_by ports true at s a c is sound due from by =
     let turn = turn_of at s a c due from by in
-    subst (λ (d : ℕ). IsBy d (record_left s.place (link_at s.port a.head.frame.bytes c) a.head (with_ports_seen s c))) (sym due.due)
-    (record_by ports at s (link_at s.port a.head.frame.bytes c) a.head c (with_ports_seen s c) sound refl turn is refl (let le = from is in let d = due.due in omega (arith, le, d)) by)
+    subst (λ (d : ℕ). IsBy d (record_left s.place (link_at s.port a.head.frame.bytes c) a.head (seen_at s c))) (sym due.due)
+    (record_by ports at s (link_at s.port a.head.frame.bytes c) a.head c (seen_at s c) sound refl turn is refl (let le = from is in let d = due.due in omega (arith, le, d)) by)
 left_by ports false at s a c is sound due from by = by
 
 side_by : PortsAreFound → (leaves b : Bool) (at : ℕ) (s : Source) (a : Arrival) (c : Comparison) → counts_as c.watch leaves a.head.frame.stamp ≡ b → IsSound c

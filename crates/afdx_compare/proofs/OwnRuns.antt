@@ -29,11 +29,11 @@ split_order f last bytes rest (r ∷ rs) splits = (splits.0.in_order, split_orde
 capture_order : (bytes : List ℕ) (rs : List Record) → IsCapture bytes rs → InOrder 0 (map frame_of rs)
 capture_order bytes rs is = split_order is.format 0 _ [] rs is.records
 
-order_from : (since later : ℕ) (fs : List Frame) → since ≤ later → InOrder later fs → InOrder since fs
+pub order_from : (since later : ℕ) (fs : List Frame) → since ≤ later → InOrder later fs → InOrder since fs
 order_from since later [] le order = tt
 order_from since later (f ∷ fs) le order = let first = order.0 in (omega (arith, le, first), order.1)
 
-order_filter : (p : Record → Bool) (since : ℕ) (rs : List Record) → InOrder since (map frame_of rs) → InOrder since (map frame_of (filter p rs))
+pub order_filter : (p : Record → Bool) (since : ℕ) (rs : List Record) → InOrder since (map frame_of rs) → InOrder since (map frame_of (filter p rs))
 order_filter p since [] order = tt
 order_filter p since (r ∷ rs) order = elim (p r) as (λ b. InOrder since (map frame_of (cond b (r ∷ filter p rs) (filter p rs)))) [
   | true ↦ (order.0, order_filter p r.stamp rs order.1)

@@ -4,6 +4,7 @@ use Rattle.std.specs.Prelude.{◌==◌, ◌&&◌, if◌then◌else◌, slice_get
 use Rattle.std.specs.List.{AllByRecursion}
 use Rattle.std.proofs.lemmas.Bool.{eqb-true, eqb-false, eq-eqb, ne_eqb}
 use Rattle.std.proofs.lemmas.Option.{same_Some, slice_get_within}
+use Rattle.afdx_units.specs.Time.{last_instant}
 use Rattle.afdx_pcap.specs.Record.{Record}
 use Rattle.afdx_table.specs.Link.{Link}
 use Rattle.afdx_table.specs.Content.{Content, link_row, link_place}
@@ -19,7 +20,7 @@ use Rattle.afdx_following.specs.declared.watch.Watch.{Watch}
 use Rattle.afdx_following.specs.Watch.{has_frame}
 use Rattle.afdx_core.specs.Rows.{says_clean}
 use Rattle.afdx_core.specs.Merge.{records_of}
-use Rattle.afdx_merging.specs.Merge.{Arrival, last_instant, IsMergeOf}
+use Rattle.afdx_merging.specs.Merge.{Arrival, IsMergeOf}
 use Rattle.afdx_recordings.specs.declared.recordings.Recordings.{Recordings}
 use Rattle.afdx_compare.specs.declared.sources.Source.{Source}
 use Rattle.afdx_compare.specs.Comparison.{place_of_own}
@@ -83,7 +84,7 @@ own_port clean places t l place port r at WrongPort is named = absurd (let never
 own_port clean places t l place port r at TooBig is named = absurd (let never = named in cc)
 
 -- at any other port none is
-none_if : (b d : Bool) (r : Record) → d ≡ false → (if b && d then r ∷ [] else []) ≡ []
+pub none_if : (b d : Bool) (r : Record) → d ≡ false → (if b && d then r ∷ [] else []) ≡ []
 none_if true true r never = absurd cc
 none_if true false r is = refl
 none_if false d r is = refl

@@ -18,6 +18,7 @@ use Rattle.afdx_compare.specs.Comparison.{Port, Comparison, with_seen, with_fore
 use Rattle.afdx_compare.specs.Arrivals.{with_record_of, with_arrival, with_arrivals}
 use Rattle.afdx_compare.specs.Inner.Sound.{IsSound}
 use Rattle.afdx_compare.specs.Inner.Due.{IsDueBy, IsDue, AreDue}
+use Rattle.afdx_compare.proofs.Calling.{seen_at}
 use Rattle.afdx_compare.proofs.Leading.{LeadAlike, alike_after, all_left, left_from}
 use Rattle.afdx_compare.proofs.Next.{arrival_same, arrival_sound}
 use Rattle.afdx_compare.proofs.Places.{changed_length}
@@ -55,16 +56,13 @@ never_foreign keeps mark (suc place) (p ∷ ports) lt none =
 
 -- ---- so before each arrival none was, where none is after it
 
-abbrev pub seen_by : Source → Comparison → Comparison
-seen_by s c = record c { ports = changed_at s.place with_seen c.ports }
-
 record_back : (place : ℕ) (to : Option (ℕ × ℕ)) (n : Numbered) (c : Comparison) → none_foreign (record_left place to n c).ports ≡ true → none_foreign c.ports ≡ true
 record_back place None n c none = changed_back (with_foreign c.keeps (mark_of n)) (λ p is. absurd (never_up p.foreign is)) place c.ports none
 record_back place (Some (link, output)) n c none = none
 
-left_back : (b : Bool) (s : Source) (to : Option (ℕ × ℕ)) (n : Numbered) (c : Comparison) → none_foreign (if b then record_left s.place to n (seen_by s c) else c).ports ≡ true
+left_back : (b : Bool) (s : Source) (to : Option (ℕ × ℕ)) (n : Numbered) (c : Comparison) → none_foreign (if b then record_left s.place to n (seen_at s c) else c).ports ≡ true
     → none_foreign c.ports ≡ true
-left_back true s to n c none = changed_back with_seen (λ p is. is) s.place c.ports (record_back s.place to n (seen_by s c) none)
+left_back true s to n c none = changed_back with_seen (λ p is. is) s.place c.ports (record_back s.place to n (seen_at s c) none)
 left_back false s to n c none = none
 
 came_back : (b : Bool) (of : Option ℕ) (n : Numbered) (c : Comparison) → none_foreign (if b then own_came of n c else c).ports ≡ true → none_foreign c.ports ≡ true
@@ -100,10 +98,10 @@ is_led : (s : Source) (n : Numbered) (c : Comparison) → has_record c.watch n.f
     → (link : ℕ) × (output : ℕ) × (link_at s.port n.frame.bytes c ≡ Some (link, output))
 is_led s n c has lt none =
     let to = link_at s.port n.frame.bytes c in
-    let now : none_foreign (record_left s.place to n (seen_by s c)).ports ≡ true =
-    subst (λ (b : Bool). none_foreign (if b then record_left s.place to n (seen_by s c) else c).ports ≡ true) has none in
+    let now : none_foreign (record_left s.place to n (seen_at s c)).ports ≡ true =
+    subst (λ (b : Bool). none_foreign (if b then record_left s.place to n (seen_at s c) else c).ports ≡ true) has none in
     led_or to (λ is. never_foreign c.keeps (mark_of n) s.place (changed_at s.place with_seen c.ports) (subst (λ (k : ℕ). s.place < k) (sym (changed_length s.place with_seen c.ports)) lt)
-    (subst (λ (o : Option (ℕ × ℕ)). none_foreign (record_left s.place o n (seen_by s c)).ports ≡ true) is now))
+    (subst (λ (o : Option (ℕ × ℕ)). none_foreign (record_left s.place o n (seen_at s c)).ports ≡ true) is now))
 
 -- of those that count at a port each is led there, by what the links are at first
 counted_led : (b d : Bool) (first : Comparison) (port : ℕ) (s : Source) (n : Numbered) (c : Comparison) (rest : List Record) → has_record c.watch n.frame.stamp ≡ b → (s.port == port) ≡ d

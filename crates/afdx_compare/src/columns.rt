@@ -1,7 +1,6 @@
 //! Each single difference, as comma-separated values.
 
 ghost use Rattle.std.specs.Prelude.{◌≡◌, ◌++◌, option_map, flat_map, string_bytes, IfOk, OnOk};
-ghost use Rattle.afdx_recordings.specs.Recordings.{offset_at};
 ghost use Rattle.afdx_compare.specs.Differences.{kind_text, column, optional, mark_columns, clock_back, without, kind_columns, bound_columns, row_line, port_rows, all_rows, differences_of};
 
 use crate::comparison::{Comparison, Port};

@@ -56,7 +56,7 @@ fn instant_of(ns: Option<u64>) -> Result<Option<Stamp>, Fail> {
 }
 
 /// The record of a frame of link 7, of 64 bytes.
-fn record(alloc: Global, (ns, letter): Sight) -> Result<Record<'static, Global>, Fail> {
+pub(crate) fn record(alloc: Global, (ns, letter): Sight) -> Result<Record<'static, Global>, Fail> {
     let stamp = instant(ns)?;
     let mut bytes = [3, 0, 0, 0, 0, 7].to_vec(alloc)?;
     bytes.resize(59, 0)?;
@@ -154,6 +154,7 @@ fn link_at_a_port(alloc: Global, watch: &Watch) -> Result<Following<'static, Glo
     if watch.tolerance > 1_000_000_000 {
         return Err(Fail::from("a tolerance"));
     }
+    // example of afdx_following
     let limits = watch.limits(22_720, Speed::Hundred);
     let mut outputs = Vec::new(alloc);
     outputs.push(Output::new(alloc, 2, limits, true))?;
@@ -165,6 +166,7 @@ fn link_at_a_port(alloc: Global, watch: &Watch) -> Result<Following<'static, Glo
         watch.unknown_since(),
         outputs,
     ))
+    // end of example
 }
 
 /// Adds the texts of events.
@@ -211,7 +213,9 @@ fn follow(
         told = at;
     }
     leave_between(alloc, link, watch, left, told, u128::MAX)?;
+    // example of afdx_following
     link.end(watch.last_record())?;
+    // end of example
     Ok(())
 }
 

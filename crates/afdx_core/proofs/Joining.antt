@@ -20,7 +20,7 @@ use Rattle.afdx_port.specs.declared.Offer.{Offer}
 use Rattle.afdx_port.specs.declared.Offer.TheVariants.{Full, Queued}
 use Rattle.afdx_port.specs.Service.{Event, came, service, sent_of, aged_of}
 use Rattle.afdx_port.specs.Admission.{occupied, fits, admit}
-use Rattle.afdx_port.specs.Content.{Content, done, offered}
+use Rattle.afdx_port.specs.Content.{Content, done}
 use Rattle.afdx_port.specs.Inner.Admission.{AdmittedInParts, AdmittedInOrder}
 use Rattle.afdx_port.specs.Inner.Events.{SentInParts}
 use Rattle.afdx_port.specs.Inner.Gone.{gone, OccupiedIsWhatHasNotGone}

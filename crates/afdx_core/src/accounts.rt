@@ -1,6 +1,6 @@
 //! The accounts of the links.
 
-ghost use Rattle.std.specs.Prelude.{◌≡◌, ◌<◌, ◌≤◌, [], length, slice_index_or, IfOk};
+ghost use Rattle.std.specs.Prelude.{◌<◌, ◌≤◌, [], length, slice_index_or, IfOk};
 ghost use Rattle.afdx_account.specs.declared.account.Account.{Account};
 ghost use Rattle.afdx_account.specs.Account.{account_terms, account_since, account_level};
 ghost use Rattle.afdx_account.specs.Early.{IsEarlyBy};

@@ -1,11 +1,11 @@
 //! A switch that lets go of what has left it, and what is left of it once it is finished.
 
-ghost use Rattle.std.specs.Prelude.{◌≡◌, ◌+◌, ◌<◌, ◌≤◌, [], None, slice_get, true, false, All, IsTrue, IfOk, IfErr, OnOk, OnErr, AllPairs};
+ghost use Rattle.std.specs.Prelude.{◌≡◌, ◌+◌, ◌<◌, ◌≤◌, None, slice_get, true, false, All, IsTrue, IfOk, IfErr, OnOk, OnErr};
 ghost use Rattle.afdx_units.specs.Time.{last_second};
 ghost use Rattle.afdx_table.specs.Content.{port_row};
 ghost use Rattle.afdx_load.specs.Accepted.{IsAccepted};
-ghost use Rattle.afdx_core.specs.Rows.{row_of, fates_of};
-ghost use Rattle.afdx_core.specs.State.{State, fresh_state, after_advance, after_finish, refusal_of, admitted_in, sent_in, aged_in, occupied_in, early_in, IsNextOf, place_of};
+ghost use Rattle.afdx_core.specs.Rows.{row_of};
+ghost use Rattle.afdx_core.specs.State.{State, fresh_state, after_advance, after_finish, refusal_of, sent_in, aged_in, occupied_in, early_in, IsNextOf, place_of};
 ghost use Rattle.afdx_port.specs.declared.Offer.TheVariants.{Queued};
 ghost use Rattle.afdx_core.specs.Isolation.{IsRun, IsIsolatedRun};
 ghost use Rattle.afdx_port.specs.Tally.{tally_of_sent, tally_of_aged};

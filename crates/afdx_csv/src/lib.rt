@@ -1,4 +1,20 @@
 //! Comma-separated values: a heading, and rows of fields by the names of their columns.
+//!
+//! # Example
+//!
+//! From `crates/afdx_rule_tests/src/first_calls.rt`:
+//!
+//! ```
+//! let columns = ["kind", "link", "most_ns"];
+//! let most = Field::Number(Some(319_918));
+//! put_heading(&mut text, &columns)?;
+//! put_row(
+//!     &mut text,
+//!     &columns,
+//!     &[("kind", Field::Word("way")), ("most_ns", most)],
+//! )?;
+//! assert_eq!(rt; text.as_str(), "kind,link,most_ns\nway,,319918\n");
+//! ```
 #![tactic(auto)]
 
 mod field;

@@ -1,4 +1,22 @@
 //! Instants at a few places, of which the first is at hand.
+//!
+//! # Example
+//!
+//! From `crates/afdx_rule_tests/src/first_calls.rt`:
+//!
+//! ```
+//! let mut instants = Instants::new(3);
+//! let none = instants.first();
+//! instants.set(1, Some(Stamp::ZERO));
+//! instants.set(2, Some(Stamp::ZERO));
+//! let first = instants.first();
+//! instants.set(1, None);
+//! let next = instants.first();
+//! assert_eq!(rt;
+//!     (none, first, next),
+//!     (None, Some((1, Stamp::ZERO)), Some((2, Stamp::ZERO)))
+//! );
+//! ```
 #![tactic(auto)]
 
 mod instants;

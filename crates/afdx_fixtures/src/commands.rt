@@ -62,12 +62,14 @@ pub fn answer_over<A: Allocator + Copy>(
     mut input: &[u8],
     folder: &mut MemoryFolder<A>,
 ) -> Result<Served, AllocError> {
+    // example of afdx_serve
     let arguments = split(alloc, line)?;
     let mut out = Vec::new(alloc);
     let mut err = Vec::new(alloc);
     let ending = serve(
         alloc, VERSION, &arguments, &mut input, &mut out, &mut err, folder,
     );
+    // end of example
     Ok(Served { ending, out, err })
 }
 

@@ -43,7 +43,7 @@ levels_more t tolerance l [] (q ∷ ps) f p even = absurd (omega (arith, even))
 levels_more t tolerance l (x ∷ fs) [] f p even = absurd (omega (arith, even))
 levels_more t tolerance l (x ∷ fs) (q ∷ ps) f p even = levels_more t tolerance (after t tolerance x.size q (credited t l x.stamp)) fs ps f p (omega (arith, even))
 
-chosen_more : (ps : List Bool) (rs : List Record) (p : Bool) (n : Numbered) → length ps ≡ length rs
+pub chosen_more : (ps : List Bool) (rs : List Record) (p : Bool) (n : Numbered) → length ps ≡ length rs
     → chosen (ps ++ p ∷ []) (rs ++ n.frame ∷ []) ≡ chosen ps rs ++ passed_of (Came n p ∷ [])
 chosen_more [] [] true n even = refl
 chosen_more [] [] false n even = refl
@@ -52,7 +52,7 @@ chosen_more (q ∷ ps) [] p n even = absurd (omega (arith, even))
 chosen_more (true ∷ ps) (r ∷ rs) p n even = ap (λ (xs : List Record). r ∷ xs) (chosen_more ps rs p n (omega (arith, even)))
 chosen_more (false ∷ ps) (r ∷ rs) p n even = chosen_more ps rs p n (omega (arith, even))
 
-known_after : (t : Terms) (tolerance size : ℕ) (l : Levels) (passes : Bool) → t.price size ≤ t.cap → l.least ≤ l.most → IsTrue (may_be t tolerance size l passes)
+pub known_after : (t : Terms) (tolerance size : ℕ) (l : Levels) (passes : Bool) → t.price size ≤ t.cap → l.least ≤ l.most → IsTrue (may_be t tolerance size l passes)
     → (after t tolerance size passes l).least ≤ (after t tolerance size passes l).most
 known_after t tolerance size l true fits order may = let m = leb-true (t.price size) l.most may in omega arith
 known_after t tolerance size l false fits order may = let m = ltb-true l.least (t.price size + 2 * slack_of t tolerance) may in omega arith
@@ -66,7 +66,7 @@ length_judged (r ∷ rs) = let rest = length_judged rs in omega (arith, rest)
 
 -- ---- places
 
-get_mapped : {X : Type 0} (f : X → X) (xs : List X) (place : ℕ) (new : X) → slice_get (map f xs) place ≡ Some new → (old : X) × ((slice_get xs place ≡ Some old) × (f old ≡ new))
+pub get_mapped : {X : Type 0} (f : X → X) (xs : List X) (place : ℕ) (new : X) → slice_get (map f xs) place ≡ Some new → (old : X) × ((slice_get xs place ≡ Some old) × (f old ≡ new))
 get_mapped f [] place new get = absurd (let none = get in cc)
 get_mapped f (x ∷ xs) zero new get = (x, (refl, cc))
 get_mapped f (x ∷ xs) (suc place) new get = get_mapped f xs place new get
@@ -76,17 +76,17 @@ all_at P [] place x get all = absurd (let none = get in cc)
 all_at P (y ∷ xs) zero x get all = (let same : y ≡ x = cc in subst P same all.0)
 all_at P (y ∷ xs) (suc place) x get all = all_at P xs place x get all.1
 
-record IsHere {X : Type 0} (at place : ℕ) (change : X → X) (xs : List X) (new : X) : Type 0 where
-  same : at ≡ place
-  old : X
-  get : slice_get xs place ≡ Some old
-  is : change old ≡ new
+pub record IsHere {X : Type 0} (at place : ℕ) (change : X → X) (xs : List X) (new : X) : Type 0 where
+  pub same : at ≡ place
+  pub old : X
+  pub get : slice_get xs place ≡ Some old
+  pub is : change old ≡ new
 
-record IsElsewhere {X : Type 0} (at place : ℕ) (xs : List X) (new : X) : Type 0 where
-  apart : at ≡ place → ⊥
-  get : slice_get xs place ≡ Some new
+pub record IsElsewhere {X : Type 0} (at place : ℕ) (xs : List X) (new : X) : Type 0 where
+  pub apart : at ≡ place → ⊥
+  pub get : slice_get xs place ≡ Some new
 
-get_changed : {X : Type 0} (at place : ℕ) (change : X → X) (xs : List X) (new : X) → slice_get (changed_at at change xs) place ≡ Some new
+pub get_changed : {X : Type 0} (at place : ℕ) (change : X → X) (xs : List X) (new : X) → slice_get (changed_at at change xs) place ≡ Some new
     → IsHere at place change xs new ⊎ IsElsewhere at place xs new
 get_changed at place change [] new get = absurd (let none = get in cc)
 get_changed zero zero change (x ∷ xs) new get = inl (record { same = refl; old = x; get = refl; is = cc })
@@ -217,7 +217,7 @@ gone_told t tolerance l own outs (Some at) f h by = record {
       (goes_on f.latest (chosen h.fates h.decided_ones) h.decided_ones f.undecided (outs place) old.0 at (h.ports place old.0 old.1.0) by);
 }
 
-decided_latest : (at : Option ℕ) (ns : List Numbered) (f : Watched) → (decided at ns f).latest ≡ f.latest
+pub decided_latest : (at : Option ℕ) (ns : List Numbered) (f : Watched) → (decided at ns f).latest ≡ f.latest
 decided_latest at [] f = refl
 decided_latest at (n ∷ ns) f =
     elim (cases_Bool (can_tell at f.outputs n (outlook_at f n))) [
@@ -265,11 +265,11 @@ none_is : (at place : ℕ) (n : Numbered) → (at ≡ place → ⊥) → one_at 
 none_is at place n apart = rw (ne_eqb at place apart) refl
 
 -- a record was recorded no later than the line was free again after it
-stamped_soon : (n : Numbered) (one : Option Output) → option_map_or (λ o. stamped_by n o) one 0 ≤ option_map_or (λ o. left_by n o) one 0
+pub stamped_soon : (n : Numbered) (one : Option Output) → option_map_or (λ o. stamped_by n o) one 0 ≤ option_map_or (λ o. left_by n o) one 0
 stamped_soon n None = omega arith
 stamped_soon n (Some o) = omega arith
 
-stamped_first : (place : ℕ) (n : Numbered) (f : Watched) → stamped_by_at place n f ≤ left_by_at place n f
+pub stamped_first : (place : ℕ) (n : Numbered) (f : Watched) → stamped_by_at place n f ≤ left_by_at place n f
 stamped_first place n f = stamped_soon n (slice_get f.outputs place)
 
 record_told : FateMayBe → (t : Terms) (tolerance : ℕ) (l : Levels) (own : List Record) (outs : ℕ → List Record) (f : Watched) (at : ℕ) (n : Numbered) → IsTold t tolerance l own outs f
@@ -348,7 +348,7 @@ notices_told may t tolerance l own outs (Departed at n ∷ xs) f h next =
 
 -- ---- at first, and in the end
 
-fresh_told : (latest : ℕ) (o : Output) → IsFresh o → IsPort latest [] [] [] [] o
+pub fresh_told : (latest : ℕ) (o : Output) → IsFresh o → IsPort latest [] [] [] [] o
 fresh_told latest o fresh =
     subst (λ (x : Output). IsPort latest [] [] [] [] x) (sym fresh) (record {
       sights = [];
@@ -385,26 +385,26 @@ first_told account tolerance since outputs bounded fresh = record {
   ports = λ place o get. fresh_told (option_map_or (λ at. at) since 0) o (all_at IsFresh outputs place o get fresh);
 }
 
-told_in_the_end : (os : List Output) (n : Numbered) (o : Outlook) → can_tell None os n o ≡ true
+pub told_in_the_end : (os : List Output) (n : Numbered) (o : Outlook) → can_tell None os n o ≡ true
 told_in_the_end os n Must = refl
 told_in_the_end os n Never = refl
 told_in_the_end os n Unsure = refl
 
-none_undecided : (ns : List Numbered) (f : Watched) → (decided None ns f).undecided ≡ []
+pub none_undecided : (ns : List Numbered) (f : Watched) → (decided None ns f).undecided ≡ []
 none_undecided [] f = refl
 none_undecided (n ∷ ns) f = rw (told_in_the_end f.outputs n (outlook_at f n)) (none_undecided ns (with_told n f))
 
-all_dropped : {X : Type 0} (xs : List X) → drop (length xs) xs ≡ []
+pub all_dropped : {X : Type 0} (xs : List X) → drop (length xs) xs ≡ []
 all_dropped [] = refl
 all_dropped {X} (x ∷ xs) =
     let next : length (x ∷ xs) ≡ suc (length xs) = omega arith in
     ap (λ (k : ℕ). drop k (x ∷ xs)) next ∙ all_dropped xs
 
-none_wait : (unknown : Option ℕ) (o : Output) → unknown ≡ None → (paired_up_to unknown o).waiting ≡ []
+pub none_wait : (unknown : Option ℕ) (o : Output) → unknown ≡ None → (paired_up_to unknown o).waiting ≡ []
 none_wait None o none = sights_keep (map Left (take (length o.waiting) o.waiting)) (record o { waiting = drop (length o.waiting) o.waiting }) ∙ all_dropped o.waiting
 none_wait (Some at) o none = absurd (let never = none in cc)
 
-nothing_waits : (f : Watched) (place : ℕ) (o : Output) → slice_get (settled_by None f).outputs place ≡ Some o → o.waiting ≡ []
+pub nothing_waits : (f : Watched) (place : ℕ) (o : Output) → slice_get (settled_by None f).outputs place ≡ Some o → o.waiting ≡ []
 nothing_waits f place o get =
     let d = decided None f.undecided f in
     let unknown = first_unknown d.undecided in

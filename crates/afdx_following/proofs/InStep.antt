@@ -73,11 +73,11 @@ lefts_hold at (n ∷ ns) o held = lefts_hold at ns (with_sight (Left n) o) (left
 waits_later : (at later : ℕ) → at ≤ later → (o : Output) → WaitsBy at o → WaitsBy later o
 waits_later at later le o wait = all_weaker (λ n. left_by n o ≤ at) (λ n. left_by n o ≤ later) (λ n by. omega (arith, le, by)) o.waiting wait
 
-sights_wait : (at : ℕ) (ss : List Sight) (o : Output) → WaitsBy at o → WaitsBy at (with_sights ss o)
+pub sights_wait : (at : ℕ) (ss : List Sight) (o : Output) → WaitsBy at o → WaitsBy at (with_sights ss o)
 sights_wait at [] o wait = wait
 sights_wait at (s ∷ ss) o wait = sights_wait at ss (with_sight s o) wait
 
-paired_waits : (at : ℕ) (unknown : Option ℕ) (o : Output) → WaitsBy at o → WaitsBy at (paired_up_to unknown o)
+pub paired_waits : (at : ℕ) (unknown : Option ℕ) (o : Output) → WaitsBy at o → WaitsBy at (paired_up_to unknown o)
 paired_waits at unknown o wait =
     let k = settled unknown o in
     let rest : Output = record o { waiting = drop k o.waiting } in

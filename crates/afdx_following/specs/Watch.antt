@@ -2,6 +2,7 @@
 use Rattle.std.specs.Prelude.{ℕ, ◌+◌, ◌*◌, ◌-◌, min, nat_le, Bool, true, ◌&&◌, Option, Some, None}
 use Rattle.std.specs.Option.{option_map}
 use Rattle.afdx_units.specs.declared.line.Speed.{Speed}
+use Rattle.afdx_units.specs.Time.{last_instant}
 use Rattle.afdx_pairing.specs.declared.limits.Limits.{Limits}
 use Rattle.afdx_following.specs.declared.watch.Start.{Start}
 use Rattle.afdx_following.specs.declared.watch.Start.TheVariants.{Rest, Cut}
@@ -40,10 +41,6 @@ limits_of w bound speed = record {
   speed = speed;
   before = before_of w.start w.tolerance bound;
 }
-
--- the last instant that pcap can hold
-abbrev pub last_instant : ℕ
-last_instant = 4294967295999999999
 
 -- the instant from which on nothing is known of accounts, where they were not full: the one from which on frames count, since frames that
 -- do not count may have taken of an account up to then

@@ -6,9 +6,6 @@ ghost use Rattle.afdx_following.specs.Watch.{has_frame, has_record, limits_of, u
 use afdx_pairing::Limits;
 use afdx_units::{Speed, Stamp};
 
-/// The last instant, in nanoseconds, that a stamp can be.
-const LAST: u64 = 4_294_967_295_999_999_999;
-
 /// Where the recordings begin.
 #[derive(Clone, Copy, Debug, PartialEq, Eq)]
 pub enum Start {
@@ -88,10 +85,7 @@ impl Watch {
             return None;
         };
         let since = u128::from(from.ns()) + u128::from(self.tolerance);
-        match Stamp::from_ns(since.min(u128::from(LAST)) as u64) {
-            Some(since) => Some(since),
-            None => unreachable!(),
-        }
+        Some(Stamp::from_ns_saturating(since))
     }
 
     /// The instant up to which records count, in nanoseconds; none where all had left.

@@ -1,5 +1,18 @@
 //! What comes over one line cannot come all at once: the lesser bursts of a port whose links come in over lines that are kept
 //! to (network calculus: grouping), and what latencies that differ add to them.
+//!
+//! # Example
+//!
+//! From `crates/afdx_rule_tests/src/bursts.rt`:
+//!
+//! ```
+//! let mut lined = [false; PLACES];
+//! lined[1] = first;
+//! lined[3] = third;
+//! let row = table.port(2)?;
+//! let bursts = lesser_bursts(table, &lined, scatter, row);
+//! Some((bursts.all, bursts.high))
+//! ```
 #![tactic(auto)]
 
 mod curve;

@@ -1,16 +1,12 @@
 -- What is kept of a port is kept over time and with each item that is paid for, and what follows from it.
 use Rattle.std.proofs.Common.{◌≡◌, ℕ, ◌+◌, ◌-◌, ◌*◌, ◌<◌, ◌≤◌, true, false, cond, List, [], ◌∷◌, ◌++◌, get_or, refl, ap, sym, ◌∙◌, subst, arith, ⊎_elim, append-nil}
-use Rattle.std.specs.Prelude.{max, not, nat_le, nat_lt, nat_eq, sum_by, All, Contains, map}
-use Rattle.std.proofs.lemmas.Bool.{cases_Bool, cases_lt, eqb-true}
-use Rattle.std.proofs.lemmas.Bool.Decides.{nat_tests}
-use Rattle.std.proofs.lemmas.List.Sums.{sum_by-cons, sum_by_push}
-use Rattle.std.proofs.lemmas.List.Elements.{All-nil, All-append, All-push, All-weaker, All-same, All-contains, All-filter, filter-append, recursion_from_All}
+use Rattle.std.specs.Prelude.{not, nat_lt, nat_eq, sum_by, All, Contains, map}
+use Rattle.std.proofs.lemmas.Bool.{cases_Bool, eqb-true}
+use Rattle.std.proofs.lemmas.List.Sums.{sum_by_push}
+use Rattle.std.proofs.lemmas.List.Elements.{All-nil, All-append, All-push, All-weaker, All-same, All-contains, All-filter, recursion_from_All}
 use Rattle.std.proofs.lemmas.List.Quantifiers.{all_pairs_push}
-use Rattle.std.proofs.Math.Nat.{mul-le-mul_left}
 use Rattle.afdx_units.specs.declared.line.Priority.{Priority}
 use Rattle.afdx_units.specs.declared.line.Priority.TheVariants.{High, Low}
-use Rattle.afdx_units.specs.declared.line.Speed.{Speed}
-use Rattle.afdx_units.specs.declared.line.Speed.TheVariants.{Ten, Hundred, Thousand}
 use Rattle.afdx_units.specs.Line.{tick_of, is_high}
 use Rattle.afdx_port.specs.declared.Settings.{Settings}
 use Rattle.afdx_port.specs.declared.Item.{Item}
@@ -31,10 +27,7 @@ use Rattle.afdx_isolation.proofs.Numbers.{keep_growth, keep_high, keep_low}
 use Rattle.afdx_isolation.proofs.Sums.{grown, capped, pays, falls, among_filter, high_part, low_leaves, within_longest}
 use Rattle.afdx_isolation.proofs.Waiting.{IsShort, lined_at, start_at, highs-line_up, lows-line_up, keep_starts}
 use Rattle.afdx_isolation.proofs.Ends.{ends, timely}
-
-line_none : (s : Settings) (now : ℕ) → line_at s now [] ≡ record { free = max 0 now; waiting = [] }
-unfolding line_at
-line_none s now = refl
+use Rattle.afdx_isolation.proofs.Queued.{line_none, waiting_all, highs-push, lows-push, costs_parts, tick_some, fits_by}
 
 -- a new port
 pub kept_none : (s : Settings) (flows : List Flow) (now : ℕ) (level : Flow → ℕ) → AreWithinCaps flows level → IsKeptLevel s flows [] now level
@@ -69,10 +62,6 @@ module _ (g : Ground) (s : Settings) (flows : List Flow) (paid : All (IsPaidFor 
   abbrev Keeps : List Item → ℕ → (Flow → ℕ) → Type 0
   Keeps items now level = IsKeptLevel s flows items now level
 
-  -- what waits is of the items
-  waiting_all : (P : Item → Type 0) (now : ℕ) (items : List Item) → All P items → All P (line_at s now items).waiting
-  waiting_all P now items h = All-weaker (Contains items) P (λ x among. All-contains P items x h among) (line_at s now items).waiting (g.waiting s now items)
-
   pub kept_wait : (items : List Item) (now to : ℕ) (level after : Flow → ℕ) → now ≤ to → Grow flows (to - now) level after → Keeps items now level → Keeps items to after
   kept_wait items now to level after le grow h = record {
     come = All-weaker (λ (item : Item). came s item ≤ now) (λ (item : Item). came s item ≤ to) (λ item c. omega (arith, c, le)) items h.come;
@@ -90,7 +79,7 @@ module _ (g : Ground) (s : Settings) (flows : List Flow) (paid : All (IsPaidFor 
         let grown' = keep_growth parts s demand now d q.free (held level flows) (held level (high_flows flows)) (held after flows) (held after (high_flows flows)) (highs q.waiting) (lows q.waiting)
         (omega (arith, slow)) high_slow (grown flows d level after grow) (grown (high_flows flows) d level after high_grow) h.potentials in
         let small = recursion_from_All (IsShort parts s demand to (held after flows) (held after (high_flows flows)) capped' high_capped') q.waiting
-        (waiting_all (λ (item : Item). is_high item.priority ≡ false → item_cost s item ≤ demand.low_largest) now items
+        (waiting_all g s (λ (item : Item). is_high item.priority ≡ false → item_cost s item ≤ demand.low_largest) now items
         (All-weaker (IsOfAFlow flows) (λ (item : Item). is_high item.priority ≡ false → item_cost s item ≤ demand.low_largest) cost_most_low items h.of_flows)) in
         subst (KeepsPotentials s flows to after) (sym (g.goes_on s now to items le h.come))
         (keep_starts parts s demand to (held after flows) (held after (high_flows flows)) capped' high_capped' q.free q.waiting (lined_at s now items) small
@@ -102,12 +91,6 @@ module _ (g : Ground) (s : Settings) (flows : List Flow) (paid : All (IsPaidFor 
   kept_later items now d level after grow h =
       let e : d ≡ (now + d) - now = omega arith in
       kept_wait items now (now + d) level after (omega arith) (subst (λ n. Grow flows n level after) e grow) h
-
-  highs-push : (items : List Item) (x : Item) → highs (items ++ x ∷ []) ≡ highs items ++ cond (is_high x.priority) (x ∷ []) []
-  highs-push items x = filter-append (λ (item : Item). is_high item.priority) items (x ∷ [])
-
-  lows-push : (items : List Item) (x : Item) → lows (items ++ x ∷ []) ≡ lows items ++ cond (not (is_high x.priority)) (x ∷ []) []
-  lows-push items x = filter-append (λ (item : Item). not (is_high item.priority)) items (x ∷ [])
 
   -- one more item waits
   comes : (now start : ℕ) (level after : Flow → ℕ) (items : List Item) (x : Item) → came s x ≡ now → IsOfAFlow flows x → AreDebited flows x level after
@@ -153,7 +136,7 @@ module _ (g : Ground) (s : Settings) (flows : List Flow) (paid : All (IsPaidFor 
       let come : HaveCome s now all = All-push (λ (item : Item). came s item ≤ now) items x h.come (omega arith) in
       let potentials = joined now level after items x refl r debits h.potentials in
       let q = line_at s now all in
-      let rest = ends parts s demand now (held after flows) (held after (high_flows flows)) q.free q.waiting (lined_at s now all) (waiting_all (λ (item : Item). came s item ≤ now) now all come)
+      let rest = ends parts s demand now (held after flows) (held after (high_flows flows)) q.free q.waiting (lined_at s now all) (waiting_all g s (λ (item : Item). came s item ≤ now) now all come)
       (start_at s now all) potentials in
       let done : All Q (before now (service s 0 all)) = All-same Q (before now (service s 0 all)) (before now (service s 0 items)) (g.earlier_stay s now 0 items x (omega arith))
       (All-filter (λ e. nat_lt (instant e) now) Q (service s 0 items) h.ends) in
@@ -166,16 +149,6 @@ module _ (g : Ground) (s : Settings) (flows : List Flow) (paid : All (IsPaidFor 
             (All-append Q (before now (service s 0 all)) (in_line s q.free q.waiting) done rest);
       }
 
-  -- the costs of each priority are all costs
-  costs_parts : (items : List Item) → costs s (highs items) + costs s (lows items) ≡ costs s items
-  costs_parts [] = refl
-  costs_parts (x ∷ items) =
-      let ih = costs_parts items in
-      elim (is_high x.priority) as (λ v. costs s (cond v (x ∷ highs items) (highs items)) + costs s (cond (not v) (x ∷ lows items) (lows items)) ≡ costs s (x ∷ items)) [
-        | true ↦ omega (arith, ih, sum_by-cons (item_cost s) x (highs items), sum_by-cons (item_cost s) x items)
-        | false ↦ omega (arith, ih, sum_by-cons (item_cost s) x (lows items), sum_by-cons (item_cost s) x items)
-      ]
-
   -- with a buffer for the bursts, an item that is paid for has room
   pub has_room : HasBuffer s flows → (items : List Item) (x : Item) (level after : Flow → ℕ) → IsOfAFlow flows x → AreDebited flows x level after → Keeps items (came s x) level → fits s items x ≡ true
   has_room buffer items x level after r debits h =
@@ -183,32 +156,11 @@ module _ (g : Ground) (s : Settings) (flows : List Flow) (paid : All (IsPaidFor 
       let q = line_at s now items in
       let kept_here = comes now q.free level after q.waiting x refl r debits h.potentials in
       let bytes = g.bytes s now demand.largest items (All-weaker (IsOfAFlow flows) (λ (item : Item). item_cost s item ≤ demand.largest) cost_most items h.of_flows) in
-      let sum = costs_parts (q.waiting ++ x ∷ []) in
+      let sum = costs_parts s (q.waiting ++ x ∷ []) in
       let more = sum_by_push (item_cost s) q.waiting x in
       fits_by (tick_of s.speed) x.size (occupied s now items) s.buffer (work s now items) demand.largest demand.burst (costs s (highs (q.waiting ++ x ∷ []))) (costs s (lows (q.waiting ++ x ∷ [])))
       (held after flows) (sum_by (item_cost s) q.waiting) now q.free (tick_some s.speed) (start_at s now items) bytes (g.work s now items) (omega (arith, sum, more)) kept_here.all_work
-      (omega (arith, buffer)) where
-        tick_some : (speed : Speed) → 0 < tick_of speed
-        tick_some Ten = omega arith
-        tick_some Hundred = omega arith
-        tick_some Thousand = omega arith
-
-        within' : (a b : ℕ) → a ≤ b → nat_le a b ≡ true
-        within' a b h = grind (arith, nat_tests)
-
-        fits_by : (k size held' room work' most burst hs ls level ws now free : ℕ) → 0 < k → now ≤ free → k * held' ≤ work' + most → work' ≡ (free - now) + ws → hs + ls ≡ ws + (size + 20) * k
-            → parts * (free + hs + ls) + level ≤ parts * now + burst → burst + parts * most ≤ parts * (k * room) → nat_le (size + held') room ≡ true
-        fits_by k size held' room work' most burst hs ls level ws now free some start bytes is sum all buffer = within' (size + held') room (⊎_elim
-            (λ (lt : room < size + held'). absurd (
-            let lt' : room + 1 ≤ size + held' = omega arith in
-            let more : k * (room + 1) ≤ k * (size + held') = mul-le-mul_left k lt' in
-            let line : free ≡ now + (free - now) = omega (arith, start) in
-            let needed : k * (size + held') ≤ (work' + most) + (size + 20) * k = omega (arith, bytes) in
-            let kept' : parts * (work' + (size + 20) * k) ≤ burst = omega (arith, all, line, sum, is) in
-            let room' : k * (room + 1) ≡ k * room + k = omega arith in
-            omega (arith, needed, kept', more, room', buffer, some)))
-            (λ (ge : size + held' ≤ room). ge)
-            (cases_lt room (size + held')))
+      (omega (arith, buffer))
 
   -- a priority that has a flow leaves time for its items
   leaves : (flow : Flow) → Contains flows flow → (priority : Priority) → flow.priority ≡ priority → priority ≡ Low → demand.high_rate < parts

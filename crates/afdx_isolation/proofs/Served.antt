@@ -1,17 +1,13 @@
 -- What is kept within a supply is kept over time and with each item that takes its line time from it, and what follows from it.
 use Rattle.std.proofs.Common.{◌≡◌, ℕ, ◌+◌, ◌-◌, ◌*◌, ◌<◌, ◌≤◌, true, false, cond, List, [], ◌∷◌, ◌++◌, get_or, refl, ap, sym, ◌∙◌, subst, arith, ⊎_elim, append-nil}
-use Rattle.std.specs.Prelude.{max, not, nat_le, nat_lt, sum_by, All, Contains}
+use Rattle.std.specs.Prelude.{max, not, nat_lt, sum_by, All}
 use Rattle.std.specs.List.{AllByRecursion}
 use Rattle.std.proofs.lemmas.Bool.{cases_Bool, cases_lt}
-use Rattle.std.proofs.lemmas.Bool.Decides.{nat_tests}
-use Rattle.std.proofs.lemmas.List.Sums.{sum_by-cons, sum_by_push}
-use Rattle.std.proofs.lemmas.List.Elements.{All-nil, All-append, All-push, All-weaker, All-same, All-contains, All-filter, filter-append, recursion_from_All}
+use Rattle.std.proofs.lemmas.List.Sums.{sum_by_push}
+use Rattle.std.proofs.lemmas.List.Elements.{All-nil, All-append, All-push, All-weaker, All-same, All-filter, recursion_from_All}
 use Rattle.std.proofs.lemmas.List.Quantifiers.{all_pairs_push}
-use Rattle.std.proofs.Math.Nat.{mul-le-mul_left}
 use Rattle.afdx_units.specs.declared.line.Priority.{Priority}
 use Rattle.afdx_units.specs.declared.line.Priority.TheVariants.{Low}
-use Rattle.afdx_units.specs.declared.line.Speed.{Speed}
-use Rattle.afdx_units.specs.declared.line.Speed.TheVariants.{Ten, Hundred, Thousand}
 use Rattle.afdx_units.specs.Line.{tick_of, is_high}
 use Rattle.afdx_port.specs.declared.Settings.{Settings}
 use Rattle.afdx_port.specs.declared.Item.{Item}
@@ -31,6 +27,7 @@ use Rattle.afdx_isolation.specs.Inner.Ground.{Ground}
 use Rattle.afdx_isolation.proofs.Supplied.{supply_waits, supply_high_start, supply_low_start, supply_rest, supply_high, supply_low}
 use Rattle.afdx_isolation.proofs.Waiting.{LinedUp, highs-high, highs-low, lows-high, lows-low, lined_at, start_at, highs-line_up, lows-line_up, fate_free, choose_yes, choose_no}
 use Rattle.afdx_isolation.proofs.Ends.{ends_from, timely}
+use Rattle.afdx_isolation.proofs.Queued.{line_none, waiting_all, highs-push, lows-push, costs_parts, tick_some, fits_by}
 
 module _ (s : Settings) (demand : Demand) (to : ℕ) (u : Supply)
     (covered : (v : ℕ) → to ≤ v → parts * to + u.all v ≤ parts * v + demand.burst) (high_covered : (v : ℕ) → to ≤ v → parts * to + u.high v ≤ parts * v + demand.high_burst) where
@@ -77,10 +74,6 @@ module _ (s : Settings) (demand : Demand) (to : ℕ) (u : Supply)
       (subst (λ m. AtStart m (x ∷ items)) same h))
       (cases_lt b to)
 
-line_none : (s : Settings) (now : ℕ) → line_at s now [] ≡ record { free = max 0 now; waiting = [] }
-unfolding line_at
-line_none s now = refl
-
 -- a new port
 pub kept_none : (s : Settings) (flows : List Flow) (demand : Demand) (now : ℕ) (u : Supply)
     → ((v : ℕ) → now ≤ v → parts * now + u.all v ≤ parts * v + demand.burst) → ((v : ℕ) → now ≤ v → parts * now + u.high v ≤ parts * v + demand.high_burst)
@@ -105,10 +98,6 @@ module _ (g : Ground) (s : Settings) (flows : List Flow) (demand : Demand)
   abbrev Keeps : List Item → ℕ → Supply → Type 0
   Keeps items now u = IsKeptSupply s flows demand items now u
 
-  -- what waits is of the items
-  waiting_all : (P : Item → Type 0) (now : ℕ) (items : List Item) → All P items → All P (line_at s now items).waiting
-  waiting_all P now items h = All-weaker (Contains items) P (λ x among. All-contains P items x h among) (line_at s now items).waiting (g.waiting s now items)
-
   pub kept_wait : (items : List Item) (now to : ℕ) (u w : Supply) → now ≤ to → GoesOnTo parts demand now to u w → Keeps items now u → Keeps items to w
   kept_wait items now to u w le goes h = record {
     come = All-weaker (λ (item : Item). came s item ≤ now) (λ (item : Item). came s item ≤ to) (λ item c. omega (arith, c, le)) items h.come;
@@ -118,18 +107,12 @@ module _ (g : Ground) (s : Settings) (flows : List Flow) (demand : Demand)
         let q = line_at s now items in
         let waited = supply_waits parts s demand now to q.free u w (highs q.waiting) (lows q.waiting) le goes h.supply in
         let small = recursion_from_All (IsShort s demand to w goes.all_covered goes.high_covered) q.waiting
-        (waiting_all (λ (item : Item). is_high item.priority ≡ false → item_cost s item ≤ demand.low_largest) now items
+        (waiting_all g s (λ (item : Item). is_high item.priority ≡ false → item_cost s item ≤ demand.low_largest) now items
         (All-weaker (IsOfAFlow flows) (λ (item : Item). is_high item.priority ≡ false → item_cost s item ≤ demand.low_largest) cost_most_low items h.of_flows)) in
         subst (KeepsSupply s demand to w) (sym (g.goes_on s now to items le h.come))
         (supply_starts s demand to w goes.all_covered goes.high_covered q.free q.waiting (lined_at s now items) small waited);
     ends = h.ends;
   }
-
-  highs-push : (items : List Item) (x : Item) → highs (items ++ x ∷ []) ≡ highs items ++ cond (is_high x.priority) (x ∷ []) []
-  highs-push items x = filter-append (λ (item : Item). is_high item.priority) items (x ∷ [])
-
-  lows-push : (items : List Item) (x : Item) → lows (items ++ x ∷ []) ≡ lows items ++ cond (not (is_high x.priority)) (x ∷ []) []
-  lows-push items x = filter-append (λ (item : Item). not (is_high item.priority)) items (x ∷ [])
 
   -- one more item waits
   comes : (now start : ℕ) (u w : Supply) (items : List Item) (x : Item) → came s x ≡ now → IsTakenFrom parts s now x u w
@@ -169,7 +152,7 @@ module _ (g : Ground) (s : Settings) (flows : List Flow) (demand : Demand)
       let come : HaveCome s now all = All-push (λ (item : Item). came s item ≤ now) items x h.come (omega arith) in
       let supply = joined now u w items x refl taken h.supply in
       let q = line_at s now all in
-      let rest = ends_from parts s demand now 0 w.high_level q.free q.waiting (lined_at s now all) (waiting_all (λ (item : Item). came s item ≤ now) now all come)
+      let rest = ends_from parts s demand now 0 w.high_level q.free q.waiting (lined_at s now all) (waiting_all g s (λ (item : Item). came s item ≤ now) now all come)
       (start_at s now all) supply.high_ends supply.low_ends in
       let done : All Q (before now (service s 0 all)) = All-same Q (before now (service s 0 all)) (before now (service s 0 items)) (g.earlier_stay s now 0 items x (omega arith))
       (All-filter (λ e. nat_lt (instant e) now) Q (service s 0 items) h.ends) in
@@ -182,16 +165,6 @@ module _ (g : Ground) (s : Settings) (flows : List Flow) (demand : Demand)
             (All-append Q (before now (service s 0 all)) (in_line s q.free q.waiting) done rest);
       }
 
-  -- the costs of each priority are all costs
-  costs_parts : (items : List Item) → costs s (highs items) + costs s (lows items) ≡ costs s items
-  costs_parts [] = refl
-  costs_parts (x ∷ items) =
-      let ih = costs_parts items in
-      elim (is_high x.priority) as (λ v. costs s (cond v (x ∷ highs items) (highs items)) + costs s (cond (not v) (x ∷ lows items) (lows items)) ≡ costs s (x ∷ items)) [
-        | true ↦ omega (arith, ih, sum_by-cons (item_cost s) x (highs items), sum_by-cons (item_cost s) x items)
-        | false ↦ omega (arith, ih, sum_by-cons (item_cost s) x (lows items), sum_by-cons (item_cost s) x items)
-      ]
-
   -- with a buffer for the burst, an item that takes its line time from the supply has room
   pub has_room : demand.burst + parts * demand.largest ≤ parts * (tick_of s.speed * s.buffer) → (items : List Item) (x : Item) (u w : Supply) → IsOfAFlow flows x
       → IsTakenFrom parts s (came s x) x u w → Keeps items (came s x) u → fits s items x ≡ true
@@ -200,32 +173,11 @@ module _ (g : Ground) (s : Settings) (flows : List Flow) (demand : Demand)
       let q = line_at s now items in
       let kept_here = comes now q.free u w q.waiting x refl taken h.supply in
       let bytes = g.bytes s now demand.largest items (All-weaker (IsOfAFlow flows) (λ (item : Item). item_cost s item ≤ demand.largest) cost_most items h.of_flows) in
-      let sum = costs_parts (q.waiting ++ x ∷ []) in
+      let sum = costs_parts s (q.waiting ++ x ∷ []) in
       let more = sum_by_push (item_cost s) q.waiting x in
       fits_by (tick_of s.speed) x.size (occupied s now items) s.buffer (work s now items) demand.largest demand.burst (costs s (highs (q.waiting ++ x ∷ []))) (costs s (lows (q.waiting ++ x ∷ [])))
       (w.all now) (sum_by (item_cost s) q.waiting) now q.free (tick_some s.speed) (start_at s now items) bytes (g.work s now items) (omega (arith, sum, more)) (kept_here.all_work now (omega arith))
-      (omega (arith, buffer)) where
-        tick_some : (speed : Speed) → 0 < tick_of speed
-        tick_some Ten = omega arith
-        tick_some Hundred = omega arith
-        tick_some Thousand = omega arith
-
-        within' : (a b : ℕ) → a ≤ b → nat_le a b ≡ true
-        within' a b h = grind (arith, nat_tests)
-
-        fits_by : (k size held' room work' most burst hs ls level ws now free : ℕ) → 0 < k → now ≤ free → k * held' ≤ work' + most → work' ≡ (free - now) + ws → hs + ls ≡ ws + (size + 20) * k
-            → parts * (free + hs + ls) + level ≤ parts * now + burst → burst + parts * most ≤ parts * (k * room) → nat_le (size + held') room ≡ true
-        fits_by k size held' room work' most burst hs ls level ws now free some start bytes is sum all buffer = within' (size + held') room (⊎_elim
-            (λ (lt : room < size + held'). absurd (
-            let lt' : room + 1 ≤ size + held' = omega arith in
-            let more : k * (room + 1) ≤ k * (size + held') = mul-le-mul_left k lt' in
-            let line : free ≡ now + (free - now) = omega (arith, start) in
-            let needed : k * (size + held') ≤ (work' + most) + (size + 20) * k = omega (arith, bytes) in
-            let kept' : parts * (work' + (size + 20) * k) ≤ burst = omega (arith, all, line, sum, is) in
-            let room' : k * (room + 1) ≡ k * room + k = omega arith in
-            omega (arith, needed, kept', more, room', buffer, some)))
-            (λ (ge : size + held' ≤ room). ge)
-            (cases_lt room (size + held')))
+      (omega (arith, buffer))
 
   -- each item of a priority is sent in time, where its bound is within the greatest delay and the high flows leave a part of the line
   pub in_time : demand.latency ≡ s.latency → (items : List Item) (now : ℕ) (u : Supply) (priority : Priority) → (priority ≡ Low → demand.high_rate < parts) → bound demand priority ≤ s.max_delay

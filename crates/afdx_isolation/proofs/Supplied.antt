@@ -1,8 +1,7 @@
 -- Supplies in numbers: that what waits stays within them after a wait, a start, a rest and an arrival.
-use Rattle.std.proofs.Common.{◌≡◌, ℕ, ◌+◌, ◌-◌, ◌*◌, ◌<◌, ◌≤◌, List, [], ◌∷◌, ◌++◌, ap, ◌∙◌, subst, arith, ⊎_elim}
+use Rattle.std.proofs.Common.{◌≡◌, ℕ, ◌+◌, ◌-◌, ◌*◌, ◌≤◌, List, [], ◌∷◌, ◌++◌, ap, ◌∙◌, subst, arith}
 use Rattle.std.specs.Prelude.{max, true}
 use Rattle.std.proofs.lemmas.List.Sums.{sum_by-cons, sum_by_push}
-use Rattle.std.proofs.lemmas.Bool.{cases_lt}
 use Rattle.std.proofs.Math.Nat.{mul-le-mul_left}
 use Rattle.afdx_units.specs.Line.{is_high}
 use Rattle.afdx_port.specs.declared.Settings.{Settings}
@@ -12,7 +11,7 @@ use Rattle.afdx_port.specs.Inner.Work.{item_cost}
 use Rattle.afdx_isolation.specs.Inner.Flow.{Demand}
 use Rattle.afdx_isolation.specs.Inner.Potential.{costs, Ahead, HighEnds, LowEnds}
 use Rattle.afdx_isolation.specs.Inner.Supply.{Supply, IsWithinSupply, GoesOnTo, IsTakenFrom}
-use Rattle.afdx_isolation.proofs.Numbers.{ahead_weaker, ahead_push, high_sooner, low_sooner, low_later}
+use Rattle.afdx_isolation.proofs.Numbers.{either, ahead_weaker, ahead_push, high_sooner, low_sooner, low_later}
 
 -- time passes
 pub supply_waits : (n : ℕ) (s : Settings) (demand : Demand) (now to start : ℕ) (u w : Supply) (first second : List Item) → now ≤ to → GoesOnTo n demand now to u w
@@ -58,13 +57,6 @@ supply_low_start n s demand now start start' u x second le before small covered 
           (λ e e' y sooner q. low_sooner n s demand now u.high_level u.high_level 0 e e' y sooner (omega arith) q) h.low_ends.1;
       high_ends = tt;
     }
-
--- the greater of two is one of them
-either : (P : ℕ → Type 0) (a b : ℕ) → P a → P b → P (max b a)
-either P a b pa pb = ⊎_elim
-    (λ (lt : a < b). let e : b ≡ max b a = omega arith in subst P e pb)
-    (λ (ge : b ≤ a). let e : a ≡ max b a = omega arith in subst P e pa)
-    (cases_lt a b)
 
 -- the line rests where nothing waits
 pub supply_rest : (n : ℕ) (s : Settings) (demand : Demand) (now start : ℕ) (u : Supply)

@@ -4,6 +4,16 @@
 //! time later: no sooner than the least frame takes, no later than the port's bound. [`Delays`] holds both; [`hop`] gives
 //! them for one switch and the cable behind it, [`need`] the jitter that the link then needs. The module `laws` says that
 //! it is enough. Every call is O(1) and takes no memory.
+//!
+//! # Example
+//!
+//! From `crates/afdx_rule_tests/src/first_calls.rt`:
+//!
+//! ```
+//! let first = hop(Speed::Hundred, 0, 20_160, 0);
+//! let jitter = need(first, 0);
+//! assert_eq!(rt; (first.least, jitter), (6_720, 14));
+//! ```
 #![tactic(auto)]
 
 mod delays;

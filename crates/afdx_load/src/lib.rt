@@ -3,6 +3,22 @@
 //! [`loads`] sums what each port's links ask for, [`bounds`] says how long a frame may then stay there, and [`check`]
 //! accepts a table exactly where each port with links keeps four rules. All is reckoned in whole numbers; where the
 //! prose says "parts", they are the 2,048,000,000th part of a line or of a nanosecond. No call takes memory.
+//!
+//! # Example
+//!
+//! From `crates/afdx_rule_tests/src/loads.rt`:
+//!
+//! ```
+//! let row = table.port(2)?;
+//! let load = load(table, 2)?;
+//! let rate = loads(table).at(2)?.rate();
+//! let bounds = bounds(&load);
+//!
+//! match check(table) {
+//!     Ok(_) => None,
+//!     Err((table, fault)) => Some((fault, table.ports().len(), table.link_count())),
+//! }
+//! ```
 #![tactic(auto)]
 
 mod bounding;

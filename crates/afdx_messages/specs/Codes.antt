@@ -9,7 +9,6 @@ use Rattle.afdx_load.specs.declared.fault.Rule.{Rule}
 use Rattle.afdx_load.specs.declared.fault.Rule.TheVariants.{Rate, Buffer, HighDelay, LowDelay}
 use Rattle.afdx_wiring.specs.declared.fault.NetworkFault.{NetworkFault}
 use Rattle.afdx_wiring.specs.declared.fault.NetworkFault.TheVariants as net
-use Rattle.afdx_messages.specs.declared.network_failure.JitterRule.{JitterRule}
 use Rattle.afdx_messages.specs.declared.network_failure.JitterRule.TheVariants as jitter
 use Rattle.afdx_messages.specs.declared.network_failure.NetworkFailure.{NetworkFailure}
 use Rattle.afdx_messages.specs.declared.network_failure.NetworkFailure.TheVariants as network

@@ -2,6 +2,18 @@
 //!
 //! The lines are those of `specs/Lines.antt`; each ends with a line feed. [`report`] writes that of a [`Failure`] and gives its status,
 //! and whether the line went out whole; where failures are explained, what MESSAGES says of the line's code follows it.
+//!
+//! # Example
+//!
+//! From `crates/afdx_serve_tests/src/names.rt`:
+//!
+//! ```
+//! let mut line = Vec::new(rt.alloc());
+//! let ending = report(rt.alloc(), &Failure::Usage, false, &mut line);
+//! assert!(rt;
+//!     ending.status == 2 && ending.is_told && line.as_slice() == b"afdx: usage\n".as_slice()
+//! );
+//! ```
 #![tactic(auto)]
 
 mod capture;

@@ -2,6 +2,20 @@
 //!
 //! A switch is named by the name at its place among these names; the lines are those of `specs/Lines.antt`, the comma-separated values
 //! those of `specs/Rows.antt`.
+//!
+//! # Example
+//!
+//! From `crates/afdx_run_tests/src/networks.rt`:
+//!
+//! ```
+//! let ways = network.ways(rt.alloc()).ok().ok_or("ways")?;
+//! let mut names = Vec::new(rt.alloc());
+//! for name in ["A", "B"] {
+//!     names.push(String::from_str(rt.alloc(), name)?)?;
+//! }
+//! let text = accepted_text(rt.alloc(), &names, &ways, &[])?;
+//! assert!(rt; text.as_str().starts_with(FIRST_LINES));
+//! ```
 #![tactic(auto)]
 
 mod accepted;

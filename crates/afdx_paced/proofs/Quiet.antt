@@ -154,10 +154,3 @@ pub none_next : {Z : Type 0} → LaterArrivalsChangeNothing → MergesAreCut →
     → IsFirstHead f.lanes.items head → IsNextStart f.switch.run start → head ≡ None → start ≡ None → IsNext (paced_of f h false) None
 none_next law cut ordered parts h f head start going first next no_head no_start =
     quiet_for_good law cut ordered parts h f going (subst (IsFirstHead f.lanes.items) no_head first) (subst (IsNextStart f.switch.run) no_start next)
-
--- an instant so much sooner
-pub sooner_is : (stamp instant by : ℕ) → stamp ≡ instant - by → (stamp ≡ 0) ⊎ (stamp + by ≤ instant)
-sooner_is stamp instant by is = elim (cases_lt instant by) [
-  | inl past ↦ inl (omega (arith, past, is))
-  | inr within ↦ inr (omega (arith, within, is))
-]

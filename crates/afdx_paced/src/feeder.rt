@@ -6,8 +6,8 @@ ghost use Rattle.afdx_units.specs.Time.{last_second};
 ghost use Rattle.afdx_core.specs.Step.{Step};
 ghost use Rattle.afdx_core.specs.Held.{not_of_memory, IsTaken};
 ghost use Rattle.afdx_core.specs.Rows.{row_of};
-ghost use Rattle.afdx_core.specs.State.{fresh_state, refusal_of};
-ghost use Rattle.afdx_count.specs.Tally.{noted, fresh};
+ghost use Rattle.afdx_core.specs.State.{refusal_of};
+ghost use Rattle.afdx_count.specs.Tally.{noted};
 ghost use Rattle.afdx_paced.specs.Inner.Parts.{heads_of, fresh_parts};
 ghost use Rattle.afdx_paced.specs.Inner.Kept.{IsOfTable, IsSameTable, IsSorted, IsPassing, PassesOn, IsGoing, ComesTo, IsFirstBefore, NoneBefore, IsFirstHead, IsNextStart};
 

@@ -1,6 +1,6 @@
 //! What there is of one port.
 
-ghost use Rattle.std.specs.Prelude.{◌≡◌, [], ◌∷◌, ◌++◌, MatchOption, OnOk, OnErr};
+ghost use Rattle.std.specs.Prelude.{◌≡◌, [], MatchOption, OnOk, OnErr};
 ghost use Rattle.afdx_paced.specs.Inner.Parts.{fresh_parts, head_of, joined, departed, Takes};
 
 use afdx_past::Gone;

@@ -77,16 +77,6 @@ fn is_early(stamp: Stamp, reached: Stamp, last: Stamp) -> bool
     stamp < reached || stamp < last
 }
 
-/// The last instant that a stamp can hold: whatever is sent starts before it.
-fn last_instant() -> Stamp
-    ensures { result ≡ 4294967295999999999 }
-{
-    match Stamp::from_ns(4_294_967_295_999_999_999) {
-        Some(stamp) => stamp,
-        None => unreachable!(),
-    }
-}
-
 /// The first of two instants.
 fn first_of(one: Option<Stamp>, other: Option<Stamp>) -> Option<Stamp>
     ensures one { IsNoLater result one }
@@ -219,7 +209,7 @@ impl<'a, A: Allocator + Copy> Paced<'a, A> {
             reached,
             ..
         } = self;
-        feeder.come_to(reached, last_instant())?;
+        feeder.come_to(reached, Stamp::LAST)?;
         let Feeder {
             switch,
             mut counts,

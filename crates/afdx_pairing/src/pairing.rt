@@ -1,6 +1,6 @@
 //! The pairing of one link at one output port.
 
-ghost use Rattle.std.specs.Prelude.{◌≡◌, ◌+◌, ◌<◌, ◌≤◌, ◌++◌, true, [], map, take, drop, length, slice_get, vec_len, vec_capacity, IfSome, OnOk, OnErr};
+ghost use Rattle.std.specs.Prelude.{◌≡◌, ◌+◌, ◌<◌, ◌≤◌, ◌++◌, true, take, drop, length, slice_get, vec_len, vec_capacity, IfSome, OnOk, OnErr};
 ghost use Rattle.std.specs.List.{position, list_any, find, AllByRecursion};
 ghost use Rattle.std.specs.Option.{option_map};
 ghost use Rattle.afdx_pairing.specs.Events.{mark_of};

@@ -4,6 +4,20 @@
 //! of a whole capture or of one that comes in pieces; [`read_header`] and [`read_record`] read what stands at the
 //! start of some bytes, for a caller that keeps no more than it has not read. [`write_header`], [`write_record`] and
 //! [`write_frame`] write one piece by piece. Instants are [`afdx_units::Stamp`]s, lengths are numbers of bytes.
+//!
+//! # Example
+//!
+//! From `crates/afdx_pcap_tests/src/captures.rt`:
+//!
+//! ```
+//! for record in &read_all(alloc, bytes)? {
+//!     write_record(written, record)?;
+//! }
+//!
+//! let mut written = Vec::new(rt.alloc());
+//! write_header(&mut written)?;
+//! append_records(rt.alloc(), &bytes, &mut written)?;
+//! ```
 #![tactic(auto)]
 
 mod bytes;

@@ -58,9 +58,11 @@ fn first_capture(rt: HostRuntime) -> Result<(), Fail> {
 
 /// Appends the records of a capture one by one.
 fn append_records(alloc: Global, bytes: &[u8], written: &mut Vec<u8>) -> Result<(), PcapFault> {
+    // example of afdx_pcap
     for record in &read_all(alloc, bytes)? {
         write_record(written, record)?;
     }
+    // end of example
     Ok(())
 }
 
@@ -68,9 +70,11 @@ fn append_records(alloc: Global, bytes: &[u8], written: &mut Vec<u8>) -> Result<
 #[test]
 fn written_record_by_record(rt: HostRuntime) -> Result<(), Fail> {
     let bytes = joined(rt.alloc(), &[HEADER, AT_ZERO, FRAME, AT_ZERO, FRAME])?;
+    // example of afdx_pcap
     let mut written = Vec::new(rt.alloc());
     write_header(&mut written)?;
     append_records(rt.alloc(), &bytes, &mut written)?;
+    // end of example
     let is_written = written.as_slice() == bytes.as_slice();
     written.truncate(100);
     write_frame(&mut written, Stamp::ZERO, FRAME)?;

@@ -47,10 +47,12 @@ fn put_bytes<'a>(
     name: &str,
     bytes: &[u8],
 ) -> Result<(), FolderFault> {
+    // example of afdx_folder
     let mut new = folder.begin(name)?;
     new.append(bytes)?;
     let settled = folder.settle(new, name)?;
     folder.put_new(settled, name)
+    // end of example
 }
 
 /// Puts a file; none where the folder is out of memory.

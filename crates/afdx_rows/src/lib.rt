@@ -2,6 +2,16 @@
 //!
 //! Each row has a field for each thing that the line of a report names, beside the name of its column. A heading names the columns; those
 //! that a row has no field for are empty in it.
+//!
+//! # Example
+//!
+//! From `crates/afdx_run_tests/src/reports.rt`:
+//!
+//! ```
+//! let mut row = String::new(rt.alloc());
+//! put_verdict(&mut row, &verdict(&outcome.counts))?;
+//! assert!(rt; row.as_str().starts_with("verdict,"));
+//! ```
 #![tactic(auto)]
 
 mod counted;

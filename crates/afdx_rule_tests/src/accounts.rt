@@ -1,6 +1,6 @@
 //! Accounts by their calls, over frames whose answers were worked out by hand from the windows.
 
-ghost use Rattle.std.specs.Prelude.{◌≡◌, ◌≤◌};
+ghost use Rattle.std.specs.Prelude.{◌≡◌};
 
 use afdx_account::{Account, ByteAccount, FrameAccount, Meter, early_by};
 use afdx_units::{Bag, Police, Speed, Stamp};
@@ -47,29 +47,21 @@ fn an_account_by_bytes(rt: HostRuntime) -> Result<(), Fail> {
     Ok(())
 }
 
-/// An account by frames, of BAG 1 ms and frames of at most 1518 bytes.
-fn by_frames(jitter_ns: u64) -> Account
-    requires { jitter_ns ≤ 10000000 }
-    ensures since { ⟦<Account as Meter>⟧.since result ≡ 0 }
-    ensures rate { (⟦<Account as Meter>⟧.terms result).rate ≡ 1 }
-{
-    Account::new(Police::Frame, 1518, Bag::Ms1, jitter_ns)
-}
-
 /// A frame of any size costs the gap; a jitter of one gap lets two pass at once, and the third comes a gap too early.
 #[test]
 fn an_account_by_frames(rt: HostRuntime) {
     let plain = FrameAccount::new(1518, Bag::Ms1, 0);
-    let cap = plain.cap();
-    let mut account = by_frames(1_000_000);
+    // example of afdx_account
+    let mut account = Account::new(Police::Frame, 1518, Bag::Ms1, 1_000_000);
     let terms = [account.cap(), account.rate(), account.price(64)];
     let weight = account.weight(Speed::Hundred);
     let first = account.offer(Stamp::ZERO, 64);
     let second = account.offer(Stamp::ZERO, 1518);
     let third = account.offer(Stamp::ZERO, 64);
     let soon = early_by(&account, Stamp::ZERO, 64);
+    // end of example
     assert_eq!(rt;
-        (cap, terms, weight, [first, second, third], soon),
+        (plain.cap(), terms, weight, [first, second, third], soon),
         (
             1_000_000,
             [2_000_000, 1, 1_000_000],

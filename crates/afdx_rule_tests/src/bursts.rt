@@ -34,12 +34,14 @@ fn bursts(table: &Table, first: bool, third: bool, scatter: u64) -> Option<(u128
     if scatter > 100_000 {
         return None;
     }
+    // example of afdx_grouping
     let mut lined = [false; PLACES];
     lined[1] = first;
     lined[3] = third;
     let row = table.port(2)?;
     let bursts = lesser_bursts(table, &lined, scatter, row);
     Some((bursts.all, bursts.high))
+    // end of example
 }
 
 /// Mbit/s of port 1, links, over which lines frames come one after the other, and the two bursts.

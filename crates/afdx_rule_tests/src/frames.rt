@@ -9,6 +9,7 @@ use std::test::Fail;
 
 #[test]
 fn constant_field_and_link(rt: HostRuntime) {
+    // example of afdx_frame
     let frame = [0x03, 0x00, 0x00, 0x01, 0x12, 0x34, 0x02, 0x00];
     for (bytes, want) in [
         (&frame[..], Some(([3, 0, 0, 1], 0x1234))),
@@ -18,6 +19,7 @@ fn constant_field_and_link(rt: HostRuntime) {
         let address = view(bytes).map(|view| (view.constant(), view.link()));
         assert_eq!(rt; address, want, "{} bytes", bytes.len());
     }
+    // end of example
 }
 
 /// The verdict on a frame whose address begins so, of so many captured bytes and so many on the line; none where it is no record.
@@ -28,6 +30,7 @@ fn verdict_on(
     (first, link): (u8, u8),
     (captured, original): (u32, u32),
 ) -> Option<Verdict> {
+    // example of afdx_filter
     let sample = Sample {
         seconds: 0,
         nanos: 0,
@@ -38,6 +41,7 @@ fn verdict_on(
     };
     let frame = record(alloc, sample)?;
     Some(verdict(table, in_port, &frame))
+    // end of example
 }
 
 #[test]

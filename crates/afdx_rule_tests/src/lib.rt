@@ -1,4 +1,4 @@
-//! Tests of what the switch rests on: numbers, accounts, addresses, verdicts, tables and loads, by their calls.
+//! Tests of what the switch and its reports rest on, by their calls: numbers, accounts, addresses, verdicts, tables and loads.
 //!
 //! They are in a crate of their own, since a crate with tests is proved twice.
 #![tactic(auto)]
@@ -7,6 +7,8 @@
 mod accounts;
 #[cfg(test)]
 mod bursts;
+#[cfg(test)]
+mod first_calls;
 #[cfg(test)]
 mod frames;
 #[cfg(test)]

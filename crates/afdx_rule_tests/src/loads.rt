@@ -26,10 +26,12 @@ fn table_of(alloc: Global, mbit: u32, links: &[Link]) -> Result<Table, Fail> {
 
 /// The numbers of port 2, where the loads of all ports have that rate and there is no port 3.
 fn numbers(table: &Table) -> Option<Numbers> {
+    // example of afdx_load
     let row = table.port(2)?;
     let load = load(table, 2)?;
     let rate = loads(table).at(2)?.rate();
     let bounds = bounds(&load);
+    // end of example
     if rate != load.rate() || afdx_load::load(table, 3).is_some() {
         return None;
     }
@@ -157,10 +159,12 @@ fn small_ports(alloc: Global) -> Result<String, AllocError> {
 
 /// The fault of a table, and how many ports and links the table has that comes back.
 fn refused(table: Table) -> Option<(LoadFault, usize, usize)> {
+    // example of afdx_load
     match check(table) {
         Ok(_) => None,
         Err((table, fault)) => Some((fault, table.ports().len(), table.link_count())),
     }
+    // end of example
 }
 
 /// The lowest port is named, whatever the order of the text, and the table comes back.

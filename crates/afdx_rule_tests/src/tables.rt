@@ -203,11 +203,13 @@ fn greatest(alloc: Global) -> Result<String, AllocError> {
 
 #[test]
 fn greatest_table(rt: HostRuntime) -> Result<(), Fail> {
+    // example of afdx_table
     let text = greatest(rt.alloc())?;
     let table = read(rt.alloc(), text.as_bytes())?;
     let rows = (table.ports().len(), table.link_count());
     let last = table.link(4095).map(|row| row.to.len());
     let place = table.link_place(4095);
+    // end of example
     assert_eq!(rt; (rows, last, place), ((24, 4096), Some(23), Some(4095)));
     Ok(())
 }

@@ -4,6 +4,7 @@ use afdx_units::{Bag, Speed, Stamp, cost, size};
 
 #[test]
 fn line_times(rt: HostRuntime) {
+    // example of afdx_units
     for (speed, captured, want) in [
         (Speed::Hundred, 60, (64, 80, 6_720)),
         (Speed::Hundred, 1514, (1518, 80, 123_040)),
@@ -17,6 +18,7 @@ fn line_times(rt: HostRuntime) {
             "{captured} bytes"
         );
     }
+    // end of example
 }
 
 /// Nanoseconds, seconds, nanoseconds of the second, and whether no capture has the instant.
@@ -59,8 +61,27 @@ fn first_and_last_instants(rt: HostRuntime) {
 }
 
 #[test]
-fn zero_and_a_second_of_nanoseconds(rt: HostRuntime) {
-    assert_eq!(rt; (Stamp::ZERO.ns(), Stamp::new(0, 1_000_000_000)), (0, None));
+fn ends_of_instants_and_a_second_of_nanoseconds(rt: HostRuntime) {
+    assert_eq!(rt;
+        (
+            Stamp::ZERO.ns(),
+            Stamp::LAST.ns(),
+            Stamp::new(0, 1_000_000_000)
+        ),
+        (0, 4_294_967_295_999_999_999, None)
+    );
+}
+
+#[test]
+fn instants_that_saturate(rt: HostRuntime) {
+    for (ns, want) in [
+        (0, 0),
+        (4_294_967_295_999_999_999, 4_294_967_295_999_999_999),
+        (4_294_967_296_000_000_000, 4_294_967_295_999_999_999),
+        (1 << 64, 4_294_967_295_999_999_999),
+    ] {
+        assert_eq!(rt; Stamp::from_ns_saturating(ns).ns(), want, "{ns} ns");
+    }
 }
 
 #[test]

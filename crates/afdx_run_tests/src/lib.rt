@@ -16,6 +16,8 @@ mod parts;
 #[cfg(test)]
 mod pieces;
 #[cfg(test)]
+mod reports;
+#[cfg(test)]
 mod sessions;
 #[cfg(test)]
 mod settings;

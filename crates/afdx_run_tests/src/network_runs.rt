@@ -1,11 +1,16 @@
 //! Runs of a network by its call: what leaves each switch, to the nanosecond, and captures of which there is no run.
 
+ghost use Rattle.std.specs.Prelude.{◌≡◌, length, IfOk};
+ghost use Rattle.afdx_network.specs.Given.{open_ends, all_ends};
+
 use crate::networks::cleared;
-use afdx_network::{NetworkRunFault, Texts, run};
+use afdx_count::Counts;
+use afdx_network::{NetworkRunFault, all_ends, open_ends, run};
 use afdx_pcap::PcapFault;
-use afdx_samples::{HEADER, Sample, capture, small};
-use afdx_session::Outcome;
+use afdx_samples::{HEADER, MemoryFile, Sample, capture, small};
+use afdx_wiring::{End, Network};
 use std::alloc::{AllocError, Global};
+use std::io::Cursor;
 use std::test::Fail;
 
 /// A frame at a port of a switch.
@@ -27,48 +32,50 @@ fn capture_at(
     capture(alloc, &samples)
 }
 
-/// The captures of these ports of a switch.
-fn texts_of(
+/// Readers of the captures of a network's ports without a wire, where these frames come in.
+fn readers_of(
     alloc: Global,
-    frames: &[At],
-    switch: usize,
-    ports: &[u8],
-) -> Result<Texts, AllocError> {
-    let mut texts = Vec::new(alloc);
-    for port in ports {
-        texts.push((*port, capture_at(alloc, frames, switch, *port)?))?;
+    network: &Network,
+    came: &[At],
+) -> Result<Vec<Cursor<Vec<u8>>>, AllocError>
+    ensures { IfOk result (λ readers. length readers.items ≡ length (open_ends network.now)) }
+{
+    let ends = open_ends(alloc, network)?;
+    let mut readers = Vec::with_capacity(alloc, ends.len())?;
+    for end in &ends {
+        let text = capture_at(alloc, came, end.switch, end.port)?;
+        readers.push(Cursor::new(text))?;
     }
-    Ok(texts)
+    Ok(readers)
 }
 
-/// Those of the ports of both switches without a wire.
-fn given(alloc: Global, came: &[At]) -> Result<Vec<Texts>, AllocError> {
-    let mut given = Vec::new(alloc);
-    given.push(texts_of(alloc, came, 0, &[1, 2, 3, 4])?)?;
-    given.push(texts_of(alloc, came, 1, &[2, 3, 4])?)?;
-    Ok(given)
-}
-
-/// Whether exactly those of these frames leave a switch that leave its ports.
-fn leave(
-    alloc: Global,
-    outcome: &Outcome<Global>,
-    switch: usize,
-    left: &[At],
-) -> Result<bool, AllocError> {
-    for (port, text) in &outcome.captures {
-        let expected = capture_at(alloc, left, switch, *port)?;
-        if text.as_slice() != expected.as_slice() {
-            return Ok(false);
-        }
+/// A new file for each port of a network.
+fn files_of(alloc: Global, network: &Network) -> Result<Vec<MemoryFile<Global>>, AllocError>
+    ensures { IfOk result (λ files. length files.items ≡ length (all_ends network.now)) }
+{
+    let ends = all_ends(alloc, network)?;
+    let mut files = Vec::with_capacity(alloc, ends.len())?;
+    for _ in &ends {
+        files.push(MemoryFile {
+            bytes: Vec::new(alloc),
+        })?;
     }
-    Ok(true)
+    Ok(files)
 }
 
-/// Whether exactly these frames leave all switches.
-fn all_leave(alloc: Global, outcomes: &[Outcome<Global>], left: &[At]) -> Result<bool, AllocError> {
-    for (switch, outcome) in outcomes.iter().enumerate() {
-        if !leave(alloc, outcome, switch, left)? {
+/// What leaves both switches, and what they count.
+#[derive(Drop)]
+struct Led {
+    ends: Vec<End>,
+    files: Vec<MemoryFile<Global>>,
+    counts: Vec<Counts<Global>>,
+}
+
+/// Whether exactly these frames leave all ports.
+fn all_leave(alloc: Global, led: &Led, left: &[At]) -> Result<bool, AllocError> {
+    for (end, file) in led.ends.iter().zip(led.files.iter()) {
+        let expected = capture_at(alloc, left, end.switch, end.port)?;
+        if file.bytes.as_slice() != expected.as_slice() {
             return Ok(false);
         }
     }
@@ -76,10 +83,10 @@ fn all_leave(alloc: Global, outcomes: &[Outcome<Global>], left: &[At]) -> Result
 }
 
 /// Whether the second switch's report has this line.
-fn has_line(alloc: Global, outcomes: &[Outcome<Global>], line: &str) -> Result<bool, AllocError> {
-    match outcomes.get(1) {
-        Some(outcome) => {
-            let report = outcome.counts.report(alloc)?;
+fn has_line(alloc: Global, led: &Led, line: &str) -> Result<bool, AllocError> {
+    match led.counts.get(1) {
+        Some(counts) => {
+            let report = counts.report(alloc)?;
             Ok(report.as_str().contains(line))
         }
         None => Ok(false),
@@ -87,13 +94,21 @@ fn has_line(alloc: Global, outcomes: &[Outcome<Global>], line: &str) -> Result<b
 }
 
 /// What the two switches with this jitter lead to, where these frames come in.
-fn outcomes(alloc: Global, jitter_us: u32, came: &[At]) -> Result<Vec<Outcome<Global>>, Fail> {
+fn lead(alloc: Global, jitter_us: u32, came: &[At]) -> Result<Led, Fail> {
+    // example of afdx_network
     let network = cleared(alloc, jitter_us)?;
-    let given = given(alloc, came)?;
-    match run(alloc, &network, given) {
-        Ok(outcomes) => Ok(outcomes),
+    let ends = all_ends(alloc, network.network())?;
+    let mut readers = readers_of(alloc, network.network(), came)?;
+    let mut files = files_of(alloc, network.network())?;
+    match run(alloc, &network, &mut readers, &mut files) {
+        Ok(counts) => Ok(Led {
+            ends,
+            files,
+            counts,
+        }),
         Err(_) => Err("a run".into()),
     }
+    // end of example
 }
 
 /// Whether exactly these frames leave them, and the second one's report has this line.
@@ -104,8 +119,8 @@ fn leads_to(
     left: &[At],
     line: &str,
 ) -> Result<bool, Fail> {
-    let outcomes = outcomes(alloc, jitter_us, came)?;
-    Ok(all_leave(alloc, &outcomes, left)? && has_line(alloc, &outcomes, line)?)
+    let led = lead(alloc, jitter_us, came)?;
+    Ok(all_leave(alloc, &led, left)? && has_line(alloc, &led, line)?)
 }
 
 /// A frame of each link at once, and another one of the third a gap later, which comes to the second switch 13,440 ns too early for
@@ -140,104 +155,55 @@ fn a_microsecond_of_jitter(rt: HostRuntime) -> Result<(), Fail> {
     Ok(())
 }
 
-/// A port of a switch, and how many bytes of a header its capture has: 24 are the capture of no frames.
+/// A port without a wire whose capture is cut, and how many bytes of a header it has.
 type Cut = (usize, u8, usize);
 
-/// Captures of the ports without a wire, and of some of them.
-const WHOLE: &[Cut] = &[
-    (0, 1, 24),
-    (0, 2, 24),
-    (0, 3, 24),
-    (0, 4, 24),
-    (1, 2, 24),
-    (1, 3, 24),
-    (1, 4, 24),
-];
+const CUT_AT_BOTH: &[Cut] = &[(0, 3, 23), (0, 4, 0), (1, 2, 23)];
 
-const PORT_MISSING: &[Cut] = &[
-    (0, 1, 24),
-    (0, 2, 24),
-    (0, 4, 24),
-    (1, 2, 24),
-    (1, 3, 24),
-    (1, 4, 24),
-];
+const CUT_AT_B: &[Cut] = &[(1, 3, 23), (1, 4, 0)];
 
-const PORT_WITH_A_WIRE: &[Cut] = &[
-    (0, 1, 24),
-    (0, 2, 24),
-    (0, 3, 24),
-    (0, 4, 24),
-    (1, 1, 24),
-    (1, 2, 24),
-    (1, 3, 24),
-    (1, 4, 24),
-];
-
-/// Two texts of A that are no captures, and none of B.
-const CUT_AND_MISSING: &[Cut] = &[(0, 1, 24), (0, 2, 24), (0, 3, 23), (0, 4, 0)];
-
-const CUT_AT_BOTH: &[Cut] = &[
-    (0, 1, 24),
-    (0, 2, 24),
-    (0, 3, 23),
-    (0, 4, 0),
-    (1, 2, 23),
-    (1, 3, 24),
-    (1, 4, 24),
-];
-
-const CUT_AT_B: &[Cut] = &[
-    (0, 1, 24),
-    (0, 2, 24),
-    (0, 3, 24),
-    (0, 4, 24),
-    (1, 2, 24),
-    (1, 3, 23),
-    (1, 4, 0),
-];
-
-/// The captures of a switch.
-fn cut_at(alloc: Global, switch: usize, cuts: &[Cut]) -> Result<Texts, Fail> {
-    let mut texts = Vec::new(alloc);
+/// How many bytes of a header the capture of a port has: 24 are the capture of no frames.
+fn length_at(cuts: &[Cut], end: End) -> usize {
     for cut in cuts {
-        if cut.0 == switch {
-            let bytes = HEADER.get(..cut.2).ok_or("bytes of a header")?;
-            texts.push((cut.1, Vec::from_slice(alloc, bytes)?))?;
+        if cut.0 == end.switch && cut.1 == end.port {
+            return cut.2;
         }
     }
-    Ok(texts)
+    24
 }
 
-/// Those of so many switches.
-fn cut_each(alloc: Global, switches: usize, cuts: &[Cut]) -> Result<Vec<Texts>, Fail> {
-    let mut given = Vec::new(alloc);
-    for switch in 0..switches {
-        given.push(cut_at(alloc, switch, cuts)?)?;
+/// Readers of such captures.
+fn cut_readers(alloc: Global, network: &Network, cuts: &[Cut]) -> Result<Vec<Cursor<Vec<u8>>>, Fail>
+    ensures { IfOk result (λ readers. length readers.items ≡ length (open_ends network.now)) }
+{
+    let ends = open_ends(alloc, network)?;
+    let mut readers = Vec::with_capacity(alloc, ends.len())?;
+    for end in &ends {
+        let bytes = HEADER
+            .get(..length_at(cuts, *end))
+            .ok_or("bytes of a header")?;
+        readers.push(Cursor::new(Vec::from_slice(alloc, bytes)?))?;
     }
-    Ok(given)
+    Ok(readers)
 }
 
-/// What the run over the captures of so many switches is refused for.
-fn refusal(alloc: Global, switches: usize, cuts: &[Cut]) -> Result<Option<NetworkRunFault>, Fail> {
+/// What the run over such captures is refused for.
+fn refusal(alloc: Global, cuts: &[Cut]) -> Result<Option<NetworkRunFault>, Fail> {
     let network = cleared(alloc, 14)?;
-    Ok(run(alloc, &network, cut_each(alloc, switches, cuts)?).err())
+    let mut readers = cut_readers(alloc, network.network(), cuts)?;
+    let mut files = files_of(alloc, network.network())?;
+    Ok(run(alloc, &network, &mut readers, &mut files).err())
 }
 
-/// The ports are looked at before the texts, and the texts by switch and then by port.
+/// The first that is no capture is named, by switch and then by port.
 #[test]
 fn given_captures(rt: HostRuntime) -> Result<(), Fail> {
     let header = PcapFault::NoHeader;
-    for (switches, cuts, fault) in [
-        (2, PORT_MISSING, NetworkRunFault::WrongPorts(0)),
-        (2, PORT_WITH_A_WIRE, NetworkRunFault::WrongPorts(1)),
-        (1, WHOLE, NetworkRunFault::WrongPorts(1)),
-        (3, WHOLE, NetworkRunFault::WrongPorts(2)),
-        (2, CUT_AND_MISSING, NetworkRunFault::WrongPorts(1)),
-        (2, CUT_AT_BOTH, NetworkRunFault::Capture(0, 3, header)),
-        (2, CUT_AT_B, NetworkRunFault::Capture(1, 3, header)),
+    for (cuts, fault) in [
+        (CUT_AT_BOTH, NetworkRunFault::Capture(0, 3, header)),
+        (CUT_AT_B, NetworkRunFault::Capture(1, 3, header)),
     ] {
-        assert_eq!(rt; refusal(rt.alloc(), switches, cuts)?, Some(fault));
+        assert_eq!(rt; refusal(rt.alloc(), cuts)?, Some(fault));
     }
     Ok(())
 }

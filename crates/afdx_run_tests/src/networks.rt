@@ -1,5 +1,6 @@
 //! Networks by their calls: the file, what its tables are judged for, and the jitters that they need.
 
+use afdx_network_report::accepted_text;
 use afdx_samples::{Ends, four_ports_each, later, network_file, small_link, two_switches};
 use afdx_table::{Table, read};
 use afdx_wiring::{ClearedNetwork, End, Layout, Needs, Network, NetworkFault, Short, Wire};
@@ -126,6 +127,7 @@ fn tables(alloc: Global, texts: &[String]) -> Result<Vec<Table>, Fail> {
 fn fitting(alloc: Global, texts: &[String]) -> Result<Network, Fail> {
     let tables = tables(alloc, texts)?;
     let layout = layout(alloc, &["A", "B"], &[("A.4", "B.1", 0)])?;
+    // example of afdx_wiring
     let network = Network::new(layout, tables)
         .ok()
         .ok_or("ports of the tables")?;
@@ -133,6 +135,7 @@ fn fitting(alloc: Global, texts: &[String]) -> Result<Network, Fail> {
         Ok(()) => Ok(network),
         Err(_) => Err("tables that fit together".into()),
     }
+    // end of example
 }
 
 /// The tables of two switches in a row with this jitter at the second one; 13,440 ns of jitter arise at the first.
@@ -151,8 +154,10 @@ pub(crate) fn cleared(alloc: Global, jitter_us: u32) -> Result<ClearedNetwork, F
 
 /// What the check of that network says.
 fn shortage(alloc: Global, jitter_us: u32) -> Result<Option<NetworkFault>, Fail> {
+    // example of afdx_wiring
     let network = cleared(alloc, jitter_us)?;
     Ok(network.check(alloc).err())
+    // end of example
 }
 
 #[test]
@@ -265,5 +270,25 @@ fn numbers(alloc: Global, needs: &Needs) -> Result<Vec<u64>, AllocError> {
 fn fourteen_are_needed(rt: HostRuntime) -> Result<(), Fail> {
     let (jitters, past) = needs(rt.alloc(), 0)?;
     assert!(rt; jitters.as_slice() == [0, 0, 0, 14, 14, 14].as_slice() && !past);
+    Ok(())
+}
+
+/// The least frame takes 6,720 ns at each port.
+const FIRST_LINES: &str = "switch A accepted
+switch B accepted
+link 1 from A.1 to B.2 ways A.4 B.2 least 13440 most ";
+
+#[test]
+fn ways_are_reported(rt: HostRuntime) -> Result<(), Fail> {
+    let network = cleared(rt.alloc(), 14)?;
+    // example of afdx_network_report
+    let ways = network.ways(rt.alloc()).ok().ok_or("ways")?;
+    let mut names = Vec::new(rt.alloc());
+    for name in ["A", "B"] {
+        names.push(String::from_str(rt.alloc(), name)?)?;
+    }
+    let text = accepted_text(rt.alloc(), &names, &ways, &[])?;
+    assert!(rt; text.as_str().starts_with(FIRST_LINES));
+    // end of example
     Ok(())
 }

@@ -5,7 +5,8 @@ use crate::traffic::{
 };
 use afdx_core::{CoreFault, Done, Fate, Switch};
 use afdx_port::Offer;
-use afdx_samples::{FRAME, double, joined, large, port, single, small};
+use afdx_samples::{FRAME, double, joined, large, port, record, single, small};
+use afdx_table::read;
 use std::alloc::Global;
 use std::test::*;
 
@@ -52,6 +53,21 @@ fn checked_switch_by_calls(rt: HostRuntime) -> Result<(), Fail> {
         answers_calls(rt.alloc(), switch),
         (true, 8, true, (2, 0, 2))
     );
+    Ok(())
+}
+
+/// The frame starts at once, and the line is free again 6,720 ns later.
+#[test]
+fn one_frame_through_a_switch(rt: HostRuntime) -> Result<(), Fail> {
+    // example of afdx_core
+    let table = read(rt.alloc(), single(rt.alloc())?.as_bytes())?;
+    let mut switch = Switch::new(rt.alloc(), table)?;
+    let frame = record(rt.alloc(), small(10, 0)).ok_or("a record")?;
+    let step = switch.arrive(1, frame).ok().ok_or("an arrival")?;
+    let mut done = switch.finish();
+    let out = done.next_out(2)?.ok_or("a record")?;
+    assert_eq!(rt; (step.fate, out.stamp().ns()), (Fate::Passed(10), 6_720));
+    // end of example
     Ok(())
 }
 

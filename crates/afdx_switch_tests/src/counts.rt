@@ -44,6 +44,7 @@ fn fresh(alloc: Global, text: &str) -> Result<Counts<Global>, Fail> {
 
 /// The counters of a switch over a table that took these frames, each with its port, and then was finished.
 fn counts_of(alloc: Global, text: &str, arrivals: &[(u8, Sample)]) -> Result<Counts<Global>, Fail> {
+    // example of afdx_count
     let mut counts = fresh(alloc, text)?;
     let mut switch = switch_of(alloc, text)?;
     for (in_port, sample) in arrivals {
@@ -53,6 +54,7 @@ fn counts_of(alloc: Global, text: &str, arrivals: &[(u8, Sample)]) -> Result<Cou
         }
     }
     counts.note_end(&switch.finish());
+    // end of example
     Ok(counts)
 }
 

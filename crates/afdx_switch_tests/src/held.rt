@@ -5,9 +5,27 @@ ghost use Rattle.std.specs.Prelude.{◌<◌};
 use crate::traffic::{Call, arrive, next, plays, switch_of};
 use afdx_core::Fate;
 use afdx_filter::Verdict;
+use afdx_held_frames::Store;
 use afdx_port::Offer;
-use afdx_samples::{Port, double, frame, large, port, single, slow, small};
+use afdx_samples::{Port, double, frame, large, port, record, single, slow, small};
 use std::test::*;
+
+/// A frame is held until the last of its copies is discarded.
+#[test]
+fn copies_of_one_frame(rt: HostRuntime) -> Result<(), Fail> {
+    // example of afdx_held_frames
+    let frame = record(rt.alloc(), small(10, 0)).ok_or("a record")?;
+    let mut store = Store::new(rt.alloc());
+    store.make_room()?;
+    store.add(2, frame);
+    store.discard(0);
+    let one = store.held();
+    store.discard(0);
+    let none = store.held();
+    assert_eq!(rt; (one, none), (1, 0));
+    // end of example
+    Ok(())
+}
 
 /// Each frame goes to two ports, one of which has room for one frame.
 #[test]

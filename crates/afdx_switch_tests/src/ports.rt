@@ -1,6 +1,6 @@
 //! Items offered to one port, worked out by hand.
 
-ghost use Rattle.std.specs.Prelude.{◌≡◌, ℕ, ◌+◌, ◌<◌, ◌≤◌, false, All};
+ghost use Rattle.std.specs.Prelude.{◌≡◌, ◌+◌, ◌<◌, ◌≤◌, false, All};
 ghost use Rattle.afdx_units.specs.Time.{last_second};
 ghost use Rattle.afdx_units.specs.Line.{least_size, greatest_size};
 
@@ -23,6 +23,7 @@ fn offer(port: &mut Port<Global>, number: usize, at: u64, size: u32, priority: P
     ensures horizon { port.new.content.horizon ≡ at }
     ensures numbered { All (λ other. other.number < number + 1) port.new.content.admitted }
 {
+    // example of afdx_port
     port.offer(Item {
         number,
         link: 10,
@@ -30,6 +31,7 @@ fn offer(port: &mut Port<Global>, number: usize, at: u64, size: u32, priority: P
         size,
         priority,
     })
+    // end of example
 }
 
 /// How many items a port sent, with the number and the end of the last of them.
@@ -114,6 +116,7 @@ fn due(port: &Port<Global>) -> Option<u64> {
 
 #[test]
 fn an_advance_reaches_one_latency_further(rt: HostRuntime) -> Result<(), Fail> {
+    // example of afdx_port
     let mut port = Port::new(rt.alloc(), Speed::Hundred, 100_000, 500_000_000, 50_000);
     port.reserve(1)?;
     offer(&mut port, 1, 10, 64, Priority::Low);
@@ -122,7 +125,8 @@ fn an_advance_reaches_one_latency_further(rt: HostRuntime) -> Result<(), Fail> {
     let before = sent(&port);
     port.advance(Stamp::from_ns(11).unwrap());
     let after = sent(&port);
-    port.advance(Stamp::from_ns(4_294_967_295_999_999_999).unwrap());
+    // end of example
+    port.advance(Stamp::LAST);
     assert_eq!(rt;
         (first, before, after, due(&port)),
         (Some(50_010), (0, None), (1, Some((1, 56_730))), None)

@@ -1,6 +1,6 @@
 //! The rows of a table, and what its numbers and words name.
 
-ghost use Rattle.std.specs.Prelude.{◌≡◌, ◌≤◌, ◌*◌};
+ghost use Rattle.std.specs.Prelude.{◌≡◌, ◌≤◌, ◌*◌, ◌==◌, position};
 ghost use Rattle.afdx_table.specs.Names.{speed_of, bag_of, priority_of, police_of};
 
 use crate::limits::LATENCY_VERSION;
@@ -24,6 +24,13 @@ pub struct PortRow {
     pub buffer: u32,
     /// Nanoseconds for which a frame may wait at its output, from 1,000 to 500,000,000.
     pub max_delay: u64,
+}
+
+/// The place of the port of a number among these. O(ports).
+pub fn port_place(ports: &[PortRow], id: u8) -> Option<usize>
+    ensures { result ≡ position (λ p. p.id == id) ports.now }
+{
+    ports.iter().position(|row| row.id == id)
 }
 
 /// A virtual link (ARINC 664 Part 7).

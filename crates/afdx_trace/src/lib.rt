@@ -2,6 +2,20 @@
 //!
 //! [`arrivals`] has a line for each arrival, and [`departures`] one for each copy that a port sent or discarded. Both are made
 //! of the finished switch, after the run. Contracts say that the texts are those of the definitions.
+//!
+//! # Example
+//!
+//! From `crates/afdx_run_tests/src/reports.rt`:
+//!
+//! ```
+//! let done = finished(rt.alloc(), plan, &captures)?;
+//! let all = Selection {
+//!     links: &[],
+//!     relative: false,
+//! };
+//! let lines = arrivals(rt.alloc(), &done, &all)?;
+//! assert_eq!(rt; lines.as_str(), ARRIVALS);
+//! ```
 #![tactic(auto)]
 
 mod arrival_lines;

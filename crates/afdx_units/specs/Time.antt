@@ -11,6 +11,10 @@ second = 1000000000
 abbrev pub stamp_end : ℕ
 stamp_end = 4294967296000000000
 
+-- the last instant that pcap can hold
+abbrev pub last_instant : ℕ
+last_instant = 4294967295999999999
+
 -- profile: the last second that pcap can hold begins here; it is written, and never read
 abbrev pub last_second : ℕ
 last_second = 4294967295000000000

@@ -1,7 +1,7 @@
 //! Instants of a capture.
 
-ghost use Rattle.std.specs.Prelude.{◌≡◌, ◌↔◌, ◌+◌, ◌*◌, ◌/◌, ◌%◌, ◌<◌, ◌≤◌, IsTrue, SomeIff};
-ghost use Rattle.afdx_units.specs.Time.{second, stamp_end, last_second, IsInstant};
+ghost use Rattle.std.specs.Prelude.{◌≡◌, ◌↔◌, ◌+◌, ◌*◌, ◌/◌, ◌%◌, ◌<◌, ◌≤◌, min, IsTrue, SomeIff};
+ghost use Rattle.afdx_units.specs.Time.{second, stamp_end, last_instant, last_second, IsInstant};
 
 use std::marker::Model;
 
@@ -41,6 +41,9 @@ impl Stamp {
     /// The first instant, the start of 1970.
     pub const ZERO: Stamp = Stamp { ns: 0 };
 
+    /// The last instant, a nanosecond before 32 bits of seconds end.
+    pub const LAST: Stamp = Stamp { ns: END - 1 };
+
     /// The instant of these seconds and nanoseconds; none where the nanoseconds make a second or more.
     pub fn new(sec: u32, nanos: u32) -> Option<Stamp>
         ensures { SomeIff result (nanos < second) (sec * second + nanos) }
@@ -60,6 +63,15 @@ impl Stamp {
         ensures { SomeIff result (ns < stamp_end) ns }
     {
         if ns < END { Some(Stamp { ns }) } else { None }
+    }
+
+    /// The instant of so many nanoseconds; the last instant if that lies before it.
+    pub fn from_ns_saturating(ns: u128) -> Stamp
+        ensures { result ≡ min ns last_instant }
+    {
+        Stamp {
+            ns: ns.min(u128::from(Stamp::LAST.ns)) as u64,
+        }
     }
 
     /// The instant so many nanoseconds later; none past the last instant.

@@ -1,6 +1,7 @@
 -- The laws of what recordings have to keep to.
 use Rattle.std.specs.Prelude.{◌≡◌, ◌↔◌, ℕ, ◌-◌, ◌≤◌, ◌==◌, true, Bool, List, [], ◌∷◌, map, filter, drop, length, if◌then◌else◌, Some, Contains}
 use Rattle.std.specs.List.{AllByRecursion}
+use Rattle.afdx_units.specs.Time.{last_instant}
 use Rattle.afdx_pcap.specs.Record.{Record}
 use Rattle.afdx_account.specs.Level.{InOrder}
 use Rattle.afdx_filter.specs.Frame.{frame_of}
@@ -16,7 +17,7 @@ use Rattle.afdx_session.specs.Texts.{Text, AreOfPorts}
 use Rattle.afdx_session.specs.Outcome.{Results}
 use Rattle.afdx_session.specs.Headline.{IsIsolatedAt, IsIsolated, own_records}
 use Rattle.afdx_merging.specs.declared.clock.Clock.{Clock}
-use Rattle.afdx_merging.specs.Merge.{Arrival, last_instant, moved, IsMergeOf}
+use Rattle.afdx_merging.specs.Merge.{Arrival, moved, IsMergeOf}
 use Rattle.afdx_recordings.specs.declared.recordings.Recordings.{Recordings}
 use Rattle.afdx_recordings.specs.Recordings.{is_recorded}
 use Rattle.afdx_compare.specs.Comparison.{Comparison, watch_of, IsBegun, with_until, with_end, conform}

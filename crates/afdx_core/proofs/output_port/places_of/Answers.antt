@@ -9,8 +9,8 @@ loop-number-init c = record { long = refl; each = λ port lt. absurd (omega (ari
 pub loop-number-preserved : goal.loop-number-preserved
 loop-number-preserved c =
     let l = c.loop-number in record {
-      long = length-set l.places l.number c.search.result ∙ l.invariant.long;
-      each = places_step l.places c.args.ports.now l.number c.search.result (omega (arith, l.invariant.long, c.loop-number-test.true)) l.invariant.each c.search.ensures;
+      long = length-set l.places l.number c.port_place.result ∙ l.invariant.long;
+      each = places_step l.places c.args.ports.now l.number c.port_place.result (omega (arith, l.invariant.long, c.loop-number-test.true)) l.invariant.each c.port_place.ensures;
     }
 
 pub returns : goal.returns

@@ -10,7 +10,7 @@ come_to-requires-clause-going g c =
 pub returns : goal.returns
 returns g c =
     let s = c.self.inside in
-    let came = rw c.last_instant.ensures at c.in_ok-come_to.ensures.ok in
+    let came = c.in_ok-come_to.ensures.ok in
     counted c.merges_are_cut.ensures c.end_counts_the_run.ensures s.feeder c.come_to.new.self s.reached c.args.self c.finish.result.run c.note_relayed-2.new.self
     (rw (going_is s.feeder s.reached s.failed c.args.self c.self.view_is c.requires.going) at c.self.view_is) c.come_to.ensures.same came.1 c.come_to.ensures.of came.0 c.finish.ensures.run
     c.note_relayed-2.ensures
