@@ -65,11 +65,11 @@ module _ (place : ℕ) (first : Comparison) where
       ]
 
   -- what each arrival tells
-  abbrev told_each : Sources → List Arrival → List Notice
+  abbrev pub told_each : Sources → List Arrival → List Notice
   told_each s [] = []
   told_each s (a ∷ arrivals) = told_of place (slice_get s.captures a.place) a.head first ++ told_each s arrivals
 
-  told_as : (s : Sources) (arrivals : List Arrival) (c : Comparison) → LeadAlike first c → c.watch ≡ first.watch → c.table ≡ first.table
+  pub told_as : (s : Sources) (arrivals : List Arrival) (c : Comparison) → LeadAlike first c → c.watch ≡ first.watch → c.table ≡ first.table
       → told place s.captures arrivals c ≡ told_each s arrivals
   told_as s [] c alike watch table = refl
   told_as s (a ∷ arrivals) c alike watch table =
@@ -150,7 +150,7 @@ not_led port place output links os outputs none (Some link) is = of_link (slice_
   of_link (Some f) get is = of_place f get (position (λ (o : Output). o.port == port) f.outputs) refl is
 
 -- what there is a place for is in the list
-within_where : {X : Type 0} (p : X → Bool) (xs : List X) (k : ℕ) → option_map_or p (slice_get xs k) false ≡ true → k < length xs
+pub within_where : {X : Type 0} (p : X → Bool) (xs : List X) (k : ℕ) → option_map_or p (slice_get xs k) false ≡ true → k < length xs
 within_where {X} p xs k = by (slice_get xs k) refl where
   by : (of : Option X) → slice_get xs k ≡ of → option_map_or p of false ≡ true → k < length xs
   by None get is = absurd (let never = is in cc)
@@ -160,6 +160,53 @@ none_if : (b : Bool) (xs : List Notice) → xs ≡ [] → (if b then xs else [])
 none_if true xs is = is
 none_if false xs is = refl
 
+-- ---- of captures that are the same the same arrived
+
+module _ (t : Content) (r : Recordings) (passes : ℕ → Bool) (few : (k : ℕ) → passes k ≡ true → k < length (sources_of t r).captures) (captures others : List (List Record))
+    (arrivals arrivals' : List Arrival) (merge : IsMergeOf (sources_of t r).clocks captures arrivals) (merge' : IsMergeOf (sources_of t r).clocks others arrivals') where
+  module _ (alike : (place : ℕ) → passes place ≡ true → slice_get captures place ≡ slice_get others place) where
+    same_there : (k : ℕ) → passes k ≡ true → at_place k arrivals ≡ at_place k arrivals'
+    same_there k is =
+        let clocks = (sources_of t r).clocks in
+        let lt = few k is in
+        let many = sources_many r t in
+        let long = merge.many in
+        let clock = get_there clocks k (omega (arith, lt, many)) in
+        let rs = get_there captures k (omega (arith, lt, many, long)) in
+        merge.each k clock.0 rs.0 clock.1 rs.1 ∙ sym (merge'.each k clock.0 rs.0 clock.1 (sym (alike k is) ∙ rs.1))
+
+    same_at : (k : ℕ) → at_place k (filter (λ a. passes a.place) arrivals) ≡ at_place k (filter (λ a. passes a.place) arrivals')
+    same_at k =
+        let some = some_at (λ a. passes a.place) k in
+        elim (cases_Bool (passes k)) [
+          | inl is ↦ some arrivals ∙ ap (λ (xs : List Arrival). filter (λ a. passes a.place) xs) (same_there k is) ∙ sym (some arrivals')
+          | inr not ↦ some arrivals ∙ none_at passes k arrivals not ∙ sym (some arrivals' ∙ none_at passes k arrivals' not)
+        ]
+
+    pub same_arrived : filter (λ a. passes a.place) arrivals ≡ filter (λ a. passes a.place) arrivals'
+    same_arrived = only_one (filter (λ a. passes a.place) arrivals) (filter (λ a. passes a.place) arrivals')
+        (order_some (λ a. passes a.place) arrivals merge.in_order) (order_some (λ a. passes a.place) arrivals' merge'.in_order) same_at
+
+-- ---- what is found out of a link is what it was told
+
+watch_after : (s : Sources) (arrivals : List Arrival) (c : Comparison) → (with_arrivals s.captures arrivals c).watch ≡ c.watch
+watch_after s [] c = refl
+watch_after s (a ∷ arrivals) c = watch_after s arrivals (with_arrival s.captures a c) ∙ (arrival_same (slice_get s.captures a.place) a c).watch
+
+pub found_told : (t : Content) (r : Recordings) (until : ℕ) (begun : Comparison) (place : ℕ) (arrivals : List Arrival)
+    → let first = with_until until begun in
+    slice_get (found_of t r until begun arrivals).links place
+    ≡ option_map (with_ends (last_record first.watch)) (option_map (with_notices (told place (sources_of t r).captures arrivals first)) (slice_get begun.links place))
+found_told t r until begun place arrivals =
+    let captures = (sources_of t r).captures in
+    let first = with_until until begun in
+    let c = with_arrivals captures arrivals first in
+    slice_get-map (with_ends (last_record c.watch)) c.links place
+    ∙ ap (λ (w : Watch). option_map (with_ends (last_record w)) (slice_get c.links place)) (watch_after (sources_of t r) arrivals first)
+    ∙ ap (λ (f : Option Watched). option_map (with_ends (last_record first.watch)) f) (links_are_told place captures arrivals first)
+
+-- ---- which captures tell this link nothing
+
 module _ (clean : CleanFramesHaveALink) (places : LinksAreAtTheirPlaces) (t : Content) (r : Recordings) (from until : ℕ) (keeping : Bool) (begun : Comparison)
     (is_begun : IsBegun t r from keeping begun) (place : ℕ) (l : Link) (there : slice_get t.links place ≡ Some l) where
   abbrev first : Comparison
@@ -168,7 +215,7 @@ module _ (clean : CleanFramesHaveALink) (places : LinksAreAtTheirPlaces) (t : Co
   outputs_are : (f : Watched) → slice_get begun.links place ≡ Some f → f.outputs ≡ outputs_first (watch_of t r from) t r.outputs keeping l.priority l.to
   outputs_are f get = ap (λ (x : Watched). x.outputs) (first_each (watch_of t r from) t r.outputs keeping t.links begun.links is_begun.links place l f there get).first
 
-  quiet_side : (leaves : Bool) (port : ℕ) (n : Numbered) → (if leaves then leads_to port l else port == l.from) ≡ false
+  pub quiet_side : (leaves : Bool) (port : ℕ) (n : Numbered) → (if leaves then leads_to port l else port == l.from) ≡ false
       → (if leaves then told_left place port n first else told_came place port n first) ≡ []
   quiet_side true port n silent =
       let os = outputs_first (watch_of t r from) t r.outputs keeping l.priority l.to in
@@ -203,48 +250,21 @@ module _ (clean : CleanFramesHaveALink) (places : LinksAreAtTheirPlaces) (t : Co
   told_those : (arrivals : List Arrival) → told place sources.captures arrivals first ≡ told_each place first sources (those arrivals)
   told_those arrivals = told_as place first sources arrivals first alike_first refl refl ∙ told_some place first sources (concerns l sources) quiet arrivals
 
-  watch_after : (arrivals : List Arrival) (c : Comparison) → (with_arrivals sources.captures arrivals c).watch ≡ c.watch
-  watch_after [] c = refl
-  watch_after (a ∷ arrivals) c = watch_after arrivals (with_arrival sources.captures a c) ∙ (arrival_same (slice_get sources.captures a.place) a c).watch
-
   found_is : (arrivals : List Arrival)
       → slice_get (found_of t r until begun arrivals).links place
       ≡ option_map (with_ends (last_record first.watch)) (option_map (with_notices (told_each place first sources (those arrivals))) (slice_get begun.links place))
   found_is arrivals =
-      let c = with_arrivals sources.captures arrivals first in
-      slice_get-map (with_ends (last_record c.watch)) c.links place
-      ∙ ap (λ (w : Watch). option_map (with_ends (last_record w)) (slice_get c.links place)) (watch_after arrivals first)
-      ∙ ap (λ (f : Option Watched). option_map (with_ends (last_record first.watch)) f)
-      (links_are_told place sources.captures arrivals first ∙ ap (λ (xs : List Notice). option_map (with_notices xs) (slice_get begun.links place)) (told_those arrivals))
+      found_told t r until begun place arrivals
+      ∙ ap (λ (xs : List Notice). option_map (with_ends (last_record first.watch)) (option_map (with_notices xs) (slice_get begun.links place))) (told_those arrivals)
 
   module _ (captures others : List (List Record)) (arrivals arrivals' : List Arrival) (merge : IsMergeOf sources.clocks captures arrivals)
       (merge' : IsMergeOf sources.clocks others arrivals') (alike : AreAlikeFor l sources captures others) where
-    -- of a capture that concerns it the same arrived
-    same_there : (k : ℕ) → concerns l sources k ≡ true → at_place k arrivals ≡ at_place k arrivals'
-    same_there k is =
-        let lt = within_where (λ x. if x.leaves then leads_to x.port l else x.port == l.from) sources.captures k is in
-        let many = sources_many r t in
-        let long = merge.many in
-        let clock = get_there sources.clocks k (omega (arith, lt, many)) in
-        let rs = get_there captures k (omega (arith, lt, many, long)) in
-        merge.each k clock.0 rs.0 clock.1 rs.1 ∙ sym (merge'.each k clock.0 rs.0 clock.1 (sym (alike k is) ∙ rs.1))
-
-    same_at : (k : ℕ) → at_place k (those arrivals) ≡ at_place k (those arrivals')
-    same_at k =
-        let some = some_at (λ a. concerns l sources a.place) k in
-        elim (cases_Bool (concerns l sources k)) [
-          | inl is ↦ some arrivals ∙ ap (λ (xs : List Arrival). filter (λ a. concerns l sources a.place) xs) (same_there k is) ∙ sym (some arrivals')
-          | inr not ↦ some arrivals ∙ none_at (concerns l sources) k arrivals not ∙ sym (some arrivals' ∙ none_at (concerns l sources) k arrivals' not)
-        ]
-
-    those_same : those arrivals ≡ those arrivals'
-    those_same = only_one (those arrivals) (those arrivals') (order_some (λ a. concerns l sources a.place) arrivals merge.in_order)
-        (order_some (λ a. concerns l sources a.place) arrivals' merge'.in_order) same_at
-
     same_found : slice_get (found_of t r until begun arrivals).links place ≡ slice_get (found_of t r until begun arrivals').links place
     same_found =
         found_is arrivals
-        ∙ ap (λ (xs : List Arrival). option_map (with_ends (last_record first.watch)) (option_map (with_notices (told_each place first sources xs)) (slice_get begun.links place))) those_same
+        ∙ ap (λ (xs : List Arrival). option_map (with_ends (last_record first.watch)) (option_map (with_notices (told_each place first sources xs)) (slice_get begun.links place)))
+        (same_arrived t r (concerns l sources) (λ k is. within_where (λ of. if of.leaves then leads_to of.port l else of.port == l.from) sources.captures k is)
+        captures others arrivals arrivals' merge merge' alike)
         ∙ sym (found_is arrivals')
 
 pub rows_are_alone : CleanFramesHaveALink → LinksAreAtTheirPlaces → RowsAreAlone

@@ -247,7 +247,7 @@ one_by_last place s k n c = elim (slice_get s.captures k) as (λ of. AreByLast c
   | Some x ↦ side_by_last place x.leaves x.port n c
 ]
 
-told_by_last : (place : ℕ) (s : Sources) (arrivals : List Arrival) (c : Comparison) → AreByLast c.watch (told place s.captures arrivals c)
+pub told_by_last : (place : ℕ) (s : Sources) (arrivals : List Arrival) (c : Comparison) → AreByLast c.watch (told place s.captures arrivals c)
 told_by_last place s [] c = tt
 told_by_last place s (a ∷ arrivals) c =
     let next = with_arrival s.captures a c in

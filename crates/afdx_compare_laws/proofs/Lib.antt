@@ -1,12 +1,15 @@
 pub mod Alone
+pub mod AtRest
 pub mod Comparing
 pub mod Conforming
 pub mod Cutting
+pub mod EachRow
 pub mod Ending
 pub mod Fates
 pub mod Fine
 pub mod Fitting
 pub mod Foreign
+pub mod Gone
 pub mod Merges
 pub mod Narrowing
 pub mod OurRuns
@@ -14,3 +17,4 @@ pub mod Runs
 pub mod Spans
 pub mod Surplus
 pub mod Told
+pub mod Untils

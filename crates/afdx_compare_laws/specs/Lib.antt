@@ -1,6 +1,7 @@
 pub mod Alone
 pub mod Comparing
 pub mod Conforming
+pub mod EachRow
 pub mod Fates
 pub mod Fine
 pub mod Runs

@@ -3,6 +3,7 @@
 ghost use Rattle.afdx_compare_laws.specs.Alone.{RowsAreAlone};
 ghost use Rattle.afdx_compare_laws.specs.Comparing.{KeptIsConforms, KeptIsNotForeign};
 ghost use Rattle.afdx_compare_laws.specs.Conforming.{KeptLinkConforms};
+ghost use Rattle.afdx_compare_laws.specs.EachRow.{EachRowIsAlone};
 ghost use Rattle.afdx_compare_laws.specs.Fates.{ToldFatesExplain};
 ghost use Rattle.afdx_compare_laws.specs.Fine.{KeptIsFine};
 ghost use Rattle.afdx_compare_laws.specs.Runs.{OurAnswersAreKept, OurRunsConform};
@@ -63,6 +64,16 @@ pub fn rows_are_alone()
 {
     clean_frames_have_a_link();
     links_are_at_their_places();
+}
+
+/// Where a switch was at rest and stamps are exact, what is said of a link at an output port, its text and its rows, rests on what came at its own
+/// port and on what left at that one: whatever other captures hold, those of its other output ports among them, it is the same.
+pub fn each_row_is_alone()
+    ensures { EachRowIsAlone }
+{
+    clean_frames_have_a_link();
+    links_are_at_their_places();
+    ports_are_found();
 }
 
 /// Where the records of a port are what left of the passed frames, nothing that is told of it speaks against the switch: the other direction of
