@@ -65,7 +65,7 @@ use Rattle.afdx_compare.proofs.Places.{get_there, all_at, same_get, item_contain
 use Rattle.afdx_compare.proofs.Ported.{HasLimits, all_have, names_all, all_lead}
 use Rattle.afdx_compare.proofs.Strangers.{none_foreign, IsLed, all_led}
 use Rattle.afdx_compare.proofs.Telling.{links_are_told}
-use Rattle.afdx_compare.proofs.Turns.{at_port, among, among_links}
+use Rattle.afdx_compare.proofs.Turns.{at_port, among_links}
 use Rattle.afdx_compare_laws.specs.Fine.{LeavesLater}
 use Rattle.afdx_compare_laws.specs.Fates.{Recorded, AllDiffer, LeaveLater, AreApart, CanBeTold, IsKeptBy}
 use Rattle.afdx_compare_laws.specs.Conforming.{recorded_from, IsOffBy, IsByLast, KeptLinkConforms}

@@ -1,5 +1,5 @@
 -- Up to which instants ports are told of what left, where recordings end at one.
-use Rattle.std.proofs.Common.{◌≡◌, ℕ, ◌+◌, ◌-◌, ◌≤◌, [], Option, Some, None, sym, subst, arith}
+use Rattle.std.proofs.Common.{◌≡◌, ℕ, ◌+◌, ◌-◌, ◌≤◌, Option, Some, None, sym, subst, arith}
 use Rattle.afdx_pairing.specs.declared.limits.Limits.{Limits}
 use Rattle.afdx_pairing.specs.Events.{Numbered}
 use Rattle.afdx_pairing.specs.Limits.{left_at}

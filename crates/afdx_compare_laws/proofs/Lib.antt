@@ -10,6 +10,8 @@ pub mod Fine
 pub mod Fitting
 pub mod Foreign
 pub mod Gone
+pub mod Instants
+pub mod Less
 pub mod Merges
 pub mod Narrowing
 pub mod OurRuns

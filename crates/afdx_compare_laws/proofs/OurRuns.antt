@@ -10,26 +10,25 @@ use Rattle.std.proofs.lemmas.List.Elements.{recursion_from_All}
 use Rattle.std.proofs.lemmas.Option.{slice_get-map, same_Some}
 use Rattle.afdx_units.specs.declared.line.Speed.{Speed}
 use Rattle.afdx_units.specs.declared.line.Speed.TheVariants.{Ten, Hundred, Thousand}
-use Rattle.afdx_units.specs.Line.{size_of, cost_of}
+use Rattle.afdx_units.specs.Line.{least_size, size_of, cost_of}
 use Rattle.afdx_units.specs.Time.{last_instant}
 use Rattle.afdx_pcap.specs.Record.{Record}
 use Rattle.afdx_frame.specs.Address.{link_of}
 use Rattle.afdx_table.specs.declared.rows.PortRow.{PortRow}
 use Rattle.afdx_table.specs.Link.{Link, names_port, leads_to}
-use Rattle.afdx_table.specs.Content.{Content}
-use Rattle.afdx_table.specs.WellFormed.{IsPort, IsWellFormed}
+use Rattle.afdx_table.specs.Content.{Content, port_row}
+use Rattle.afdx_table.specs.WellFormed.{IsWellFormed}
 use Rattle.afdx_filter.specs.Inner.Clean.{CleanFramesHaveALink}
 use Rattle.afdx_filter.specs.Verdict.{verdict_of}
 use Rattle.afdx_filter.specs.Frame.{frame_of}
 use Rattle.afdx_load.specs.Load.{load_of, terms_of}
 use Rattle.afdx_load.specs.Inner.Laws.{HighLinksLeaveAPart}
-use Rattle.afdx_isolation.specs.Table.{bound_of}
 use Rattle.afdx_load.specs.Accepted.{IsAccepted}
-use Rattle.afdx_grouping.specs.Scatter.{scattered, IsAcceptedWith, NothingIsScattered}
+use Rattle.afdx_grouping.specs.Scatter.{IsAcceptedWith, NothingIsScattered, LessScatterIsAccepted}
 use Rattle.afdx_levels.specs.Levels.{Allowed}
 use Rattle.afdx_levels.specs.Inner.Laws.{chosen}
 use Rattle.afdx_pairing.specs.declared.limits.Limits.{Limits}
-use Rattle.afdx_pairing.specs.Limits.{left_at, most_of}
+use Rattle.afdx_pairing.specs.Limits.{most_of}
 use Rattle.afdx_pairing.specs.Kept.{MayCome, bytes_of, IsKeptFor}
 use Rattle.afdx_following.specs.declared.watch.Watch.{Watch}
 use Rattle.afdx_following.specs.declared.watch.Start.TheVariants.{Rest}
@@ -51,25 +50,29 @@ use Rattle.afdx_recordings.specs.declared.recordings.Recordings.{Recordings}
 use Rattle.afdx_recordings.specs.declared.stamps.Stamps.{Stamps}
 use Rattle.afdx_recordings.specs.Recordings.{gap_of, is_recorded}
 use Rattle.afdx_compare.specs.Comparison.{Comparison, watch_of, bound_in, outputs_first, start_of, IsBegun, with_until, with_end, conform}
-use Rattle.afdx_compare.specs.Sources.{Sources, later_by, sooner_by, output_clock, sources_of}
-use Rattle.afdx_compare.specs.Arrivals.{with_arrival, with_arrivals}
-use Rattle.afdx_compare.specs.Within.{own_within, bound_at, recorded, exactly, levels_of, IsKeptAt, IsKeptWithin}
+use Rattle.afdx_compare.specs.Sources.{later_by, sooner_by, output_clock, sources_of}
+use Rattle.afdx_compare.specs.Arrivals.{with_arrivals}
+use Rattle.afdx_compare.specs.Within.{own_within, recorded, exactly, levels_of, IsKeptAt, IsKeptWithin}
 use Rattle.afdx_compare.specs.Inner.Laws.{watch_within, recorded_ports, came_in, at_clock, left_out, ExactlyIsIsolated}
-use Rattle.afdx_compare.specs.Inner.Sound.{IsLimited, IsSound}
 use Rattle.afdx_compare.specs.Inner.Told.{told}
-use Rattle.afdx_compare.proofs.Beginning.{first_each, begun_sound}
+use Rattle.afdx_compare.proofs.Beginning.{first_each}
 use Rattle.afdx_compare.proofs.Bounding.{bounded}
 use Rattle.afdx_session.proofs.Settling.{always}
 use Rattle.afdx_compare.proofs.Captured.{get_right, left_at_port}
-use Rattle.afdx_compare.proofs.Explaining.{until_sound}
 use Rattle.afdx_compare.proofs.Making.{row_number}
-use Rattle.afdx_compare.proofs.Next.{arrival_same, arrival_sound}
 use Rattle.afdx_compare.proofs.Places.{all_at, item_contained}
 use Rattle.afdx_compare.proofs.Ported.{HasLimits, all_have, names_all, all_lead}
 use Rattle.afdx_compare.proofs.Telling.{links_are_told}
+use Rattle.afdx_core.specs.Inner.Agreement.{VerdictsNameLinks}
+use Rattle.afdx_core.specs.Inner.Merge.{ByStampIsOrdered}
+use Rattle.afdx_port.specs.Inner.Work.{EndsWithinASecond}
+use Rattle.afdx_session.proofs.Last.{delay_within}
+use Rattle.afdx_compare_laws.specs.Less.{varying, off_by, LessLatencyIsKeptToo}
+use Rattle.afdx_compare_laws.proofs.Less.{wider, none_before}
+use Rattle.afdx_compare_laws.proofs.Instants.{captures_by}
 use Rattle.afdx_compare_laws.specs.Fates.{AllDiffer}
 use Rattle.afdx_compare_laws.specs.Fine.{LeavesLater}
-use Rattle.afdx_compare_laws.specs.Spans.{cut, BeginsInTime, DifferWithinBounds}
+use Rattle.afdx_compare_laws.specs.Spans.{cut, BeginsInTime, IsSpanOf, DifferWithinBounds}
 use Rattle.afdx_compare_laws.specs.Comparing.{HaveAddresses, AreClear, KeptIsNotForeign, KeptIsConforms}
 use Rattle.afdx_compare_laws.specs.Runs.{AreOurs, AreBy, AreApart, AreWhole, AreOfSpan, captures_of, OurAnswersAreKept, OurRunsConform}
 use Rattle.afdx_compare_laws.proofs.Comparing.{filter_there, filter_of, find_in, all_from_each}
@@ -193,16 +196,19 @@ by_bytes (x ∷ xs) (y ∷ ys) same all = (
   by_bytes xs ys (rest_is x.bytes y.bytes (bytes_of xs) (bytes_of ys) same) all.1,
 )
 
-none_before : (m : Limits) (rs : List Record) → m.before ≡ 0 → AllByRecursion (λ x. left_at m x < m.before) rs → AllByRecursion HasAddress rs
-none_before m [] zero_before all = tt
-none_before m (r ∷ rs) zero_before all = let lt = all.0 in absurd (omega (arith, lt, zero_before))
+-- a frame that counts has the least size
+abbrev IsLong : Record → Type 0
+IsLong r = least_size ≤ size_of (length r.bytes)
 
-clean_addresses : CleanFramesHaveALink → (t : Content) (l : Link) (rs : List Record) → AllByRecursion HasAddress (filter (λ x. says_clean l.id (verdict_of t l.from x)) rs)
-clean_addresses clean t l [] = tt
-clean_addresses clean t l (r ∷ rs) = elim (cases_Bool (says_clean l.id (verdict_of t l.from r))) [
-  | inl says ↦ rw says ((let least = (clean t l.from r l.id (is_clean l.id (verdict_of t l.from r) says)).size_least in omega (arith, least)), clean_addresses clean t l rs)
-  | inr not ↦ rw not (clean_addresses clean t l rs)
+clean_long : CleanFramesHaveALink → (t : Content) (l : Link) (rs : List Record) → AllByRecursion IsLong (filter (λ x. says_clean l.id (verdict_of t l.from x)) rs)
+clean_long clean t l [] = tt
+clean_long clean t l (r ∷ rs) = elim (cases_Bool (says_clean l.id (verdict_of t l.from r))) [
+  | inl says ↦ rw says ((clean t l.from r l.id (is_clean l.id (verdict_of t l.from r) says)).size_least, clean_long clean t l rs)
+  | inr not ↦ rw not (clean_long clean t l rs)
 ]
+
+own_long : CleanFramesHaveALink → (w : Watch) (t : Content) (l : Link) (read : List Capture) → AllByRecursion IsLong (own_within w t l read)
+own_long clean w t l read = all_filtered IsLong (λ r. has_frame w r.stamp) (own_records t l read) (clean_long clean t l (records_of read l.from))
 
 kept_addresses : CleanFramesHaveALink → (t : Content) (ports : List PortRow) (read : List Capture) (out : PortRow → List Record) → IsKeptWithin (exactly t) t ports read out
     → HaveAddresses (exactly t) ports out
@@ -213,12 +219,12 @@ kept_addresses clean t ports read out kept p among = all_from_each HasAddress (r
     let leads = leads_there (exactly t) t ports read out kept p among k x at l of.1 of.2 in
     let is = (kept.kept p among l of.1 leads).2 in
     let own = own_within (exactly t) t l read in
-    let own_have = all_filtered HasAddress (λ r. has_frame (exactly t) r.stamp) (own_records t l read) (clean_addresses clean t l (records_of read l.from)) in
+    let own_have = all_map IsLong HasAddress (λ x least. omega (arith, least)) own (own_long clean (exactly t) t l read) in
     let gone = all_first HasAddress is.gone is.after (subst (λ (rs : List Record). AllByRecursion HasAddress rs) is.passed_is (all_chosen HasAddress (kept.fates l) own own_have)) in
     let here = filter_there (λ (y : Record). link_of y.bytes == l.id) (recorded (exactly t) (out p)) k x at (eq-eqb (link_of x.bytes) l.id of.2) in
     all_at HasAddress (records_for l (recorded (exactly t) (out p))) here.0 x here.1
     (subst (λ (rs : List Record). AllByRecursion HasAddress rs) (sym is.out_is)
-    (all_both HasAddress is.before is.seen (none_before (limits_of (exactly t) (kept.kept p among l of.1 leads).0 p.speed) is.before refl is.from_before)
+    (all_both HasAddress is.before is.seen (none_before HasAddress (limits_of (exactly t) (kept.kept p among l of.1 leads).0 p.speed) is.before refl is.from_before)
     (by_bytes is.seen is.gone is.same_bytes gone))))
 
 -- ---- frames of the same bytes
@@ -281,28 +287,15 @@ unmoved c later sooner (r ∷ rs) all =
 
 -- ---- no frame has left when it comes
 
-costs : (speed : Speed) (n : ℕ) → 0 < cost_of speed (size_of n)
-costs Ten n = let lt : 0 < (n + 4 + 20) * 800 = omega arith in lt
-costs Hundred n = let lt : 0 < (n + 4 + 20) * 80 = omega arith in lt
-costs Thousand n = let lt : 0 < (n + 4 + 20) * 8 = omega arith in lt
+costs_more : (speed : Speed) (a b : ℕ) → a ≤ b → cost_of speed a ≤ cost_of speed b
+costs_more Ten a b le = let more : (a + 20) * 800 ≤ (b + 20) * 800 = omega (arith, le) in more
+costs_more Hundred a b le = let more : (a + 20) * 80 ≤ (b + 20) * 80 = omega (arith, le) in more
+costs_more Thousand a b le = let more : (a + 20) * 8 ≤ (b + 20) * 8 = omega (arith, le) in more
 
-later_than : (m : Limits) → m.tolerance ≡ 0 → (rs : List Record) → AllByRecursion (LeavesLater m) rs
-later_than m exact [] = tt
-later_than m exact (r ∷ rs) =
-    ((let lt = costs m.speed (length r.bytes) in let is : m.tolerance < m.least + cost_of m.speed (size_of (length r.bytes)) = omega (arith, exact, lt) in is), later_than m exact rs)
-
-record IsStill (c d : Comparison) : Type 0 where
-  sound : IsSound d
-  watch : d.watch ≡ c.watch
-  table : d.table ≡ c.table
-
-all_still : (s : Sources) (arrivals : List Arrival) (c : Comparison) → IsSound c → IsStill c (with_arrivals s.captures arrivals c)
-all_still s [] c sound = record { sound = sound; watch = refl; table = refl }
-all_still s (a ∷ arrivals) c sound =
-    let of = slice_get s.captures a.place in
-    let same = arrival_same of a c in
-    let rest = all_still s arrivals (with_arrival s.captures a c) (arrival_sound of a c sound) in
-    record { sound = rest.sound; watch = rest.watch ∙ same.watch; table = rest.table ∙ same.table }
+later_than : (m : Limits) → m.tolerance < m.least + cost_of m.speed least_size → (rs : List Record) → AllByRecursion IsLong rs → AllByRecursion (LeavesLater m) rs
+later_than m soon rs long =
+    all_map IsLong (LeavesLater m) (λ r least. let more = costs_more m.speed least_size (size_of (length r.bytes)) least in
+    let is : m.tolerance < m.least + cost_of m.speed (size_of (length r.bytes)) = omega (arith, soon, more) in is) rs long
 
 mapped_option : {X Y : Type 0} (f : X → Y) (o : Option X) (y : Y) → option_map f o ≡ Some y → (x : X) × (o ≡ Some x) × (f x ≡ y)
 mapped_option f None y is = absurd (let never = is in cc)
@@ -312,17 +305,22 @@ mapped_option f (Some x) y is = (x, refl, same_Some (f x) y is)
 
 pub record Needed : Type 0 where
   pub clean : CleanFramesHaveALink
+  pub verdicts : VerdictsNameLinks
+  pub ordered : ByStampIsOrdered
+  pub soon : EndsWithinASecond
   pub scattered : NothingIsScattered
+  pub less_scattered : LessScatterIsAccepted
   pub part : HighLinksLeaveAPart
   pub exact : ExactlyIsIsolated
   pub isolate : OutcomesIsolate
+  pub less : LessLatencyIsKeptToo
   pub answers : OurAnswersAreKept
   pub foreign : KeptIsNotForeign
   pub conforms : KeptIsConforms
 
 module _ (needed : Needed) (t : Content) (texts : List Text) (results : Results) (r : Recordings) (from until : ℕ) (keeping : Bool) (arrivals : List Arrival) (first : Comparison)
-    (formed : IsWellFormed t) (accepted : IsAccepted t) (run : IsOutcome t texts results) (ours : AreOurs t r) (bound : AreBy last_instant (captures_of t r run.read))
-    (ends : AreWhole r until (captures_of t r run.read) ⊎ AreOfSpan t run.read from) (begun : IsBegun t r from keeping first)
+    (formed : IsWellFormed t) (accepted : IsAcceptedWith (t.latency - r.least) t) (run : IsOutcome t texts results) (ours : AreOurs t r)
+    (ends : AreWhole r until (captures_of t r run.read) ⊎ AreOfSpan t r run.read from until) (begun : IsBegun t r from keeping first)
     (merge : IsMergeOf (sources_of t r).clocks (captures_of t r run.read) arrivals) where
   abbrev read : List Capture
   read = run.read
@@ -342,17 +340,21 @@ module _ (needed : Needed) (t : Content) (texts : List Text) (results : Results)
   abbrev w : Watch
   w = watch_within t r from until
 
+  abbrev of_ours : Bool → ℕ → Watch
+  of_ours rest tolerance = cut (start_of rest from) (Some until) (varying r.least (t.latency - r.least) (off_by tolerance (exactly t)))
+
   abbrev spanned : Watch
-  spanned = cut (start_of r.rest from) (Some until) (exactly t)
+  spanned = of_ours r.rest r.tolerance
 
   watch_is : w ≡ spanned
   watch_is =
-      let least = ours.least in
-      let scatter : t.latency - r.least ≡ 0 = omega (arith, least) in
-      ap (λ (n : ℕ). record { least = n; scatter = t.latency - r.least; tolerance = r.tolerance; gap = gap_of r.stamps; start = start_of r.rest from; until = Some until }) least
-      ∙ ap (λ (n : ℕ). record { least = t.latency; scatter = n; tolerance = r.tolerance; gap = gap_of r.stamps; start = start_of r.rest from; until = Some until }) scatter
-      ∙ ap (λ (n : ℕ). record { least = t.latency; scatter = 0; tolerance = n; gap = gap_of r.stamps; start = start_of r.rest from; until = Some until }) ours.tolerance
-      ∙ ap (λ (s : Stamps). record { least = t.latency; scatter = 0; tolerance = 0; gap = gap_of s; start = start_of r.rest from; until = Some until }) ours.stamps
+      ap (λ (s : Stamps). record { least = r.least; scatter = t.latency - r.least; tolerance = r.tolerance; gap = gap_of s; start = start_of r.rest from; until = Some until }) ours.stamps
+
+  within : IsAccepted t
+  within = (needed.scattered.1 t).0 (needed.less_scattered 0 (t.latency - r.least) t (omega arith) accepted)
+
+  bound : AreBy last_instant captures
+  bound = captures_by needed.ordered needed.soon needed.clean needed.verdicts t formed r texts read run.are_read
 
   at_port : (P : Record → Type 0) → AllByRecursion (AllByRecursion P) captures → (j : ℕ) (p : PortRow) → slice_get (recorded_ports t r) j ≡ Some p → AllByRecursion P (out p)
   at_port P all j p at =
@@ -380,8 +382,8 @@ module _ (needed : Needed) (t : Content) (texts : List Text) (results : Results)
 
   exactly_kept : IsKeptWithin (exactly t) t t.ports read out
   exactly_kept =
-      (needed.exact t read out formed accepted (come_in_order t texts read formed run.ports run.are_read)).1
-      (λ p there. needed.isolate t texts results formed accepted run p there)
+      (needed.exact t read out formed within (come_in_order t texts read formed run.ports run.are_read)).1
+      (λ p there. needed.isolate t texts results formed within run p there)
 
   whole_kept : AreBy until captures → IsKeptWithin (whole t until) t (recorded_ports t r) read (left_out t r captures)
   whole_kept by =
@@ -390,23 +392,33 @@ module _ (needed : Needed) (t : Content) (texts : List Text) (results : Results)
       (λ p among. let at = contained_at (recorded_ports t r) p among in at_port (IsBy until) by at.0 p at.1)
       (some_kept (exactly t) t t.ports (recorded_ports t r) read out out in_table (λ p among. refl) exactly_kept))
 
-  differ : AreApart t read → DifferWithinBounds (exactly t) t t.ports read
-  differ apart p at l there leads bound is f g own_f own_g same lt =
-      let i = contained_at (own_within (exactly t) t l read) f own_f in
-      let j = contained_at (own_within (exactly t) t l read) g own_g in
-      let le = differ_at bound (own_within (exactly t) t l read) (differ_filter bound (λ x. has_frame (exactly t) x.stamp) (own_records t l read) (apart p at l there leads bound is))
-      i.0 j.0 f g i.1 j.1 same lt in
-      omega (arith, le)
+  whole_kept_too : AreWhole r until captures → IsKeptWithin (of_ours true 0) t (recorded_ports t r) read (left_out t r captures)
+  whole_kept_too all = needed.less (whole t until) r.least (t.latency - r.least) t (recorded_ports t r) read (left_out t r captures) ours.least (omega arith) (whole_kept all.by_end)
 
-  in_time : (b : Bool) → from ≤ last_instant → BeginsInTime 0 (start_of b from)
-  in_time true le = tt
-  in_time false le = omega (arith, le)
+  -- the bound of latencies that differ is no less, so that frames are as far apart as the table's bound has it
+  differ : AreApart (watch_of t r from) t read → DifferWithinBounds (off_by r.tolerance (exactly t)) t t.ports read
+  differ apart p at l there leads least is f g own_f own_g same lt =
+      let own = own_within (off_by r.tolerance (exactly t)) t l read in
+      let more = wider 0 (t.latency - r.least) (omega arith) (load_of t.latency p.speed p.id t.links) l.priority least is in
+      let i = contained_at own f own_f in
+      let j = contained_at own g own_g in
+      let far = differ_filter (more.0 + r.tolerance) (λ x. has_frame (off_by r.tolerance (exactly t)) x.stamp) (own_records t l read) (apart p at l there leads more.0 more.1) in
+      let le = differ_at (more.0 + r.tolerance) own far i.0 j.0 f g i.1 j.1 same lt in
+      let most = more.2 in
+      omega (arith, le, most)
+
+  span_of : AreOfSpan t r read from until → IsSpanOf (off_by r.tolerance (exactly t)) (start_of r.rest from) (Some until)
+  span_of span = record { begins = tt; in_time = in_time r.rest; ends = span.long } where
+    in_time : (b : Bool) → BeginsInTime r.tolerance (start_of b from)
+    in_time true = tt
+    in_time false = span.in_time
 
   span_kept : IsKeptWithin spanned t (recorded_ports t r) read (left_out t r captures)
   span_kept = elim ends [
-    | inl all ↦ subst (λ (b : Bool). IsKeptWithin (cut (start_of b from) (Some until) (exactly t)) t (recorded_ports t r) read (left_out t r captures)) (sym all.rest) (whole_kept all.by_end)
+    | inl all ↦ subst (λ (b : Bool). IsKeptWithin (of_ours b r.tolerance) t (recorded_ports t r) read (left_out t r captures)) (sym all.rest)
+        (subst (λ (n : ℕ). IsKeptWithin (of_ours true n) t (recorded_ports t r) read (left_out t r captures)) (sym all.exact) (whole_kept_too all))
     | inr span ↦ some_kept spanned t t.ports (recorded_ports t r) read out (left_out t r captures) in_table left_is
-        (needed.answers t texts results (start_of r.rest from) (Some until) formed accepted run (in_time r.rest span.in_time) (differ span.apart))
+        (needed.answers t texts results r.least r.tolerance (start_of r.rest from) (Some until) formed within run ours.least (span_of span) (differ span.apart))
   ]
 
   addresses : HaveAddresses spanned (recorded_ports t r) (left_out t r captures)
@@ -431,79 +443,69 @@ module _ (needed : Needed) (t : Content) (texts : List Text) (results : Results)
   abbrev all : Comparison
   all = with_arrivals (sources_of t r).captures arrivals c
 
-  still : IsStill c all
-  still = all_still (sources_of t r) arrivals c (until_sound until first (begun_sound t r from keeping first formed begun))
+  row_there : (port : ℕ) (row : PortRow) → port_row t port ≡ Some row → Contains t.ports row
+  row_there port row is = let at = find_in (λ (p : PortRow). p.id == port) t.ports row is in item_contained t.ports at.0 row at.1
 
-  exact_all : all.watch.tolerance ≡ 0
-  exact_all =
-      ap (λ (x : Watch). x.tolerance) still.watch ∙ ap (λ (x : Watch). x.tolerance) begun.watch ∙ ours.tolerance
-
-  no_scatter : t.latency - r.least ≡ 0
-  no_scatter = let least = ours.least in omega (arith, least)
-
-  -- at an output the frames of a link came so far apart as its limits have it
-  module _ (apart : AreApart t read) (place : ℕ) (l : Link) (there : slice_get t.links place ≡ Some l) where
-    abbrev AreFar : Limits → Type 0
-    AreFar m = AllDiffer (most_of m) (own_within w t l read)
-
-    far : (o : Output) → HasLimits (watch_of t r from) t l.priority o.port o.limits → names_port o.port l.to ≡ true → AreFar o.limits
-    far o has names =
-        let row = has.row in
-        let number = row_number t o.port row has.is_row in
-        let at = find_in (λ (p : PortRow). p.id == o.port) t.ports row has.is_row in
-        let contains : Contains t.ports row = item_contained t.ports at.0 row at.1 in
-        let leads : leads_to row.id l ≡ true = ap (λ (n : ℕ). names_port n l.to) number ∙ names in
-        let b = bounded needed.part t (t.latency - r.least) formed (subst (λ (n : ℕ). IsAcceptedWith n t) (sym no_scatter) ((needed.scattered.1 t).1 accepted)) row contains place l there leads in
-        let delay = (all_at (λ (x : PortRow). IsPort x) t.ports at.0 row at.1 formed.ports).delay_most in
-        let within = b.within in
-        let bound_is : bound_in (t.latency - r.least) t row l.priority ≡ b.bound =
-        ap (λ (x : Option ℕ). min (option_map_or (λ y. y) x 0) 18446744073709551615) b.is
-        ∙ (let least : min b.bound 18446744073709551615 ≡ b.bound = omega (arith, within, delay) in least) in
-        let exact_bound : bound_at (exactly t) t row l ≡ Some b.bound =
-        ap (λ (n : ℕ). bound_of (scattered n (load_of t.latency row.speed row.id t.links)) l.priority) (sym no_scatter) ∙ b.is in
-        let tolerance = ours.tolerance in
-        let most : b.bound ≡ b.bound + r.tolerance = omega (arith, tolerance) in
-        subst AreFar (sym (has.limits ∙ ap (λ (n : ℕ). limits_of (watch_of t r from) n row.speed) bound_is))
-        (subst (λ (n : ℕ). AllDiffer n (own_within w t l read)) most
-        (differ_filter b.bound (λ x. has_frame w x.stamp) (own_records t l read) (apart row contains l (item_contained t.links place l there) leads b.bound exact_bound)))
-
+  -- what is true of the limits of each output of a link at first is true of them once all came and left
+  module _ (place : ℕ) (l : Link) (there : slice_get t.links place ≡ Some l) where
     abbrev outputs : List Output
     outputs = outputs_first (watch_of t r from) t r.outputs keeping l.priority l.to
 
-    all_far : AllByRecursion (λ o. AreFar o.limits) outputs
-    all_far = all_from_each (λ o. AreFar o.limits) outputs (λ k o at.
-        far o (all_at (λ (x : Output). HasLimits (watch_of t r from) t l.priority x.port x.limits) outputs k o at (all_have (watch_of t r from) t r.outputs keeping l.priority l.to))
-        (all_at (λ (x : Output). names_port x.port l.to ≡ true) outputs k o at (all_lead (watch_of t r from) t r.outputs keeping l.priority l.to l.to (names_all l.to))))
-
-    far_there : (f : Watched) → slice_get all.links place ≡ Some f → AllByRecursion (λ o. AreFar o.limits) f.outputs
-    far_there f get =
+    limits_there : (P : Limits → Type 0) → ((o : Output) → HasLimits (watch_of t r from) t l.priority o.port o.limits → names_port o.port l.to ≡ true → P o.limits)
+        → (f : Watched) → slice_get all.links place ≡ Some f → AllByRecursion (λ o. P o.limits) f.outputs
+    limits_there P each f get =
         let xs = told place (sources_of t r).captures arrivals c in
         let was = mapped_option (with_notices xs) (slice_get first.links place) f (sym (links_are_told place (sources_of t r).captures arrivals c) ∙ get) in
         let one = first_each (watch_of t r from) t r.outputs keeping t.links first.links begun.links place l was.0 there was.1 in
-        all_limits AreFar outputs f.outputs
-        (sym (ap (λ (x : Watched). limits_in x.outputs) (sym was.2) ∙ notices_limits xs was.0 ∙ ap (λ (x : Watched). limits_in x.outputs) one.first)) all_far
+        all_limits P outputs f.outputs
+        (sym (ap (λ (x : Watched). limits_in x.outputs) (sym was.2) ∙ notices_limits xs was.0 ∙ ap (λ (x : Watched). limits_in x.outputs) one.first))
+        (all_from_each (λ o. P o.limits) outputs (λ k o at.
+        each o (all_at (λ (x : Output). HasLimits (watch_of t r from) t l.priority x.port x.limits) outputs k o at (all_have (watch_of t r from) t r.outputs keeping l.priority l.to))
+        (all_at (λ (x : Output). names_port x.port l.to ≡ true) outputs k o at (all_lead (watch_of t r from) t r.outputs keeping l.priority l.to l.to (names_all l.to)))))
+
+    -- by the stamps no frame has left when it comes
+    abbrev IsSoon : Limits → Type 0
+    IsSoon m = m.tolerance < m.least + cost_of m.speed least_size
+
+    soon : (o : Output) → HasLimits (watch_of t r from) t l.priority o.port o.limits → names_port o.port l.to ≡ true → IsSoon o.limits
+    soon o has names = subst IsSoon (sym has.limits) (ours.later has.row (row_there o.port has.row has.is_row))
+
+    -- at an output the frames of a link came so far apart as its limits have it
+    abbrev AreFar : Limits → Type 0
+    AreFar m = AllDiffer (most_of m) (own_within w t l read)
+
+    far : AreApart (watch_of t r from) t read → (o : Output) → HasLimits (watch_of t r from) t l.priority o.port o.limits → names_port o.port l.to ≡ true → AreFar o.limits
+    far apart o has names =
+        let row = has.row in
+        let contains = row_there o.port row has.is_row in
+        let leads : leads_to row.id l ≡ true = ap (λ (n : ℕ). names_port n l.to) (row_number t o.port row has.is_row) ∙ names in
+        let b = bounded needed.part t (t.latency - r.least) formed accepted row contains place l there leads in
+        let delay = delay_within t row formed contains in
+        let most = b.within in
+        let bound_is : bound_in (t.latency - r.least) t row l.priority ≡ b.bound =
+        ap (λ (x : Option ℕ). min (option_map_or (λ y. y) x 0) 18446744073709551615) b.is
+        ∙ (let least : min b.bound 18446744073709551615 ≡ b.bound = omega (arith, most, delay) in least) in
+        subst AreFar (sym (has.limits ∙ ap (λ (n : ℕ). limits_of (watch_of t r from) n row.speed) bound_is))
+        (differ_filter (b.bound + r.tolerance) (λ x. has_frame w x.stamp) (own_records t l read) (apart row contains l (item_contained t.links place l there) leads b.bound b.is))
 
   clear : AreClear w t captures all
   clear place l f there get =
-      let of = still.sound.each place l f (ap (λ (x : Content). slice_get x.links place) (still.table ∙ begun.table) ∙ there) get in
       let own = own_within w t l (came_in t.ports captures) in
       record {
-        later = all_map (λ o. IsLimited all.watch all.table o.port o.limits) (λ o. AllByRecursion (LeavesLater o.limits) own)
-            (λ o limited. later_than o.limits (limited.tolerance ∙ exact_all) own) f.outputs of.outputs;
+        later = limits_there place l there (λ m. AllByRecursion (LeavesLater m) own)
+            (λ o has names. later_than o.limits (soon place l there o has names) own (own_long needed.clean w t l (came_in t.ports captures))) f get;
         apart = elim ends [
-          | inl whole_ones ↦ inr (record { rest = ap (λ (b : Bool). start_of b from) whole_ones.rest; exact = ours.tolerance })
+          | inl whole_ones ↦ inr (record { rest = ap (λ (b : Bool). start_of b from) whole_ones.rest; exact = whole_ones.exact })
           | inr span ↦ inl (subst (λ (cs : List Capture). AllByRecursion (λ o. AllDiffer (most_of o.limits) (own_within w t l cs)) f.outputs)
-              (sym (came_is t.ports texts read left run.ports run.are_read)) (far_there span.apart place l there f get))
+              (sym (came_is t.ports texts read left run.ports run.are_read)) (limits_there place l there (AreFar place l there) (far place l there span.apart) f get))
         ];
       }
 
   pub conforms_all : conform (with_end all) ≡ true
   conforms_all =
-      let least = ours.least in
-      let scatter : 0 ≡ t.latency - r.least = omega (arith, least) in
-      needed.conforms t r from until keeping captures arrivals first formed (subst (λ (n : ℕ). IsAcceptedWith n t) scatter ((needed.scattered.1 t).1 accepted)) bound begun merge
+      needed.conforms t r from until keeping captures arrivals first formed accepted bound begun merge
       (needed.foreign t r from until keeping captures arrivals first formed begun merge named kept_there_all) clear kept_there_all
 
 pub our_runs_conform : Needed → OurRunsConform
-our_runs_conform needed t texts results r from until keeping arrivals first formed accepted run ours bound ends begun merge =
-    conforms_all needed t texts results r from until keeping arrivals first formed accepted run ours bound ends begun merge
+our_runs_conform needed t texts results r from until keeping arrivals first formed accepted run ours ends begun merge =
+    conforms_all needed t texts results r from until keeping arrivals first formed accepted run ours ends begun merge

@@ -75,6 +75,6 @@ leave_in_order law t came p there =
 -- ---- so each span is kept
 
 pub our_answers_are_kept : OutcomesIsolate → EndsDoNotFall → OurSpansAreKept → OurAnswersAreKept
-our_answers_are_kept isolate ends spans t texts results start until formed accepted run in_time differ =
-    spans t run.read (output_of t (merged run.read)) start until formed accepted in_time (come_in_order t texts run.read formed run.ports run.are_read)
+our_answers_are_kept isolate ends spans t texts results least tolerance start until formed accepted run sooner span differ =
+    spans t run.read (output_of t (merged run.read)) least tolerance start until formed accepted sooner span (come_in_order t texts run.read formed run.ports run.are_read)
     (leave_in_order ends t (merged run.read)) differ (λ p there. isolate t texts results formed accepted run p there)

@@ -1,5 +1,5 @@
 -- What recordings keep to, each span of them keeps to.
-use Rattle.std.proofs.Common.{◌≡◌, ℕ, ◌+◌, ◌<◌, ◌≤◌, min, Bool, true, false, List, [], map, Option, Some, None, refl, sym, ap, subst, ◌∙◌, arith, inl}
+use Rattle.std.proofs.Common.{◌≡◌, ℕ, ◌+◌, ◌-◌, ◌<◌, ◌≤◌, min, Bool, true, false, List, [], map, Option, Some, None, refl, sym, ap, subst, ◌∙◌, arith, inl}
 use Rattle.std.specs.Prelude.{◌==◌, filter, All, Contains}
 use Rattle.std.specs.List.{AllByRecursion}
 use Rattle.std.proofs.ByRecursion.{all_kept_by}
@@ -31,6 +31,7 @@ use Rattle.afdx_core.specs.Merge.{Capture}
 use Rattle.afdx_session.specs.Headline.{own_records, records_for}
 use Rattle.afdx_compare.specs.Within.{levels_since, levels_of, own_within, recorded, last_at, exactly, IsKeptAt, IsKeptWithin}
 use Rattle.afdx_compare.specs.Inner.Laws.{ComeInOrder, ExactlyIsIsolated}
+use Rattle.afdx_compare_laws.specs.Less.{off_by, LessLatencyIsKeptToo, MoreToleranceIsKeptToo}
 use Rattle.afdx_compare_laws.specs.Spans.{cut, BeginsWithin, EndsWithin, BeginsInTime, IsSpanOf, DifferWithinBounds, LeaveInOrder, EachSpanIsKept, OurSpansAreKept}
 use Rattle.afdx_compare_laws.proofs.Narrowing.{is_within, fates_within, chosen_within, all_map, all_chosen, order_chosen, filter_narrows, filter_swaps, after_begun, before_begun}
 use Rattle.afdx_compare.proofs.OwnRuns.{order_filter}
@@ -68,7 +69,7 @@ comes_later (Some until) (Some now) s m within f may = let no_later = within.1 i
 
 -- ---- what is allowed
 
-contained : (xs : List Record) → AllByRecursion (Contains xs) xs
+pub contained : {X : Type 0} (xs : List X) → AllByRecursion (Contains xs) xs
 contained xs = recursion_from_All (Contains xs) xs (All-contains_itself xs)
 
 module _ (t : Terms) (tolerance : ℕ) (u : Option ℕ) (own : List Record) (fates : List Bool) (order : InOrder 0 (map frame_of own)) (fit : AllFit t (map frame_of own)) where
@@ -188,13 +189,10 @@ pub each_span_is_kept : CleanFramesHaveALink → LinksAreFound → EachSpanIsKep
 each_span_is_kept clean found w t ports read out start until formed paid ordered left_ordered span differ kept =
     span_is_kept clean found w t ports read out start until formed paid ordered left_ordered span differ kept
 
--- ---- where all is exact
+-- ---- what is isolated
 
-ends_any : (until : Option ℕ) → EndsWithin 0 None until
-ends_any None = tt
-ends_any (Some now) = omega arith
-
-pub our_spans_are_kept : ExactlyIsIsolated → EachSpanIsKept → OurSpansAreKept
-our_spans_are_kept exact each t read out start until formed accepted in_time ordered left_ordered differ isolated =
-    let span : IsSpanOf (exactly t) start until = record { begins = tt; in_time = in_time; ends = ends_any until } in
-    each (exactly t) t t.ports read out start until formed (omega arith) ordered left_ordered span differ ((exact t read out formed accepted ordered).1 isolated)
+pub our_spans_are_kept : ExactlyIsIsolated → EachSpanIsKept → LessLatencyIsKeptToo → MoreToleranceIsKeptToo → OurSpansAreKept
+our_spans_are_kept exact each less more t read out least tolerance start until formed accepted sooner span ordered left_ordered differ isolated =
+    less (cut start until (off_by tolerance (exactly t))) least (t.latency - least) t t.ports read out sooner (omega arith)
+    (each (off_by tolerance (exactly t)) t t.ports read out start until formed (omega arith) ordered left_ordered span differ
+    (more (exactly t) tolerance t t.ports read out formed ordered (record { rest = refl; exact = refl }) refl ((exact t read out formed accepted ordered).1 isolated)))

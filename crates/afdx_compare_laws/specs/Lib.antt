@@ -4,6 +4,7 @@ pub mod Conforming
 pub mod EachRow
 pub mod Fates
 pub mod Fine
+pub mod Less
 pub mod Runs
 pub mod Spans
 pub mod Surplus

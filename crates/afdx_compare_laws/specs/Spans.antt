@@ -1,5 +1,5 @@
 -- Spans of recordings: what is left of them where they are cut (profile).
-use Rattle.std.specs.Prelude.{◌≡◌, ℕ, ◌+◌, ◌<◌, ◌≤◌, true, List, map, Option, Some, None, Contains}
+use Rattle.std.specs.Prelude.{◌≡◌, ℕ, ◌+◌, ◌-◌, ◌<◌, ◌≤◌, true, List, map, Option, Some, None, Contains}
 use Rattle.afdx_units.specs.Time.{last_instant}
 use Rattle.afdx_pcap.specs.Record.{Record}
 use Rattle.afdx_account.specs.Level.{InOrder}
@@ -16,6 +16,7 @@ use Rattle.afdx_core.specs.Merge.{Capture}
 use Rattle.afdx_session.specs.Headline.{IsIsolatedAt}
 use Rattle.afdx_compare.specs.Within.{own_within, bound_at, exactly, IsKeptWithin}
 use Rattle.afdx_compare.specs.Inner.Laws.{ComeInOrder}
+use Rattle.afdx_compare_laws.specs.Less.{varying, off_by}
 
 -- ---- spans
 
@@ -70,8 +71,10 @@ EachSpanIsKept = (w : Watch) (t : Content) (ports : List PortRow) (read : List C
     → IsWellFormed t → w.gap ≤ 20 → ComeInOrder t read → LeaveInOrder ports out → IsSpanOf w start until → DifferWithinBounds w t ports read
     → IsKeptWithin w t ports read out → IsKeptWithin (cut start until w) t ports read out
 
--- so whatever is isolated as what a run of an accepted table answers, of it each span keeps to what is proved of ours
+-- so whatever is isolated as what a run of an accepted table answers, of it each span keeps to what is proved of ours: for each least latency up to
+-- the table's, and whatever its stamps are off by
 abbrev pub OurSpansAreKept : Type 0
-OurSpansAreKept = (t : Content) (read : List Capture) (out : PortRow → List Record) (start : Start) (until : Option ℕ) → IsWellFormed t → IsAccepted t
-    → BeginsInTime 0 start → ComeInOrder t read → LeaveInOrder t.ports out → DifferWithinBounds (exactly t) t t.ports read → ((p : PortRow) → Contains t.ports p → IsIsolatedAt t read p (out p))
-    → IsKeptWithin (cut start until (exactly t)) t t.ports read out
+OurSpansAreKept = (t : Content) (read : List Capture) (out : PortRow → List Record) (least tolerance : ℕ) (start : Start) (until : Option ℕ)
+    → let w = off_by tolerance (exactly t) in
+    IsWellFormed t → IsAccepted t → least ≤ t.latency → IsSpanOf w start until → ComeInOrder t read → LeaveInOrder t.ports out → DifferWithinBounds w t t.ports read
+    → ((p : PortRow) → Contains t.ports p → IsIsolatedAt t read p (out p)) → IsKeptWithin (cut start until (varying least (t.latency - least) w)) t t.ports read out

@@ -6,16 +6,20 @@ ghost use Rattle.afdx_compare_laws.specs.Conforming.{KeptLinkConforms};
 ghost use Rattle.afdx_compare_laws.specs.EachRow.{EachRowIsAlone};
 ghost use Rattle.afdx_compare_laws.specs.Fates.{ToldFatesExplain};
 ghost use Rattle.afdx_compare_laws.specs.Fine.{KeptIsFine};
+ghost use Rattle.afdx_compare_laws.specs.Less.{LessLatencyIsKeptToo, MoreToleranceIsKeptToo};
 ghost use Rattle.afdx_compare_laws.specs.Runs.{OurAnswersAreKept, OurRunsConform};
 ghost use Rattle.afdx_compare_laws.specs.Spans.{EachSpanIsKept, OurSpansAreKept};
 ghost use Rattle.afdx_compare_laws.specs.Surplus.{NoSurplusHides};
 
 use afdx_compare::laws::exactly_is_isolated;
+use afdx_core::laws::{by_stamp_is_ordered, verdicts_name_links};
 use afdx_filter::laws::clean_frames_have_a_link;
-use afdx_grouping::laws::nothing_is_scattered;
-use afdx_levels::laws::{at_rest_is_the_account, surplus_is_jitter, told_is_allowed};
+use afdx_grouping::laws::{less_scatter_is_accepted, nothing_is_scattered};
+use afdx_levels::laws::{
+    at_rest_is_the_account, noise_is_allowed, surplus_is_jitter, told_is_allowed,
+};
 use afdx_load::laws::high_links_leave_a_part;
-use afdx_port::laws::ends_do_not_fall;
+use afdx_port::laws::{ends_do_not_fall, ends_within_a_second};
 use afdx_session::laws::outcomes_isolate;
 use afdx_table::laws::{links_are_at_their_places, links_are_found, ports_are_found};
 
@@ -38,17 +42,35 @@ pub fn each_span_is_kept()
     links_are_found();
 }
 
-/// What a run of an accepted table answers, of it each span keeps to what is proved of ours, where a link's frames within a bound of each
-/// other differ.
+/// What recordings keep to for a latency they keep to for a less one, and where latencies differ by more, wherever they begin and end.
+pub fn less_latency_is_kept_too()
+    ensures { LessLatencyIsKeptToo }
+{}
+
+/// What whole recordings keep to where all is exact they keep to whatever their stamps are off by.
+pub fn more_tolerance_is_kept_too()
+    ensures { MoreToleranceIsKeptToo }
+{
+    at_rest_is_the_account();
+    noise_is_allowed();
+    clean_frames_have_a_link();
+    links_are_found();
+}
+
+/// Of what is isolated as what a run of an accepted table answers, each span keeps to what is proved of ours, for each least latency up to the
+/// table's and whatever its stamps are off by, where a link's frames within a bound of each other differ.
 pub fn our_spans_are_kept()
     ensures { OurSpansAreKept }
 {
     exactly_is_isolated();
     each_span_is_kept();
+    less_latency_is_kept_too();
+    more_tolerance_is_kept_too();
 }
 
-/// What a run of an accepted table answers, of it each span keeps to what is proved of ours, where a link's frames within a bound of each
-/// other differ: what came and what leaves is in the order of its stamps.
+/// What a run of an accepted table answers, of it each span keeps to what is proved of ours, for each least latency up to the table's and
+/// whatever its stamps are off by, where a link's frames within a bound of each other differ: what came and what leaves is in the order of its
+/// stamps.
 pub fn our_answers_are_kept()
     ensures { OurAnswersAreKept }
 {
@@ -122,16 +144,21 @@ pub fn kept_is_conforms()
     kept_link_conforms();
 }
 
-/// What a run of an accepted table answers is said to conform, and so is each span of it, where a link's frames within a bound of each other
-/// differ.
+/// What a run answers is said to conform for each least latency up to the table's for which the table is accepted, and so is each span of it,
+/// where a link's frames within a bound of each other differ.
 pub fn our_runs_conform()
     ensures { OurRunsConform }
 {
     clean_frames_have_a_link();
+    verdicts_name_links();
+    by_stamp_is_ordered();
+    ends_within_a_second();
     nothing_is_scattered();
+    less_scatter_is_accepted();
     high_links_leave_a_part();
     exactly_is_isolated();
     outcomes_isolate();
+    less_latency_is_kept_too();
     our_answers_are_kept();
     kept_is_not_foreign();
     kept_is_conforms();
