@@ -2,7 +2,8 @@
 """Fails if the memory of `afdx run`, `measure`, `survey`, `compare` or `network run` grows with the frames of its captures.
 
 One link sends a frame each millisecond, so at most one frame is in flight, and whatever is kept of the frames before it shows. `compare`
-reads them beside what the run made of them, so all its bounds close soon after each frame.
+reads them beside what the run made of them, and then beside outputs at which nothing was recorded: all its bounds close soon after each
+frame, whether it left or is missing.
 The peak is the greater of the program's and this script's own, about 15 MB, and each count of frames is so large that 4 bytes kept
 for each of them would pass the limit. Then links send bursts of large frames to 23 ports, ten seconds apart: what waits at the ports
 leaves in the silence after each. Last `network run` has the link cross two switches. Needs 1.2 GB under /tmp.
@@ -17,8 +18,14 @@ from measure import AFDX, measured, write_capture
 from captures import HEADER, SECOND, frame, record
 
 MILLISECOND = 1_000_000
-# the words behind the table and the captures, in an order in which what `run` writes is there for `compare`
-COMMANDS: dict[str, list[str]] = {"run": ["{}/out"], "measure": [], "survey": [], "compare": ["{}/out", "--stamps", "free"]}
+# by what their lines are called, the words and the status of commands, in an order in which what `run` writes is there for `compare`
+COMMANDS: dict[str, tuple[list[str], int]] = {
+    "run": (["run", "{0}/table.toml", "{0}/in", "{0}/out"], 0),
+    "measure": (["measure", "{0}/table.toml", "{0}/in"], 0),
+    "survey": (["survey", "{0}/table.toml", "{0}/in"], 0),
+    "compare": (["compare", "{0}/table.toml", "{0}/in", "{0}/out", "--stamps", "free"], 0),
+    "compare where all is missing": (["compare", "{0}/table.toml", "{0}/in", "{0}/silent"], 1),
+}
 COUNTS = {64: (2_000_000, 4_000_000), 1518: (100_000, 200_000)}  # frames, by their size: 152 and 304 MB
 MOST = 20.0  # megabytes at the peak
 GROWTH = 1.0  # megabytes between a count and its double
@@ -97,9 +104,9 @@ def peaks_of(afdx: str, room: str, count: int, size: int) -> dict[str, float]:
     """Returns the megabytes that each command takes at its peak for so many frames."""
     write_capture(f"{room}/in/port-1.pcap", count, size, MILLISECOND)
     peaks: dict[str, float] = {}
-    for command, words in COMMANDS.items():
-        arguments = [afdx, command, f"{room}/table.toml", f"{room}/in", *(word.format(room) for word in words)]
-        _, _, peaks[command] = measured(arguments, f"{room}/table.toml", f"{room}/report")
+    for command, (words, status) in COMMANDS.items():
+        arguments = [afdx, *(word.format(room) for word in words)]
+        _, _, peaks[command] = measured(arguments, f"{room}/table.toml", f"{room}/report", status)
     return peaks
 
 
@@ -138,12 +145,13 @@ def main() -> None:
     parser.add_argument("afdx", nargs="?", default=AFDX, help="the program; the one that ./test builds if none is named")
     afdx = os.path.abspath(parser.parse_args().afdx)
     with tempfile.TemporaryDirectory() as room:
-        for side in ("in", "out"):
+        for side in ("in", "out", "silent"):
             os.mkdir(f"{room}/{side}")
         with open(f"{room}/table.toml", "w", encoding="utf-8") as file:
             file.write(TABLE)
-        with open(f"{room}/in/port-2.pcap", "wb") as file:
-            file.write(HEADER)
+        for silent in ("in/port-2.pcap", "silent/port-1.pcap", "silent/port-2.pcap"):
+            with open(f"{room}/{silent}", "wb") as file:
+                file.write(HEADER)
         for size, counts in COUNTS.items():
             found = [peaks_of(afdx, room, count, size) for count in counts]
             for command in COMMANDS:
@@ -151,7 +159,7 @@ def main() -> None:
                 said = ", ".join(f"{count} take {peak:.1f} MB" for count, peak in zip(counts, peaks))
                 print(f"{command}, frames of {size} bytes: {said}")
                 if max(peaks) > MOST or peaks[1] - peaks[0] > GROWTH:
-                    sys.exit(f"memory of {command} grows with the frames")
+                    sys.exit(f"the memory of {command} grows with the frames")
         peaks = [peak_of_bursts(afdx, room, bursts) for bursts in BURSTS]
         print("bursts to 23 ports: " + ", ".join(f"{count} take {peak:.1f} MB" for count, peak in zip(BURSTS, peaks)))
         if max(peaks) > MOST_OF_BURSTS or peaks[1] - peaks[0] > GROWTH:
