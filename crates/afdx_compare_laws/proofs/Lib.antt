@@ -6,6 +6,7 @@ pub mod Cutting
 pub mod EachRow
 pub mod Ending
 pub mod Fates
+pub mod Files
 pub mod Fine
 pub mod Fitting
 pub mod Foreign

@@ -3,6 +3,7 @@ pub mod Comparing
 pub mod Conforming
 pub mod EachRow
 pub mod Fates
+pub mod Files
 pub mod Fine
 pub mod Less
 pub mod Runs

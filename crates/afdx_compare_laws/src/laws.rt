@@ -5,6 +5,7 @@ ghost use Rattle.afdx_compare_laws.specs.Comparing.{KeptIsConforms, KeptIsNotFor
 ghost use Rattle.afdx_compare_laws.specs.Conforming.{KeptLinkConforms};
 ghost use Rattle.afdx_compare_laws.specs.EachRow.{EachRowIsAlone};
 ghost use Rattle.afdx_compare_laws.specs.Fates.{ToldFatesExplain};
+ghost use Rattle.afdx_compare_laws.specs.Files.{OurFilesConform};
 ghost use Rattle.afdx_compare_laws.specs.Fine.{KeptIsFine};
 ghost use Rattle.afdx_compare_laws.specs.Less.{LessLatencyIsKeptToo, MoreToleranceIsKeptToo};
 ghost use Rattle.afdx_compare_laws.specs.Runs.{OurAnswersAreKept, OurRunsConform};
@@ -19,8 +20,9 @@ use afdx_levels::laws::{
     at_rest_is_the_account, noise_is_allowed, surplus_is_jitter, told_is_allowed,
 };
 use afdx_load::laws::high_links_leave_a_part;
+use afdx_pcap::laws::{each_file_has_one_reading, what_is_written_is_a_capture};
 use afdx_port::laws::{ends_do_not_fall, ends_within_a_second};
-use afdx_session::laws::outcomes_isolate;
+use afdx_session::laws::{outcomes_isolate, outputs_are_readable};
 use afdx_table::laws::{links_are_at_their_places, links_are_found, ports_are_found};
 
 /// Of what recordings keep to, a link's frames that passed are passed by its policing with a jitter that is twice the tolerance more: no
@@ -162,4 +164,15 @@ pub fn our_runs_conform()
     our_answers_are_kept();
     kept_is_not_foreign();
     kept_is_conforms();
+}
+
+/// What is read of the files of a run, of those that it read and of those that it put, is said to conform, as `our_runs_conform` has it of
+/// their records: each file is the capture of one list of records.
+pub fn our_files_conform()
+    ensures { OurFilesConform }
+{
+    what_is_written_is_a_capture();
+    each_file_has_one_reading();
+    outputs_are_readable();
+    our_runs_conform();
 }
