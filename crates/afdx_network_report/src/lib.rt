@@ -21,11 +21,13 @@
 mod accepted;
 mod ends;
 mod jitters;
+mod link_ends;
 mod reports;
 mod rows;
 
 pub use accepted::accepted_text;
 pub use ends::name_of;
 pub use jitters::jitter_text;
+pub use link_ends::{LinkEnd, put_link_end};
 pub use reports::push_report;
 pub use rows::{needs_rows, ways_rows};

@@ -8,6 +8,7 @@ use Rattle.afdx_pcap.specs.Record.{Record}
 use Rattle.afdx_pcap.specs.Fault.{last_stamp}
 use Rattle.afdx_table.specs.declared.rows.PortRow.{PortRow}
 use Rattle.afdx_table.specs.Content.{Content}
+use Rattle.afdx_core.specs.State.{State, fresh_state}
 use Rattle.afdx_paced.specs.declared.paced.PacedFault.TheVariants.{NoSuchPort, Early}
 use Rattle.afdx_paced.specs.Paced.{Lane, Paced, fresh_lane, fresh_paced, early_at, refusal_by, put_refusal, after_put, after_going, after_leaving}
 use Rattle.afdx_paced.specs.Inner.Parts.{Parts, lane_of, lanes_of, joined, departed}
@@ -25,10 +26,10 @@ fresh_lanes : (ports : List PortRow) → lanes_of (fresh_all ports) ≡ map fres
 fresh_lanes [] = refl
 fresh_lanes (p ∷ ports) = ap (λ (ls : List Lane). fresh_lane p ∷ ls) (fresh_lanes ports)
 
-pub fresh_seen : {Z : Type 0} (f : Feeder Z) (t : Content) → f.switch.run.table ≡ t → f.lanes.items ≡ fresh_all t.ports → paced_of f 0 false ≡ fresh_paced t
-fresh_seen f t table lanes =
-    let made : Content → List Lane → Paced = λ c ls. record { table = c; lanes = ls; reached = 0; failed = false } in
-    ap (λ (c : Content). made c (lanes_of f.lanes.items)) table ∙ ap (made t) (ap lanes_of lanes ∙ fresh_lanes t.ports)
+pub fresh_seen : {Z : Type 0} (f : Feeder Z) (t : Content) (keeps : Bool) → f.switch ≡ fresh_state false keeps t → f.lanes.items ≡ fresh_all t.ports → paced_of f 0 false ≡ fresh_paced keeps t
+fresh_seen f t keeps switch lanes =
+    let made : State → List Lane → Paced = λ s ls. record { table = s.run.table; lanes = ls; reached = 0; failed = false; keeps = s.keeps } in
+    ap (λ (s : State). made s (lanes_of f.lanes.items)) switch ∙ ap (made (fresh_state false keeps t)) (ap lanes_of lanes ∙ fresh_lanes t.ports)
 
 -- ---- the place of a port
 
@@ -78,18 +79,20 @@ in_time h stamp last is = both (nat_lt stamp h) refl is where
 pub put_seen : {Z : Type 0} (old new : Feeder Z) (h : ℕ) (v : Paced) (port place : ℕ) (frame : Record) (is : IsPlaceOf old.switch.run.table.ports old.lanes.items port place) → paced_of old h false ≡ v
     → new.switch ≡ old.switch → new.lanes.items ≡ set old.lanes.items place (joined frame is.lane) → paced_of new h false ≡ after_put port frame v
 put_seen old new h v port place frame is view switch lanes =
-    let made : Content → List Lane → Paced = λ c ls. record { table = c; lanes = ls; reached = h; failed = false } in
-    ap (λ s. made s.run.table (lanes_of new.lanes.items)) switch
-    ∙ ap (made old.switch.run.table) (ap lanes_of lanes ∙ lanes_more old.switch.run.table.ports old.lanes.items port place frame is)
+    let made : State → List Lane → Paced = λ s ls. record { table = s.run.table; lanes = ls; reached = h; failed = false; keeps = s.keeps } in
+    ap (λ (s : State). made s (lanes_of new.lanes.items)) switch
+    ∙ ap (made old.switch) (ap lanes_of lanes ∙ lanes_more old.switch.run.table.ports old.lanes.items port place frame is)
     ∙ ap (after_put port frame) view
 
 pub leave_seen : {Z : Type 0} (old new : Feeder Z) (h : ℕ) (v : Paced) (port place : ℕ) (frame : Record) (is : IsPlaceOf old.switch.run.table.ports old.lanes.items port place)
     → paced_of old h false ≡ v
-    → new.switch.run.table ≡ old.switch.run.table → new.lanes.items ≡ set old.lanes.items place (departed frame is.lane) → paced_of new h false ≡ after_leaving port frame v
-leave_seen old new h v port place frame is view table lanes =
-    let made : Content → List Lane → Paced = λ c ls. record { table = c; lanes = ls; reached = h; failed = false } in
-    ap (λ (c : Content). made c (lanes_of new.lanes.items)) table
-    ∙ ap (made old.switch.run.table) (ap lanes_of lanes ∙ lanes_left old.switch.run.table.ports old.lanes.items port place frame is)
+    → new.switch.run.table ≡ old.switch.run.table → new.switch.keeps ≡ old.switch.keeps → new.lanes.items ≡ set old.lanes.items place (departed frame is.lane)
+    → paced_of new h false ≡ after_leaving port frame v
+leave_seen old new h v port place frame is view table keeps lanes =
+    let made : Content → Bool → List Lane → Paced = λ c b ls. record { table = c; lanes = ls; reached = h; failed = false; keeps = b } in
+    ap (λ (c : Content). made c new.switch.keeps (lanes_of new.lanes.items)) table
+    ∙ ap (λ b. made old.switch.run.table b (lanes_of new.lanes.items)) keeps
+    ∙ ap (made old.switch.run.table old.switch.keeps) (ap lanes_of lanes ∙ lanes_left old.switch.run.table.ports old.lanes.items port place frame is)
     ∙ ap (after_leaving port frame) view
 
 -- the calls are not over what has failed
@@ -100,10 +103,11 @@ pub gone_seen : {Z : Type 0} (old new : Feeder Z) (since : ℕ) (failed : Bool) 
     → ComesTo old new
     → paced_of new h false ≡ after_going h v
 gone_seen old new since failed h v view going same comes =
-    let made : Content → List Lane → Bool → Paced = λ c ls b. record { table = c; lanes = ls; reached = h; failed = b } in
-    ap (λ (c : Content). made c (lanes_of new.lanes.items) false) same.table
-    ∙ ap (λ (ls : List Lane). made old.switch.run.table ls false) comes.lanes
-    ∙ ap (made old.switch.run.table (lanes_of old.lanes.items)) (sym (going_is old since failed v view going))
+    let made : Content → Bool → List Lane → Bool → Paced = λ c k ls b. record { table = c; lanes = ls; reached = h; failed = b; keeps = k } in
+    ap (λ (c : Content). made c new.switch.keeps (lanes_of new.lanes.items) false) same.table
+    ∙ ap (λ k. made old.switch.run.table k (lanes_of new.lanes.items) false) same.keeps
+    ∙ ap (λ (ls : List Lane). made old.switch.run.table old.switch.keeps ls false) comes.lanes
+    ∙ ap (made old.switch.run.table old.switch.keeps (lanes_of old.lanes.items)) (sym (going_is old since failed v view going))
     ∙ ap (after_going h) view
 
 -- ---- where memory ran out

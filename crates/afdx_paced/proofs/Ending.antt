@@ -5,13 +5,14 @@ use Rattle.std.proofs.lemmas.List.{append-nil}
 use Rattle.afdx_units.specs.Time.{last_second}
 use Rattle.afdx_pcap.specs.Record.{Record}
 use Rattle.afdx_table.specs.Content.{Content}
+use Rattle.afdx_core.specs.Isolation.{IsRun}
 use Rattle.afdx_core.specs.State.{Run, after_finish}
 use Rattle.afdx_core.specs.Merge.{Arrival, arrivals_of, by_stamp, merged}
 use Rattle.afdx_count.specs.Tally.{Tally, ended_tally}
 use Rattle.afdx_count.specs.Run.{counts_so_far, counts_of}
 use Rattle.afdx_count.specs.Inner.Laws.{EndCountsTheRun}
 use Rattle.afdx_session.specs.Output.{rows_of}
-use Rattle.afdx_paced.specs.Paced.{Lane, Paced, captures_of, arrivals}
+use Rattle.afdx_paced.specs.Paced.{Lane, Paced, captures_of, arrivals, HasTakenAll}
 use Rattle.afdx_paced.specs.Laws.{MergesAreCut}
 use Rattle.afdx_paced.specs.Inner.Parts.{Parts, lanes_of, waiting_of}
 use Rattle.afdx_paced.specs.Inner.Kept.{paced_of, IsOfTable, IsSameTable, ComesTo, IsCut, given_of, IsGoing}
@@ -49,3 +50,16 @@ counted cut law old new h v r counts view same comes of going finished are =
     ∙ ap (counts_of t) (going.is_given.rows ∙ ap (rows_of t) (all_given cut new going ∙ ap (λ (ls : List Lane). merged (captures_of ls)) comes.lanes))
     ∙ ap (λ (c : Content). counts_of c (rows_of c (merged (captures_of (lanes_of old.lanes.items))))) same.table
     ∙ ap (λ (w : Paced). counts_of w.table (rows_of w.table (arrivals w))) view
+
+-- and the finished switch has taken all that came in
+pub taken_all : {Z : Type 0} → MergesAreCut → (old new : Feeder Z) (h : ℕ) (v : Paced) (r : Run) → paced_of old h false ≡ v → IsSameTable old.switch new.switch → ComesTo old new
+    → IsGoing 4294967295999999999 new → IsRun r → r ≡ after_finish new.switch.run → HasTakenAll v r
+taken_all cut old new h v r view same comes going run finished = record {
+  table = ap (λ (x : Run). x.table) finished ∙ same.table ∙ ap (λ (w : Paced). w.table) view;
+  rows = ap (λ (x : Run). x.rows) finished ∙ going.is_given.rows
+      ∙ ap (rows_of new.switch.run.table) (all_given cut new going ∙ ap (λ (ls : List Lane). merged (captures_of ls)) comes.lanes)
+      ∙ ap (λ (c : Content). rows_of c (merged (captures_of (lanes_of old.lanes.items)))) same.table
+      ∙ ap (λ (w : Paced). rows_of w.table (arrivals w)) view;
+  is_run = run;
+  all = ap (λ (x : Run). x.finished) finished;
+}

@@ -1,5 +1,5 @@
 -- A switch at which nothing came in.
-use Rattle.std.proofs.Common.{◌≡◌, ℕ, zero, suc, ◌≤◌, false, List, [], ◌∷◌, ◌++◌, map, length, slice_get, slice_index, Some, refl, ap, sym, ◌∙◌, arith, subst}
+use Rattle.std.proofs.Common.{◌≡◌, ℕ, zero, suc, ◌≤◌, Bool, false, List, [], ◌∷◌, ◌++◌, map, length, slice_get, slice_index, Some, refl, ap, sym, ◌∙◌, arith, subst}
 use Rattle.std.specs.List.{AllByRecursion}
 use Rattle.std.proofs.lemmas.List.{length-map}
 use Rattle.std.proofs.lemmas.Option.{same_Some}
@@ -44,15 +44,16 @@ same_ports : (ports : List PortRow) → map (λ (l : Parts). l.port) (fresh_all 
 same_ports [] = refl
 same_ports (p ∷ ports) = ap (λ (ns : List ℕ). p.id ∷ ns) (same_ports ports)
 
-pub fresh_of_table : {Z : Type 0} (f : Feeder Z) (t : Content) → IsWellFormed t → f.switch ≡ fresh_state false false t → f.lanes.items ≡ fresh_all t.ports → IsOfTable f
-fresh_of_table f t formed switch lanes = record {
+pub fresh_of_table : {Z : Type 0} (f : Feeder Z) (t : Content) (keeps : Bool) → IsWellFormed t → f.switch ≡ fresh_state false keeps t → f.lanes.items ≡ fresh_all t.ports → IsOfTable f
+fresh_of_table f t keeps formed switch lanes = record {
   formed = subst (λ (s : State). IsWellFormed s.run.table) (sym switch) formed;
   ports = ap (map (λ (l : Parts). l.port)) lanes ∙ same_ports t.ports ∙ ap (λ (s : State). map (λ (p : PortRow). p.id) s.run.table.ports) (sym switch);
   handed = ap (λ (s : State). length s.run.handed) switch ∙ length-map t.ports (λ (p : PortRow). 0) ∙ ap (λ (s : State). length s.run.table.ports) (sym switch);
 }
 
-pub fresh_going : {Z : Type 0} → StartsWithNone → (f : Feeder Z) (t : Content) → f.switch ≡ fresh_state false false t → f.counts ≡ fresh t → f.lanes.items ≡ fresh_all t.ports → IsGoing 0 f
-fresh_going none f t switch counts lanes = record {
+pub fresh_going : {Z : Type 0} → StartsWithNone → (f : Feeder Z) (t : Content) (keeps : Bool) → f.switch ≡ fresh_state false keeps t → f.counts ≡ fresh t → f.lanes.items ≡ fresh_all t.ports
+    → IsGoing 0 f
+fresh_going none f t keeps switch counts lanes = record {
   cut = subst (AllByRecursion (IsCut 0)) (sym lanes) (all_cut t.ports);
   is_given = subst (λ (xs : List Arrival). IsGiven f.switch.run.table xs f.switch) (sym given) (record {
     table = refl;

@@ -17,14 +17,14 @@ use Rattle.afdx_session.specs.Streams.{sent_up_to}
 use Rattle.afdx_paced.specs.Paced.{arrivals}
 use Rattle.afdx_paced.specs.Laws.{OutGoesOn}
 
-sent_until : SentGoesOn → ReachesInOrder → (t : Content) (came : List Arrival) (h n : ℕ) (p : PortRow) → h ≤ n
+pub sent_until : SentGoesOn → ReachesInOrder → (t : Content) (came : List Arrival) (h n : ℕ) (p : PortRow) → h ≤ n
     → (rest : List Sent) × (sent_up_to t came (Some n) p ≡ sent_up_to t came (Some h) p ++ rest)
 unfolding sent_up_to
 sent_until law reaches t came h n p le =
     let s = settings_of t.latency p in
     law.until s (reach s h) (reach s n) (admitted s (feed_of t p.id (rows_of t came))) (reaches s h n le)
 
-sent_in_the_end : SentGoesOn → (t : Content) (came : List Arrival) (h : ℕ) (p : PortRow)
+pub sent_in_the_end : SentGoesOn → (t : Content) (came : List Arrival) (h : ℕ) (p : PortRow)
     → (rest : List Sent) × (sent_up_to t came None p ≡ sent_up_to t came (Some h) p ++ rest)
 unfolding sent_up_to
 sent_in_the_end law t came h p =

@@ -39,7 +39,7 @@ use Rattle.afdx_paced.proofs.Places.{IsPlaceOf}
 -- ---- what the switch sent
 
 -- what an open switch sent is what is sent up to the instant that it came to
-sent_is : (t : Content) (given : List Arrival) (h : ℕ) (s : State) (p : PortRow) → IsAt t given h s → sent_in s.run (Some p) ≡ sent_up_to t given (Some h) p
+pub sent_is : (t : Content) (given : List Arrival) (h : ℕ) (s : State) (p : PortRow) → IsAt t given h s → sent_in s.run (Some p) ≡ sent_up_to t given (Some h) p
 unfolding sent_up_to
 sent_is t given h s p at =
     ap (λ (c : Content). sent_of (done (port_after c s.run.rows s.run.latest s.run.finished p))) at.is_given.table

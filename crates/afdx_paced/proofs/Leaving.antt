@@ -41,7 +41,7 @@ goes_out {Z} law cut ordered of_items h old new v port place out k s is view of 
     lane_is = ap (λ (w : Paced). lane_at w port) (sym view) ∙ is.lane_is;
     row_is = ap (λ (w : Paced). port_row w.table port) (sym view) ∙ is.row_is;
     next = subst (λ (w : Paced). out_up_to w (Some w.reached) is.row ≡ is.lane.left ++ out ∷ both.1.rest) view both.1.next;
-    after = leave_seen old new h v port place out is view table lanes;
+    after = leave_seen old new h v port place out is view table here.keeps.lists lanes;
   };
 } where
   both : (k ≡ place) × Hands (paced_of old h false) is.row is.lane out

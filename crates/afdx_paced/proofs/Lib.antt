@@ -17,6 +17,7 @@ pub mod Fresh
 pub mod Places
 pub mod Putting
 pub mod Handing
+pub mod Sending
 pub mod Calls
 pub mod Leaving
 pub mod Ending

@@ -115,8 +115,8 @@ puts {Z} law h old new port place frame is early here le switch counts lanes goi
 
   same_out : (p : PortRow) → out_up_to (paced_of new h false) (Some h) p ≡ out_up_to v (Some h) p
   same_out p =
-      ap (λ (s : State). out_up_to (record { table = s.run.table; lanes = lanes_of new.lanes.items; reached = h; failed = false }) (Some h) p) switch
-      ∙ ap (λ (ls : List Lane). out_up_to (record { table = t; lanes = ls; reached = h; failed = false }) (Some h) p)
+      ap (λ (s : State). out_up_to (record { table = s.run.table; lanes = lanes_of new.lanes.items; reached = h; failed = false; keeps = s.keeps }) (Some h) p) switch
+      ∙ ap (λ (ls : List Lane). out_up_to (record { table = t; lanes = ls; reached = h; failed = false; keeps = old.switch.keeps }) (Some h) p)
       (ap lanes_of lanes ∙ lanes_more old.switch.run.table.ports old.lanes.items port place frame is)
       ∙ law v port frame h p here
 
@@ -161,5 +161,5 @@ going_same {Z} h old new switch counts lanes going = record {
 
   same_out : (p : PortRow) → out_up_to (paced_of new h false) (Some h) p ≡ out_up_to (paced_of old h false) (Some h) p
   same_out p =
-      ap (λ (s : State). out_up_to (record { table = s.run.table; lanes = lanes_of new.lanes.items; reached = h; failed = false }) (Some h) p) switch
-      ∙ ap (λ (ls : List Parts). out_up_to (record { table = t; lanes = lanes_of ls; reached = h; failed = false }) (Some h) p) lanes
+      ap (λ (s : State). out_up_to (record { table = s.run.table; lanes = lanes_of new.lanes.items; reached = h; failed = false; keeps = s.keeps }) (Some h) p) switch
+      ∙ ap (λ (ls : List Parts). out_up_to (record { table = t; lanes = lanes_of ls; reached = h; failed = false; keeps = old.switch.keeps }) (Some h) p) lanes

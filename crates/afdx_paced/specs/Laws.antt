@@ -9,7 +9,7 @@ use Rattle.afdx_port.specs.declared.Item.{Item}
 use Rattle.afdx_port.specs.declared.Sent.{Sent}
 use Rattle.afdx_port.specs.Service.{service, before, sent_of}
 use Rattle.afdx_core.specs.Merge.{Arrival, Rises, by_stamp}
-use Rattle.afdx_paced.specs.Paced.{Paced, out_up_to, after_put}
+use Rattle.afdx_paced.specs.Paced.{Paced, sends_up_to, out_up_to, after_put}
 
 -- the arrivals at an instant or later, and those before it
 abbrev pub from : ℕ → List Arrival → List Arrival
@@ -39,6 +39,16 @@ NothingLeavesBefore = (v : Paced) (p : PortRow) (h k : ℕ) (r : Record) → len
 abbrev pub LaterRecordsChangeNothing : Type 0
 LaterRecordsChangeNothing = (v : Paced) (port : ℕ) (frame : Record) (h : ℕ) (p : PortRow) → h ≤ frame.stamp
     → out_up_to (after_put port frame v) (Some h) p ≡ out_up_to v (Some h) p
+
+-- nor of what is sent up to it
+abbrev pub LaterRecordsSendNothing : Type 0
+LaterRecordsSendNothing = (v : Paced) (port : ℕ) (frame : Record) (h : ℕ) (p : PortRow) → h ≤ frame.stamp
+    → sends_up_to (after_put port frame v) (Some h) p ≡ sends_up_to v (Some h) p
+
+-- what is sent up to an instant comes first of what is sent up to a later one, and of all
+pub record SendsGoOn : Type 0 where
+  pub until : (v : Paced) (h n : ℕ) (p : PortRow) → h ≤ n → (rest : List Sent) × (sends_up_to v (Some n) p ≡ sends_up_to v (Some h) p ++ rest)
+  pub in_the_end : (v : Paced) (h : ℕ) (p : PortRow) → (rest : List Sent) × (sends_up_to v None p ≡ sends_up_to v (Some h) p ++ rest)
 
 -- what leaves up to an instant comes first of what leaves up to a later one, and of all
 pub record OutGoesOn : Type 0 where

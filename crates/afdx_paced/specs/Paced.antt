@@ -1,12 +1,15 @@
 -- A switch that is fed by time, as contracts see it: what came in at each port and what left there, up to the instant that it has come to
 -- (profile).
-use Rattle.std.specs.Prelude.{ℕ, ◌≡◌, ◌≤◌, ◌==◌, ◌||◌, Bool, false, nat_lt, if◌then◌else◌, List, [], ◌∷◌, ◌++◌, map, find, Option, Some, None, Contains}
+use Rattle.std.specs.Prelude.{ℕ, ◌≡◌, ◌≤◌, ◌==◌, ◌||◌, Bool, false, nat_lt, if◌then◌else◌, List, [], ◌∷◌, ◌++◌, map, find, length, slice_get, Option, Some, None, Contains, true}
 use Rattle.afdx_pcap.specs.Record.{Record}
 use Rattle.afdx_pcap.specs.Fault.{last_stamp}
 use Rattle.afdx_table.specs.declared.rows.PortRow.{PortRow}
 use Rattle.afdx_table.specs.Content.{Content, port_row}
+use Rattle.afdx_port.specs.declared.Sent.{Sent}
+use Rattle.afdx_core.specs.Isolation.{IsRun}
 use Rattle.afdx_core.specs.Merge.{Arrival, Capture, merged}
-use Rattle.afdx_session.specs.Output.{written}
+use Rattle.afdx_core.specs.State.{Run}
+use Rattle.afdx_session.specs.Output.{rows_of, written}
 use Rattle.afdx_session.specs.Streams.{sent_up_to}
 use Rattle.afdx_paced.specs.declared.paced.PacedFault.{PacedFault}
 use Rattle.afdx_paced.specs.declared.paced.PacedFault.TheVariants.{Memory, NoSuchPort, Early}
@@ -25,6 +28,8 @@ pub record Paced : Type 0 where
   pub reached : ℕ
   -- a call ran out of memory while it went on
   pub failed : Bool
+  -- the switch keeps its lists whole
+  pub keeps : Bool
 
 -- what came in, as captures, and the program's merge of it
 abbrev pub capture_of : Lane → Capture
@@ -36,15 +41,19 @@ captures_of lanes = map capture_of lanes
 abbrev pub arrivals : Paced → List Arrival
 arrivals v = merged (captures_of v.lanes)
 
--- what leaves a port of what came in, as far as it starts before what an instant reaches; all where there is none
+-- what a port sends of what came in, as far as it starts before what an instant reaches; all where there is none
+abbrev pub sends_up_to : Paced → Option ℕ → PortRow → List Sent
+sends_up_to v h p = sent_up_to v.table (arrivals v) h p
+
+-- the records that leave it so
 abbrev pub out_up_to : Paced → Option ℕ → PortRow → List Record
-out_up_to v h p = map (written (arrivals v)) (sent_up_to v.table (arrivals v) h p)
+out_up_to v h p = map (written (arrivals v)) (sends_up_to v h p)
 
 abbrev pub fresh_lane : PortRow → Lane
 fresh_lane p = record { port = p.id; came = []; left = [] }
 
-abbrev pub fresh_paced : Content → Paced
-fresh_paced t = record { table = t; lanes = map fresh_lane t.ports; reached = 0; failed = false }
+abbrev pub fresh_paced : (keeps : Bool) → Content → Paced
+fresh_paced keeps t = record { table = t; lanes = map fresh_lane t.ports; reached = 0; failed = false; keeps = keeps }
 
 -- ---- what calls do
 
@@ -64,13 +73,13 @@ abbrev pub went_out : Record → Lane → Lane
 went_out frame l = record { port = l.port; came = l.came; left = l.left ++ frame ∷ [] }
 
 abbrev pub after_put : ℕ → Record → Paced → Paced
-after_put port frame v = record { table = v.table; lanes = changed port (came_in frame) v.lanes; reached = v.reached; failed = v.failed }
+after_put port frame v = record { table = v.table; lanes = changed port (came_in frame) v.lanes; reached = v.reached; failed = v.failed; keeps = v.keeps }
 
 abbrev pub after_going : ℕ → Paced → Paced
-after_going h v = record { table = v.table; lanes = v.lanes; reached = h; failed = v.failed }
+after_going h v = record { table = v.table; lanes = v.lanes; reached = h; failed = v.failed; keeps = v.keeps }
 
 abbrev pub after_leaving : ℕ → Record → Paced → Paced
-after_leaving port frame v = record { table = v.table; lanes = changed port (went_out frame) v.lanes; reached = v.reached; failed = v.failed }
+after_leaving port frame v = record { table = v.table; lanes = changed port (went_out frame) v.lanes; reached = v.reached; failed = v.failed; keeps = v.keeps }
 
 -- the first refusal that is none of memory
 abbrev pub early_at : ℕ → ℕ → Lane → Option PacedFault
@@ -107,6 +116,11 @@ abbrev pub IsNextOut : Paced → Paced → ℕ → Option Record → Type 0
 IsNextOut old new port None = NoneGoesOut old new port
 IsNextOut old new port (Some out) = GoesOut old new port out
 
+-- what the next record of a port was sent as: of what it sends up to the instant, what comes behind as many as left so far
+abbrev pub IsNextSent : Paced → ℕ → Option Sent → Type 0
+IsNextSent v port next = (lane : Lane) (row : PortRow) → lane_at v port ≡ Some lane → port_row v.table port ≡ Some row
+    → next ≡ slice_get (sends_up_to v (Some v.reached) row) (length lane.left)
+
 -- between the instant that it has come to and this one nothing starts at any port
 abbrev pub IsQuietUntil : Paced → Option ℕ → Type 0
 IsQuietUntil v h = (p : PortRow) → Contains v.table.ports p → out_up_to v h p ≡ out_up_to v (Some v.reached) p
@@ -115,3 +129,12 @@ IsQuietUntil v h = (p : PortRow) → Contains v.table.ports p → out_up_to v h 
 abbrev pub IsNext : Paced → Option ℕ → Type 0
 IsNext v None = IsQuietUntil v None
 IsNext v (Some n) = (v.reached ≤ n) × IsQuietUntil v (Some n)
+
+-- ---- the end
+
+-- the run of a finished switch that took all that came in
+pub record HasTakenAll (v : Paced) (r : Run) : Type 0 where
+  pub table : r.table ≡ v.table
+  pub rows : r.rows ≡ rows_of v.table (arrivals v)
+  pub is_run : IsRun r
+  pub all : r.finished ≡ true

@@ -6,18 +6,20 @@ ghost use Rattle.afdx_units.specs.Time.{last_second};
 ghost use Rattle.afdx_core.specs.Step.{Step};
 ghost use Rattle.afdx_core.specs.Held.{not_of_memory, IsTaken};
 ghost use Rattle.afdx_core.specs.Rows.{row_of};
-ghost use Rattle.afdx_core.specs.State.{refusal_of};
+ghost use Rattle.afdx_core.specs.State.{fresh_state, refusal_of};
 ghost use Rattle.afdx_count.specs.Tally.{noted};
+ghost use Rattle.afdx_measure.specs.Wanted.{keeps_lists};
 ghost use Rattle.afdx_paced.specs.Inner.Parts.{heads_of, fresh_parts};
 ghost use Rattle.afdx_paced.specs.Inner.Kept.{IsOfTable, IsSameTable, IsSorted, IsPassing, PassesOn, IsGoing, ComesTo, IsFirstBefore, NoneBefore, IsFirstHead, IsNextStart};
 
 use crate::lane::Lane;
 use crate::laws::{merges_are_cut, out_goes_on};
+use afdx_core::CoreFault;
 use afdx_core::laws::by_stamp_is_ordered;
-use afdx_core::{CoreFault, Relay};
 use afdx_count::Counts;
 use afdx_count::laws::{note_counts_one_more, starts_with_none};
 use afdx_earliest::Instants;
+use afdx_measure::{Measuring, Wanted};
 use afdx_pcap::Record;
 use afdx_session::laws::settled_records_go;
 use afdx_table::{PortRow, Table};
@@ -27,7 +29,7 @@ use std::alloc::{AllocError, Allocator};
 /// A switch, its counters, and what there is of each port.
 #[derive(Drop)]
 pub(crate) struct Feeder<'a, A: Allocator> {
-    pub(crate) switch: Relay<'a, A>,
+    pub(crate) switch: Measuring<'a, A>,
     pub(crate) counts: Counts<A>,
     /// By rising port.
     pub(crate) lanes: Vec<Lane<'a, A>, A>,
@@ -100,14 +102,14 @@ pub(crate) fn place_of<A: Allocator + Copy>(lanes: &[Lane<'_, A>], port: u8) -> 
 }
 
 impl<'a, A: Allocator + Copy> Feeder<'a, A> {
-    /// A switch over a table that took nothing.
-    pub(crate) fn new(alloc: A, table: Table) -> Result<Feeder<'a, A>, AllocError>
-        ensures { IfOk result (λ f. IsOfTable f × (f.switch.run.table ≡ table) × IsGoing 0 f × (f.lanes.items ≡ map (λ p. fresh_parts p.id) table.ports)) }
+    /// A switch over a table that took nothing, which notes what is wanted of its run.
+    pub(crate) fn new(alloc: A, table: Table, wanted: Wanted) -> Result<Feeder<'a, A>, AllocError>
+        ensures { IfOk result (λ f. IsOfTable f × (f.switch ≡ fresh_state false (keeps_lists wanted) table) × IsGoing 0 f × (f.lanes.items ≡ map (λ p. fresh_parts p.id) table.ports)) }
     {
         starts_with_none();
         let lanes = lanes_of(alloc, table.ports())?;
         let counts = Counts::new(alloc, &table)?;
-        let switch = Relay::new(alloc, table, false)?;
+        let switch = Measuring::new(alloc, table, wanted)?;
         Ok(Feeder {
             switch,
             counts,

@@ -1,6 +1,6 @@
 //! Laws over the definitions: functions that do nothing, whose contracts are the laws.
 
-ghost use Rattle.afdx_paced.specs.Laws.{MergesAreCut, NothingEndsBefore, NothingLeavesBefore, LaterRecordsChangeNothing, OutGoesOn, OutIsInOrder};
+ghost use Rattle.afdx_paced.specs.Laws.{MergesAreCut, NothingEndsBefore, NothingLeavesBefore, LaterRecordsChangeNothing, LaterRecordsSendNothing, SendsGoOn, OutGoesOn, OutIsInOrder};
 
 use afdx_core::laws::verdicts_name_links;
 use afdx_filter::laws::clean_frames_have_a_link;
@@ -39,6 +39,22 @@ pub fn later_records_change_nothing()
 {
     merges_are_cut();
     later_arrivals_change_nothing();
+}
+
+/// A record that comes in at an instant or later changes nothing of what is sent up to it.
+pub fn later_records_send_nothing()
+    ensures { LaterRecordsSendNothing }
+{
+    merges_are_cut();
+    later_arrivals_change_nothing();
+}
+
+/// What is sent up to an instant comes first of what is sent up to a later one.
+pub fn sends_go_on()
+    ensures { SendsGoOn }
+{
+    sent_goes_on();
+    stamps_keep_their_order();
 }
 
 /// What leaves up to an instant comes first of what leaves up to a later one.

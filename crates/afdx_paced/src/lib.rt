@@ -11,7 +11,7 @@
 //! ```
 //! let table = read(rt.alloc(), single(rt.alloc())?.as_bytes())?;
 //! let frame = record(rt.alloc(), small(10, 0)).ok_or("a record")?;
-//! let mut switch = Paced::new(rt.alloc(), table)?;
+//! let mut switch = Paced::new(rt.alloc(), table, Wanted::Nothing)?;
 //! switch.put(1, frame)?;
 //! switch.go_to(Stamp::from_ns(6_720).ok_or("an instant")?)?;
 //! let out = switch.next_out(2)?.ok_or("a record")?;

@@ -3,16 +3,19 @@
 ghost use Rattle.std.specs.Prelude.{◌≡◌, ◌<◌, ◌≤◌, ◌||◌, nat_lt, max, false, None, IfOk, IfErr, OnOk, OnErr};
 ghost use Rattle.afdx_units.specs.Time.{last_second};
 ghost use Rattle.afdx_count.specs.Run.{counts_of};
+ghost use Rattle.afdx_measure.specs.Wanted.{keeps_lists};
 ghost use Rattle.afdx_session.specs.Output.{rows_of};
 ghost use Rattle.afdx_paced.specs.Inner.Kept.{IsNoLater};
-ghost use Rattle.afdx_paced.specs.Paced.{arrivals, fresh_paced, put_refusal, not_of_memory, after_put, after_going, IsNextOut, IsNext};
+ghost use Rattle.afdx_paced.specs.Paced.{arrivals, fresh_paced, put_refusal, not_of_memory, after_put, after_going, IsNextOut, IsNextSent, IsNext, HasTakenAll};
 
 use crate::feeder::{Feeder, place_of};
 use crate::laws::{later_records_change_nothing, merges_are_cut};
 use afdx_core::laws::by_stamp_is_ordered;
 use afdx_count::Counts;
 use afdx_count::laws::end_counts_the_run;
+use afdx_measure::{Measured, Wanted};
 use afdx_pcap::Record;
+use afdx_port::Sent;
 use afdx_port::laws::{events_follow_the_line, lagging_ports_follow, service_is_of_items};
 use afdx_session::laws::later_arrivals_change_nothing;
 use afdx_table::Table;
@@ -97,13 +100,14 @@ fn later_of(one: Stamp, other: Stamp) -> Stamp
 }
 
 impl<'a, A: Allocator + Copy> Paced<'a, A> {
-    /// Makes a switch at which nothing came in, over a table that need not be accepted.
+    /// Makes a switch at which nothing came in, over a table that need not be accepted, and which notes what is wanted of its run.
     ///
-    /// An error says that memory ran out; the table is dropped then. O(links + ports).
-    pub fn new(alloc: A, table: Table) -> Result<Self, AllocError>
-        ensures { IfOk result (λ p. p ≡ fresh_paced table) }
+    /// An error says that memory ran out; the table is dropped then. O(links + ports), and what [`Measuring::new`](afdx_measure::Measuring::new)
+    /// takes for what is wanted.
+    pub fn new(alloc: A, table: Table, wanted: Wanted) -> Result<Self, AllocError>
+        ensures { IfOk result (λ p. p ≡ fresh_paced (keeps_lists wanted) table) }
     {
-        let feeder = Feeder::new(alloc, table)?;
+        let feeder = Feeder::new(alloc, table, wanted)?;
         Ok(Paced {
             feeder,
             reached: Stamp::ZERO,
@@ -153,6 +157,20 @@ impl<'a, A: Allocator + Copy> Paced<'a, A> {
         Ok(())
     }
 
+    /// What the record that [`Paced::next_out`] would hand out next was sent as; none where there is no such record or port. O(ports).
+    pub fn next_sent(&self, port: u8) -> Option<Sent>
+        requires going { self.now.failed ≡ false }
+        ensures { IsNextSent self.now port result }
+    {
+        by_stamp_is_ordered();
+        merges_are_cut();
+        later_arrivals_change_nothing();
+        match self.feeder.switch.next_sent(port) {
+            Some(next) => Some(next.1),
+            None => None,
+        }
+    }
+
     /// Returns the port's next record that left up to the instant that the switch has come to, and was not handed out; none where there is
     /// no such record or port. Its bytes are copied: O(ports + bytes).
     ///
@@ -193,13 +211,15 @@ impl<'a, A: Allocator + Copy> Paced<'a, A> {
         Some(later_of(first, self.reached))
     }
 
-    /// Takes all that came in, and carries out all that is left: the counts of the run. O(ports), and O(1) for each record and start, beside
-    /// the switch's own work.
+    /// Takes all that came in, and carries out all that is left: the counts of the run, and the switch, with what was wanted of it. O(ports),
+    /// and O(1) for each record and start, beside the switch's own work.
     ///
     /// An error says that memory ran out.
-    pub fn finish(self) -> Result<Counts<A>, AllocError>
+    pub fn finish(self) -> Result<(Counts<A>, Measured<'a, A>), AllocError>
         requires going { self.failed ≡ false }
-        ensures { IfOk result (λ counts. counts ≡ counts_of self.entry.table (rows_of self.entry.table (arrivals self.entry))) }
+        ensures counts { IfOk result (λ both. both.0 ≡ counts_of self.entry.table (rows_of self.entry.table (arrivals self.entry))) }
+        ensures switch { IfOk result (λ both. HasTakenAll self.entry both.1.run) }
+        ensures keeps { IfOk result (λ both. both.1.keeps ≡ self.entry.keeps) }
     {
         by_stamp_is_ordered();
         merges_are_cut();
@@ -215,7 +235,8 @@ impl<'a, A: Allocator + Copy> Paced<'a, A> {
             mut counts,
             ..
         } = feeder;
-        counts.note_relayed(&switch.finish());
-        Ok(counts)
+        let measured = switch.finish();
+        counts.note_relayed(measured.relayed());
+        Ok((counts, measured))
     }
 }

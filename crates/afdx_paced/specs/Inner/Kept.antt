@@ -19,7 +19,7 @@ use Rattle.afdx_paced.specs.declared.feeder.Feeder.{Feeder}
 
 -- as contracts see it
 abbrev pub paced_of : {Z : Type 0} → Feeder Z → ℕ → Bool → Paced
-paced_of f reached failed = record { table = f.switch.run.table; lanes = lanes_of f.lanes.items; reached = reached; failed = failed }
+paced_of f reached failed = record { table = f.switch.run.table; lanes = lanes_of f.lanes.items; reached = reached; failed = failed; keeps = f.switch.keeps }
 
 -- there is a lane for each port of the table, by rising number, and the switch counts what each has handed out
 pub record IsOfTable {Z : Type 0} (f : Feeder Z) : Type 0 where

@@ -70,7 +70,7 @@ returns-in_err-join-clause-err g c =
     let seen = lane_read s.feeder.switch.run.table.ports s.feeder.lanes.items c.args.port c.in-Some.place c.index.result.now _ is c.index.ensures in
     let last = c.last-last.ensures ∙ ap (λ (l : Parts). l.last) (sym seen) in
     let same = ap (set s.feeder.lanes.items c.in-Some.place) (c.in_err-join.ensures.err ∙ sym lane) ∙ set_same s.feeder.lanes.items c.in-Some.place is.lane is.at in
-    let back : List Parts → Paced = λ ls. record { table = s.feeder.switch.run.table; lanes = lanes_of ls; reached = s.reached; failed = s.failed } in
+    let back : List Parts → Paced = λ ls. record { table = s.feeder.switch.run.table; lanes = lanes_of ls; reached = s.reached; failed = s.failed; keeps = s.feeder.switch.keeps } in
     let new : Feeder g.row.A.Denot = record { switch = s.feeder.switch; counts = s.feeder.counts; lanes = with_item s.feeder.lanes c.in-Some.place c.join.new.self } in
     let refused : PacedFault → Type 0
     = λ fault. (put_refusal c.args.self.now c.args.port c.args.frame.stamp ≡ not_of_memory fault) × (paced_of new s.reached s.failed ≡ c.args.self.now) in

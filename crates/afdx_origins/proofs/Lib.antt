@@ -1,0 +1,9 @@
+pub mod Copies
+pub mod Rows
+pub mod Coming
+pub mod Delaying
+pub mod One
+pub mod Bounded
+pub mod Noting
+pub mod Found
+pub mod Starting

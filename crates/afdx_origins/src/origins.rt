@@ -1,0 +1,259 @@
+//! The delays of a network's links from end to end.
+
+ghost use Rattle.std.specs.Prelude.{◌≡◌, ◌<◌, ℕ, [], ◌==◌, List, length, slice_get, position, option_map, IfOk, IfSome, IsTrue, OnOk, Some, None, Contains, ◌↔◌};
+ghost use Rattle.afdx_port.specs.declared.Sent.{Sent as Copy};
+ghost use Rattle.afdx_table.specs.Link.{Link};
+ghost use Rattle.afdx_wiring.specs.File.{is_end};
+ghost use Rattle.afdx_wiring.specs.Net.{Row as Line, wire_to};
+ghost use Rattle.afdx_wiring.specs.Order.{row_before};
+ghost use Rattle.afdx_origins.specs.declared.departure.Departure.{Departure as Went};
+ghost use Rattle.afdx_origins.specs.Origins.{CameFirst, IsSummary, after_sending, of_link, sent_from};
+ghost use Rattle.afdx_origins.specs.Inner.Known.{IsRowAt, AreComing, AreKnown, KeepDelays, HaveDelayMore, Leaves};
+
+use crate::at_link::Coming;
+use crate::at_switch::AtSwitch;
+use crate::departure::Departure;
+use afdx_measure::Delays;
+use afdx_past::Gone;
+use afdx_port::Sent;
+use afdx_table::LinkRow;
+use afdx_table::laws::{links_are_at_their_places, links_are_found};
+use afdx_units::Stamp;
+use afdx_wiring::{End, Network, Wire};
+use std::alloc::{AllocError, Global};
+use std::marker::Model;
+
+/// The delays of the copies that the ports of a network's switches have sent so far, each from the stamp of its frame at its first switch.
+///
+/// Contracts see the network, and each copy with the port that sent it. It keeps of each link the frames that are on their way, and its
+/// delays.
+#[derive(Drop)]
+pub struct Origins<'n> {
+    network: &'n Network,
+    /// By the places of the switches.
+    switches: Vec<AtSwitch>,
+    sent: Gone<Departure>,
+}
+
+impl<'n> Model for Origins<'n> {
+    ghost use Rattle.afdx_origins.specs.Origins.{Origins as Seen};
+    ghost use Rattle.afdx_origins.specs.Inner.Known.{AreKnown};
+
+    ghost Value = { Seen };
+
+    ghost view = { λ o. record { net = o.network.now; sent = o.sent.items } };
+
+    ghost invariant = { λ o. AreKnown o.network.now o.sent.items o.switches.items };
+}
+
+/// The place of a port among those of a link's row. O(ports).
+fn place_in(link: &LinkRow, port: u8) -> Option<usize>
+    ensures { result ≡ position (λ to. to == port) link.now.to }
+{
+    link.to.as_slice().iter().position(|to| *to == port)
+}
+
+/// Whether two ends are one port.
+fn is_end(one: End, other: End) -> bool
+    ensures { result ≡ is_end one other }
+{
+    one.switch == other.switch && one.port == other.port
+}
+
+/// The row of a link in the table of a switch, and its place there. O(1).
+fn row_at(network: &Network, switch: usize, link: u16) -> Option<(usize, &LinkRow)>
+    ensures { IfSome result (λ at. IsRowAt network.now switch link at.0 at.1.now) }
+{
+    links_are_found();
+    links_are_at_their_places();
+    let table = network.table(switch)?;
+    let place = table.link_place(link)?;
+    let row = table.link_at(place)?;
+    Some((place, row))
+}
+
+/// When the frame of a copy that a switch sent had come to its first switch: where no wire goes to the port of the link's row, when it
+/// came to this one; none where it is not known.
+fn first_of(
+    network: &Network,
+    switches: &[AtSwitch],
+    switch: usize,
+    place: usize,
+    link: &LinkRow,
+    sent: &Sent,
+) -> Option<Stamp>
+    requires { IsRowAt network.now switch link.now.id place link.now }
+    ensures { (all : List Went) → AreComing network.now all switches.now
+        → IfSome result (CameFirst network.now all (record { switch = switch; link = link.now }) sent.now) }
+{
+    let from = End {
+        switch,
+        port: link.from,
+    };
+    match network.wire_to(from) {
+        None => Some(sent.item.stamp),
+        Some(_) => switches.get(switch)?.first_of(place, sent.item.stamp),
+    }
+}
+
+/// The frame of a copy that ended at an instant is on its way over a wire, where the switch at its end has a row of the link that the
+/// wire feeds. `first` is when it had come to its first switch.
+fn bring(
+    network: &Network,
+    switches: &mut [AtSwitch],
+    wire: &Wire,
+    link: u16,
+    end: Stamp,
+    first: Stamp,
+) -> Result<(), AllocError>
+    requires { wire_to network.now wire.now.to ≡ Some wire.now }
+    ensures coming { (all : List Went) → Leaves network.now all wire.now.from link end first → AreComing network.now all switches.old → OnOk result (AreComing network.now all switches.new) }
+    ensures delays { OnOk result (KeepDelays switches.old switches.new) }
+{
+    let Some((place, row)) = row_at(network, wire.to.switch, link) else {
+        return Ok(());
+    };
+    if row.from != wire.to.port || wire.to.switch >= switches.len() {
+        return Ok(());
+    }
+    let Some(at) = end.plus(u64::from(wire.delay)) else {
+        return Err(AllocError);
+    };
+    switches[wire.to.switch].add(place, Coming { at, first })
+}
+
+/// Whether a wire is the first that goes to its port. O(wires).
+fn is_first(network: &Network, wire: &Wire) -> bool
+    ensures { IsTrue result ↔ (wire_to network.now wire.now.to ≡ Some wire.now) }
+{
+    match network.wire_to(wire.to) {
+        Some(first) => first == wire,
+        None => false,
+    }
+}
+
+/// So it is over a wire, where it begins at a port and is the first that goes to its end. O(wires).
+fn bring_from(
+    network: &Network,
+    switches: &mut [AtSwitch],
+    wire: &Wire,
+    from: End,
+    link: u16,
+    end: Stamp,
+    first: Stamp,
+) -> Result<(), AllocError>
+    ensures coming { (all : List Went) → Leaves network.now all from link end first → AreComing network.now all switches.old → OnOk result (AreComing network.now all switches.new) }
+    ensures delays { OnOk result (KeepDelays switches.old switches.new) }
+{
+    if !is_end(wire.from, from) {
+        return Ok(());
+    }
+    if !is_first(network, wire) {
+        return Ok(());
+    }
+    bring(network, switches, wire, link, end, first)
+}
+
+/// So it is over all wires that begin at a port. O(wires) for each of them.
+fn carry(
+    network: &Network,
+    switches: &mut [AtSwitch],
+    from: End,
+    link: u16,
+    end: Stamp,
+    first: Stamp,
+) -> Result<(), AllocError>
+    ensures coming { (all : List Went) → Leaves network.now all from link end first → AreComing network.now all switches.old → OnOk result (AreComing network.now all switches.new) }
+    ensures delays { OnOk result (KeepDelays switches.old switches.new) }
+{
+    for wire in network.layout().wires.as_slice() {
+        bring_from(network, switches, wire, from, link, end, first)?;
+    }
+    Ok(())
+}
+
+/// Notes the delay of a copy of the link at a place, which the port at a place of its row sent.
+fn note_delay(
+    switches: &mut [AtSwitch],
+    switch: usize,
+    place: usize,
+    port: usize,
+    delay: u64,
+) -> Result<(), AllocError>
+    ensures { OnOk result (HaveDelayMore switch place port delay switches.old switches.new) }
+{
+    if switch >= switches.len() {
+        return Err(AllocError);
+    }
+    switches[switch].note(place, port, delay)
+}
+
+/// A switch at which nothing is known for each of a network's. O(links) of all tables.
+fn nothing_known(alloc: Global, network: &Network) -> Result<Vec<AtSwitch>, AllocError>
+    ensures { IfOk result (λ switches. AreKnown network.now [] switches.items) }
+{
+    let mut switches = Vec::new(alloc);
+    for table in network.tables() {
+        switches.push(AtSwitch::new(alloc, table)?)?;
+    }
+    Ok(switches)
+}
+
+impl<'n> Origins<'n> {
+    /// Of a network of which nothing was sent.
+    ///
+    /// An error says that memory ran out. O(links) of all tables, and 32 bytes for each of their ports.
+    pub fn new(alloc: Global, network: &'n Network) -> Result<Origins<'n>, AllocError>
+        ensures { IfOk result (λ o. o ≡ record { net = network.now; sent = [] }) }
+    {
+        let switches = nothing_known(alloc, network)?;
+        Ok(Origins {
+            network,
+            switches,
+            sent: Gone::new(),
+        })
+    }
+
+    /// Notes that a port sent a copy.
+    ///
+    /// An error says that memory ran out, that a count would pass 2^64 - 1, or that the copy's frame is none of which it was told; what was
+    /// noted is of no use then. O(wires), and O(frames of the link that are on their way).
+    pub fn note(self, from: End, sent: &Sent) -> Result<Origins<'n>, AllocError>
+        ensures { IfOk result (λ o. o ≡ after_sending from sent.now self.entry) }
+    {
+        let Origins {
+            network,
+            mut switches,
+            sent: all,
+        } = self;
+        let link = sent.item.link;
+        let Some((place, row)) = row_at(network, from.switch, link) else {
+            return Err(AllocError);
+        };
+        let Some(port) = place_in(row, from.port) else {
+            return Err(AllocError);
+        };
+        let Some(first) = first_of(network, &switches, from.switch, place, row, sent) else {
+            return Err(AllocError);
+        };
+        carry(network, &mut switches, from, link, sent.end, first)?;
+        let delay = sent.end.ns().saturating_sub(first.ns());
+        note_delay(&mut switches, from.switch, place, port, delay)?;
+        let departure = Departure { from, copy: *sent };
+        Ok(Origins {
+            network,
+            switches,
+            sent: all.and(&departure),
+        })
+    }
+
+    /// The delays of the copies of a link that a port sent; none where the switch has no row of the link that leads there. O(ports).
+    pub fn delays_at(&self, link: u16, from: End) -> Option<Delays>
+        ensures { IfSome result (IsSummary self.now.net self.now.sent link from) }
+    {
+        let (place, row) = row_at(self.network, from.switch, link)?;
+        let port = place_in(row, from.port)?;
+        let switch = self.switches.get(from.switch)?;
+        Some(switch.delays_at(place, port))
+    }
+}
