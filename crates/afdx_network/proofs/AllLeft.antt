@@ -97,6 +97,7 @@ pub record Ended (net : Network) (given : Given) (switch : ℕ) (s : Site) (resu
   pub own_is : slice_get given switch ≡ Some own
   pub zip : AllZip (IsText net switch own) s.paced.lanes texts
   pub outcome : IsOutcome s.paced.table texts results
+  pub read_is : outcome.read ≡ captures_of s.paced.lanes
   pub led : HasLed s results
 
 ended : OutGoesOn → AreWritten → (net : Network) (given : Given) (switch : ℕ) (s : Site) (results : Results) → IsSite net given switch s → HasSent None s → HasLed s results
@@ -116,6 +117,7 @@ ended on written net given switch s results site sent led =
               (all_left on net given switch s site sent);
           counts = led.counts;
         };
+        read_is = refl;
         led = led;
       },
     )
@@ -150,19 +152,19 @@ outcomes_are (t ∷ tables) (texts ∷ came) [] long same each = absurd (omega (
 outcomes_are (t ∷ tables) (texts ∷ came) (r ∷ left) long same each =
     (each 0 t texts r refl refl refl, outcomes_are tables came left (omega (arith, long)) (omega (arith, same)) (λ k u c q a b d. each (suc k) u c q a b d))
 
-zip_long : {X Y : Type 0} (R : X → Y → Type 0) (xs : List X) (ys : List Y) → AllZip R xs ys → length xs ≡ length ys
+pub zip_long : {X Y : Type 0} (R : X → Y → Type 0) (xs : List X) (ys : List Y) → AllZip R xs ys → length xs ≡ length ys
 zip_long R [] [] zip = refl
 zip_long R [] (y ∷ ys) zip = absurd zip
 zip_long R (x ∷ xs) [] zip = absurd zip
 zip_long R (x ∷ xs) (y ∷ ys) zip = ap suc (zip_long R xs ys zip.1)
 
-zip_at : {X Y : Type 0} (R : X → Y → Type 0) (xs : List X) (ys : List Y) → AllZip R xs ys → (k : ℕ) (x : X) → slice_get xs k ≡ Some x → (y : Y) × (slice_get ys k ≡ Some y) × R x y
+pub zip_at : {X Y : Type 0} (R : X → Y → Type 0) (xs : List X) (ys : List Y) → AllZip R xs ys → (k : ℕ) (x : X) → slice_get xs k ≡ Some x → (y : Y) × (slice_get ys k ≡ Some y) × R x y
 zip_at R [] ys zip k x is = absurd cc
 zip_at R (z ∷ xs) [] zip k x is = absurd zip
 zip_at R (z ∷ xs) (y ∷ ys) zip zero x is = (y, refl, subst (λ v. R v y) (same_Some z x is) zip.0)
 zip_at R (z ∷ xs) (y ∷ ys) zip (suc k) x is = zip_at R xs ys zip.1 k x is
 
-there_at : {X : Type 0} (xs : List X) (k : ℕ) → k < length xs → (x : X) × (slice_get xs k ≡ Some x)
+pub there_at : {X : Type 0} (xs : List X) (k : ℕ) → k < length xs → (x : X) × (slice_get xs k ≡ Some x)
 there_at [] k lt = absurd (omega (arith, lt))
 there_at (x ∷ xs) zero lt = (x, refl)
 there_at (x ∷ xs) (suc k) lt = there_at xs k (omega (arith, lt))
@@ -170,7 +172,7 @@ there_at (x ∷ xs) (suc k) lt = there_at xs k (omega (arith, lt))
 among_at : {X : Type 0} (xs : List X) (x : X) → Contains xs x → (k : ℕ) × (slice_get xs k ≡ Some x)
 among_at xs x among = (among.0, slice_get_read xs (length xs) among.0 x refl among.1 (sym among.2))
 
-at_among : {X : Type 0} (xs : List X) (k : ℕ) (x : X) → slice_get xs k ≡ Some x → Contains xs x
+pub at_among : {X : Type 0} (xs : List X) (k : ℕ) (x : X) → slice_get xs k ≡ Some x → Contains xs x
 at_among xs k x is = (k, slice_get_within xs k x is, get_or_from_slice_get xs k x x is)
 
 -- ---- the wires
@@ -357,8 +359,14 @@ module _ (on : OutGoesOn) (order : OutIsInOrder) (written : AreWritten) (net : N
         has = lane.1.given (ap (λ n. wire_to net (record { switch = e.switch; port = n })) (sym lane.1.port ∙ number) ∙ unwired);
       }
 
+-- each site has ended over what came in there
+abbrev pub EndedEach : Network → Given → List Site → List Results → List (List Text) → Type 0
+EndedEach net given sites left came = (k : ℕ) (s : Site) → slice_get sites k ≡ Some s
+    → (texts : List Text) × (slice_get came k ≡ Some texts) × ((r : Results) × (slice_get left k ≡ Some r) × Ended net given k s r texts)
+
 pub is_unchecked_run : OutGoesOn → OutIsInOrder → AreWritten → (net : Network) (given : Given) (sites : List Site) (left : List Results) → AreCarried net given sites
-    → All (λ w. wire_to net w.to ≡ Some w) net.layout.wires → All (HasSent None) sites → AllZip HasLed sites left → (came : List (List Text)) × IsUncheckedRunOf net given came left
+    → All (λ w. wire_to net w.to ≡ Some w) net.layout.wires → All (HasSent None) sites → AllZip HasLed sites left
+    → (came : List (List Text)) × IsUncheckedRunOf net given came left × EndedEach net given sites left came × (length came ≡ length sites)
 is_unchecked_run on order written net given sites left are one sent led = (
   all.xs,
   record {
@@ -369,6 +377,8 @@ is_unchecked_run on order written net given sites left are one sent led = (
       others = given_there on order written net given sites left all.xs are one all.each all.long;
     };
   },
+  all.each,
+  all.long,
 ) where
   P : ℕ → Site → List Text → Type 0
   P k s texts = (r : Results) × (slice_get left k ≡ Some r) × Ended net given k s r texts

@@ -1,6 +1,5 @@
 -- What is answered where nothing is left of a run: it is one of the network, and all that left is in the files.
 use Rattle.std.proofs.Common.{◌≡◌, ℕ, List, [], ◌∷◌, ◌++◌, map, slice_get, Option, refl, ap, sym, ◌∙◌, subst}
-use Rattle.std.specs.Prelude.{All, Vec}
 use Rattle.std.specs.List.{AllZip}
 use Rattle.std.proofs.lemmas.List.{append-nil, map-append}
 use Rattle.std.proofs.lemmas.List.Elements.{recursion_from_All}
@@ -25,18 +24,18 @@ use Rattle.afdx_network.specs.Given.{open_ends, AreGivenBy}
 use Rattle.afdx_network.specs.Written.{captures_in, AreWritten as ArePut}
 use Rattle.afdx_network.specs.Inner.Intake.{same_clock, HasTakenAll, AreGivenSoFar}
 use Rattle.afdx_network.specs.Inner.Outputs.{HaveGone}
-use Rattle.afdx_network.specs.Inner.Sites.{Site, HasLed, counts_at, texts_of, AreCarried}
-use Rattle.afdx_network.specs.Inner.Windows.{HasRunThrough}
+use Rattle.afdx_network.specs.Inner.Sites.{Site, HasLed, counts_at, texts_of}
+use Rattle.afdx_network.specs.Inner.Windows.{HasRunThrough, IsRunOver}
 use Rattle.afdx_network.proofs.AllLeft.{is_unchecked_run, are_formed}
 use Rattle.afdx_network.proofs.Carried.{AreWritten}
 use Rattle.afdx_network.proofs.Feeding.{Unique}
 use Rattle.afdx_network.proofs.Whole.{whole, regiven}
 
 -- what a switch from which all has left has led to
-abbrev led_of : Site → Results
+abbrev pub led_of : Site → Results
 led_of s = record { captures = s.left; counts = counts_of s.paced.table (rows_of s.paced.table (arrivals s.paced)) }
 
-all_led : (sites : List Site) → AllZip HasLed sites (map led_of sites)
+pub all_led : (sites : List Site) → AllZip HasLed sites (map led_of sites)
 all_led [] = tt
 all_led (s ∷ sites) = (record { captures = refl; counts = refl }, all_led sites)
 
@@ -59,6 +58,27 @@ are_put {F} contents sites old new gone = (
       (ap (λ (ts : List (List ℕ)). slice_get ts place) (same_texts sites) ∙ slice_get-map (λ (x : Text). x.1) (captures_in (map led_of sites)) place ∙ ap (option_map (λ (x : Text). x.1)) is),
 )
 
+-- nothing is left of what the readers give
+pub run_over : {R F : Type 0} → Unique → (remaining : R → Option (List ℕ)) (contents : F → Option (List ℕ)) (net : Network) (first now : List R) (i : Intake) (old new : List F) (sites : List Site)
+    (h : HasRunThrough remaining contents net first now i old new sites) → HasTakenAll remaining net first i h.through.came → IsRunOver remaining contents net first old new sites
+run_over unique remaining contents net first now i old new sites h all = record {
+  given = all_given.0;
+  given_by = all_given.1;
+  carried = regiven unique net h.through.given all_given.0 h.through.came sites h.through.given_is all_given.2 h.through.carried;
+  sent = h.through.sent;
+  one_each = h.one_each;
+  going = h.going;
+  files = h.files;
+  gone = h.gone;
+} where
+  merged : AreMerged remaining (map (λ (e : End). same_clock) (open_ends net)) first h.through.came
+  merged =
+      subst (AreMerged remaining (map (λ (e : End). same_clock) (open_ends net)) first)
+      (ap (λ (more : List Arrival). h.through.came ++ more) (all.none h.through.none) ∙ append-nil h.through.came) all.merged
+
+  all_given : (given : Given) × AreGivenBy remaining net first given × AreGivenSoFar net h.through.came given
+  all_given = whole remaining net first h.through.came merged (recursion_from_All IsWellFormed net.tables (are_formed net h.through.given sites h.through.carried))
+
 -- a run of the network over all that the readers give
 pub record IsAnswered {R F : Type 0} (remaining : R → Option (List ℕ)) (contents : F → Option (List ℕ)) (net : Network) (first : List R) (old new : List F) (counts : List Tally) : Type 0 where
   pub given : Given
@@ -67,34 +87,18 @@ pub record IsAnswered {R F : Type 0} (remaining : R → Option (List ℕ)) (cont
   pub given_by : AreGivenBy remaining net first given
   pub run : IsUncheckedRunOf net given came left
   pub put : ArePut contents left old new counts
-  pub formed : All IsWellFormed net.tables
 
-pub answered : {R F Z : Type 0} → Unique → OutGoesOn → OutIsInOrder → AreWritten
-    → (remaining : R → Option (List ℕ)) (contents : F → Option (List ℕ)) (net : Network) (first now : List R) (i : Intake) (old new : List F)
-    (counts : Vec Tally Z) (h : HasRunThrough remaining contents net first now i old new counts) → HasTakenAll remaining net first i h.through.came
-    → IsAnswered remaining contents net first old new counts.items
-answered unique on order written remaining contents net first now i old new counts h all = record {
-  given = all_given.0;
-  came = run.0;
-  left = map led_of h.sites;
-  given_by = all_given.1;
-  run = run.1;
-  put = record { counted = h.counted ∙ same_counts h.sites; appended = are_put contents h.sites old new h.gone };
-  formed = formed;
-} where
-  merged : AreMerged remaining (map (λ (e : End). same_clock) (open_ends net)) first h.through.came
-  merged =
-      subst (AreMerged remaining (map (λ (e : End). same_clock) (open_ends net)) first)
-      (ap (λ (more : List Arrival). h.through.came ++ more) (all.none h.through.none) ∙ append-nil h.through.came) all.merged
-
-  formed : All IsWellFormed net.tables
-  formed = are_formed net h.through.given h.sites h.through.carried
-
-  all_given : (given : Given) × AreGivenBy remaining net first given × AreGivenSoFar net h.through.came given
-  all_given = whole remaining net first h.through.came merged (recursion_from_All IsWellFormed net.tables formed)
-
-  carried : AreCarried net all_given.0 h.sites
-  carried = regiven unique net h.through.given all_given.0 h.through.came h.sites h.through.given_is all_given.2 h.through.carried
-
-  run : (came : List (List Text)) × IsUncheckedRunOf net all_given.0 came (map led_of h.sites)
-  run = is_unchecked_run on order written net all_given.0 h.sites (map led_of h.sites) carried h.one_each h.through.sent (all_led h.sites)
+-- once the last part is in the files, too
+pub answered : {R F : Type 0} → OutGoesOn → OutIsInOrder → AreWritten → (remaining : R → Option (List ℕ)) (contents : F → Option (List ℕ)) (net : Network) (first : List R) (old now new : List F)
+    (sites : List Site) (counts : List Tally) → IsRunOver remaining contents net first old now sites → counts ≡ counts_at sites → HaveGone contents old new (texts_of sites)
+    → IsAnswered remaining contents net first old new counts
+answered on order written remaining contents net first old now new sites counts h counted gone =
+    let run = is_unchecked_run on order written net h.given sites (map led_of sites) h.carried h.one_each h.sent (all_led sites) in
+    record {
+      given = h.given;
+      came = run.0;
+      left = map led_of sites;
+      given_by = h.given_by;
+      run = run.1;
+      put = record { counted = counted ∙ same_counts sites; appended = are_put contents sites old new gone };
+    }

@@ -126,17 +126,17 @@ pub fresh_came : (ports : List PortRow) → AllByRecursion (λ (l : Lane). l.cam
 fresh_came [] = tt
 fresh_came (p ∷ ports) = (refl, fresh_came ports)
 
-fresh_out : (t : Content) (n : ℕ) (p : PortRow) → out_up_to (fresh_paced t) (Some n) p ≡ []
-fresh_out t n p =
-    let none : arrivals (fresh_paced t) ≡ [] = ap by_stamp (fresh_arrivals t.ports) in
+fresh_out : (keeps : Bool) (t : Content) (n : ℕ) (p : PortRow) → out_up_to (fresh_paced keeps t) (Some n) p ≡ []
+fresh_out keeps t n p =
+    let none : arrivals (fresh_paced keeps t) ≡ [] = ap by_stamp (fresh_arrivals t.ports) in
     ap (λ (xs : List Arrival). map (written xs) (sent_up_to t xs (Some n) p)) none ∙ ap (map (written [])) (fresh_sent t n p)
 
-fresh_is : (t : Content) (s : Site) → IsFresh t s
-    → s ≡ record { paced = fresh_paced t; left = map (λ (p : PortRow). (p.id, capture_text [])) t.ports; gone = map (λ (p : PortRow). []) t.ports; next = s.next }
-fresh_is t s is =
+fresh_is : (keeps : Bool) (t : Content) (s : Site) → IsFresh keeps t s
+    → s ≡ record { paced = fresh_paced keeps t; left = map (λ (p : PortRow). (p.id, capture_text [])) t.ports; gone = map (λ (p : PortRow). []) t.ports; next = s.next }
+fresh_is keeps t s is =
     let made : Paced → List Text → List (List ℕ) → Site = λ v left gone. record { paced = v; left = left; gone = gone; next = s.next } in
-    ap (λ (v : Paced). made v s.left s.gone) is.paced ∙ ap (λ (left : List Text). made (fresh_paced t) left s.gone) is.left
-    ∙ ap (made (fresh_paced t) (map (λ (p : PortRow). (p.id, capture_text [])) t.ports)) is.gone
+    ap (λ (v : Paced). made v s.left s.gone) is.paced ∙ ap (λ (left : List Text). made (fresh_paced keeps t) left s.gone) is.left
+    ∙ ap (made (fresh_paced keeps t) (map (λ (p : PortRow). (p.id, capture_text [])) t.ports)) is.gone
 
 -- a switch that has gone nowhere
 pub record IsAtStart (t : Content) (s : Site) : Type 0 where
@@ -147,8 +147,8 @@ pub record IsAtStart (t : Content) (s : Site) : Type 0 where
   pub left : AllByRecursion (λ (l : Lane). l.left ≡ []) s.paced.lanes
   pub came : AllByRecursion (λ (l : Lane). l.came ≡ []) s.paced.lanes
 
-pub start_fresh : (t : Content) (s : Site) → IsWellFormed t → IsFresh t s → IsAtStart t s
-start_fresh t s formed is = subst (IsAtStart t) (sym (fresh_is t s is)) (record {
+pub start_fresh : (keeps : Bool) (t : Content) (s : Site) → IsWellFormed t → IsFresh keeps t s → IsAtStart t s
+start_fresh keeps t s formed is = subst (IsAtStart t) (sym (fresh_is keeps t s is)) (record {
   running = record {
     formed = formed;
     going = refl;
@@ -157,11 +157,11 @@ start_fresh t s formed is = subst (IsAtStart t) (sym (fresh_is t s is)) (record 
     next = subst (λ (v : Paced). IsNext v s.next) is.paced is.next;
     prefix = λ port p l row found.
         let none = at_lane (λ (m : Lane). m.left ≡ []) (map fresh_lane t.ports) port l (fresh_none t.ports) found in
-        (out_up_to (fresh_paced t) (Some 0) p, ap (λ (rs : List Record). rs ++ out_up_to (fresh_paced t) (Some 0) p) (sym none));
+        (out_up_to (fresh_paced keeps t) (Some 0) p, ap (λ (rs : List Record). rs ++ out_up_to (fresh_paced keeps t) (Some 0) p) (sym none));
   };
   table = refl;
   reached = refl;
-  sent = λ port p l row found. let none = ap length (fresh_out t 0 p) in omega (arith, none);
+  sent = λ port p l row found. let none = ap length (fresh_out keeps t 0 p) in omega (arith, none);
   left = fresh_none t.ports;
   came = fresh_came t.ports;
 })

@@ -2,3 +2,4 @@ pub mod Intake
 pub mod Outputs
 pub mod Sites
 pub mod Windows
+pub mod Noted

@@ -9,7 +9,7 @@ use Rattle.afdx_session.specs.Written.{AreAppended}
 abbrev pub captures_in : List Results → List Text
 captures_in left = flat_map (λ r. r.captures) left
 
--- these are the counts, and what leaves each port is behind what its file had
+-- these are the counts, and what leaves each port comes after what its file had
 pub record AreWritten {F : Type 0} (contents : F → Option (List ℕ)) (left : List Results) (old new : List F) (counts : List Tally) : Type 0 where
   pub counted : counts ≡ map (λ r. r.counts) left
   pub appended : AreAppended contents old new (captures_in left)

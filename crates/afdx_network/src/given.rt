@@ -11,7 +11,7 @@ use afdx_table::Table;
 use afdx_wiring::{End, Network, Wire};
 use std::alloc::{AllocError, Global};
 
-/// Whether no wire goes to this port of the switch at this place, so that its capture is one of those that are given. O(wires).
+/// Tells whether no wire goes to this port of the switch at this place, so that its capture is one of those that are given. O(wires).
 fn is_open(network: &Network, switch: usize, port: u8) -> bool
     ensures { result ≡ is_open network.now switch port }
 {
@@ -38,7 +38,7 @@ fn push_open(
     Ok(())
 }
 
-/// The ports to which no wire goes, by switch and then by rising number: what comes in there is given for a run. O(ports * wires).
+/// Lists the ports to which no wire goes, by switch and then by rising number: what comes in there is given for a run. O(ports * wires).
 pub fn open_ends(alloc: Global, network: &Network) -> Result<Vec<End>, AllocError>
     ensures { IfOk result (λ ends. ends.items ≡ open_ends network.now) }
 {
@@ -62,7 +62,7 @@ fn push_all(ends: &mut Vec<End>, switch: usize, table: &Table) -> Result<(), All
     Ok(())
 }
 
-/// The ports of all switches, by switch and then by rising number: what leaves there is the outcome of a run. O(ports).
+/// Lists the ports of all switches, by switch and then by rising number: what leaves there is the outcome of a run. O(ports).
 pub fn all_ends(alloc: Global, network: &Network) -> Result<Vec<End>, AllocError>
     ensures { IfOk result (λ ends. ends.items ≡ all_ends network.now) }
 {
@@ -73,7 +73,7 @@ pub fn all_ends(alloc: Global, network: &Network) -> Result<Vec<End>, AllocError
     Ok(ends)
 }
 
-/// Whether this is the first wire that goes to its port. O(wires).
+/// Tells whether this is the first wire that goes to its port. O(wires).
 fn is_first(network: &Network, wire: &Wire) -> bool
     ensures { IsTrue result ↔ (wire_to network.now wire.now.to ≡ Some wire.now) }
 {

@@ -22,7 +22,7 @@ pub(crate) struct Intake {
     pub(crate) merging: Merging<Global>,
 }
 
-/// The clock of a capture at each of these ports: stamps are as they are.
+/// Makes the clock of a capture at each of these ports: stamps stay as they are.
 fn clocks_of(alloc: Global, ends: &[End]) -> Result<Vec<Clock>, AllocError>
     ensures { IfOk result (λ clocks. clocks.items ≡ map (λ e. same_clock) ends.now) }
 {
@@ -37,7 +37,7 @@ fn clocks_of(alloc: Global, ends: &[End]) -> Result<Vec<Clock>, AllocError>
     Ok(clocks)
 }
 
-/// The same fault, said of a port.
+/// Says of a port what a merge says of a place.
 fn fault_at(ends: &[End], fault: MergeFault) -> NetworkRunFault
     requires { IsAmong (length ends.now) fault }
     ensures { IsFaultAt ends.now fault result }
@@ -53,7 +53,7 @@ fn fault_at(ends: &[End], fault: MergeFault) -> NetworkRunFault
 }
 
 impl Intake {
-    /// The captures that these readers give, of the ports of a network to which no wire goes, in their order. The first record of each is
+    /// Opens the captures that these readers give, of the ports of a network to which no wire goes, in their order. The first record of each is
     /// read.
     ///
     /// # Errors
@@ -76,14 +76,14 @@ impl Intake {
         }
     }
 
-    /// The stamp of the first of the next records, if there is one. O(captures).
+    /// Returns the stamp of the first of the next records, if there is one. O(captures).
     pub(crate) fn least(&self) -> Option<Stamp>
         ensures { result ≡ next_of self.now }
     {
         self.merging.least()
     }
 
-    /// The next record of all captures, by stamp, and the port at which it comes in. O(captures), beside what is read.
+    /// Reads the next record of all captures, by stamp, and says at which port it comes in. O(captures), beside what is read.
     ///
     /// # Errors
     ///

@@ -35,9 +35,11 @@ mod outage;
 mod output;
 mod running;
 mod site;
+mod watching;
 mod windows;
 
 pub use fault::NetworkRunFault;
 pub use given::{all_ends, open_ends};
 pub use outage::{Incoming, incoming_at};
 pub use running::{run, run_unchecked};
+pub use watching::{Watched, run_watched};

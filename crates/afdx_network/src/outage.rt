@@ -51,7 +51,7 @@ impl<R: Read + Drop> Read for Incoming<R> {
     }
 }
 
-/// What comes in at a port of a switch that may be down.
+/// Makes what comes in at a port of a switch that may be down.
 fn heard<R: Read + Drop>(alloc: Global, reader: R, is_down: bool) -> Result<Incoming<R>, AllocError>
     ensures { IfOk result (λ i. coming R.remaining i ≡ comes R.remaining is_down reader) }
 {
@@ -69,7 +69,7 @@ fn heard<R: Read + Drop>(alloc: Global, reader: R, is_down: bool) -> Result<Inco
     })
 }
 
-/// What comes in at these ports, of which these readers give the captures. O(ports).
+/// Makes what comes in at these ports, of which these readers give the captures. O(ports).
 pub fn incoming_at<R: Read + Drop>(
     alloc: Global,
     network: &Network,

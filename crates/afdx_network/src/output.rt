@@ -48,24 +48,24 @@ impl Output {
         })
     }
 
-    /// The number of the port. O(1).
+    /// Returns the number of the port. O(1).
     pub(crate) fn port(&self) -> u8
         ensures { result ≡ self.now.port }
     {
         self.port
     }
 
-    /// How many records it has. O(1).
+    /// Counts its records. O(1).
     pub(crate) fn count(&self) -> usize {
         self.count
     }
 
-    /// Whether there is a part that may go to the file. O(1).
+    /// Tells whether there is a part that may go to the file. O(1).
     pub(crate) fn is_full(&self) -> bool {
         self.text.len() >= PART
     }
 
-    /// One more record left. O(bytes).
+    /// Appends a record that left. O(bytes).
     pub(crate) fn push(&mut self, frame: &Record<'_, Global>) -> Result<(), AllocError>
         ensures ok { OnOk result (self.new ≡ record self.old { text = self.old.text ++ record_text (record frame.now { original = length frame.now.bytes }) }) }
         ensures err { OnErr result (self.new ≡ self.old) }
@@ -75,7 +75,7 @@ impl Output {
         Ok(())
     }
 
-    /// What has not gone to the file goes there. The room for it stays for what comes next. O(bytes).
+    /// Writes what has not gone to the file. The room for it stays for what comes next. O(bytes).
     pub(crate) fn hand_over<F: NewFile>(&mut self, file: &mut F) -> Result<(), AllocError>
         ensures ok { OnOk result ((self.new ≡ all_gone self.old) × Appends (F.contents file.old) (F.contents file.new) self.old.text) }
         ensures err { OnErr result (self.new ≡ self.old) }

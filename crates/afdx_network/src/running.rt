@@ -2,20 +2,25 @@
 
 ghost use Rattle.std.specs.Prelude.{◌≡◌, ℕ, All, IfErr, IfOk, OnOk, List, [], length};
 ghost use Rattle.afdx_table.specs.WellFormed.{IsWellFormed};
+ghost use Rattle.afdx_measure.specs.Wanted.{keeps_lists};
 ghost use Rattle.afdx_session.specs.Texts.{Text};
 ghost use Rattle.afdx_session.specs.Outcome.{Results};
 ghost use Rattle.afdx_network.specs.Runs.{Given, IsRunOf, IsUncheckedRunOf};
 ghost use Rattle.afdx_network.specs.Given.{open_ends, all_ends, AreGivenBy, IsRefusal, IsUncheckedRefusal, IsFaultOver};
 ghost use Rattle.afdx_network.specs.Written.{AreWritten};
 ghost use Rattle.afdx_network.specs.Inner.Intake.{HasTaken};
-ghost use Rattle.afdx_network.specs.Inner.Windows.{HasRunThrough, IsStop};
+ghost use Rattle.afdx_network.specs.Inner.Noted.{HasNoted};
+ghost use Rattle.afdx_network.specs.Inner.Windows.{HasRunThrough, IsRunOver, IsStop};
 
 use crate::fault::{NetworkRunFault, Stop};
 use crate::given::check_wires;
 use crate::intake::Intake;
+use crate::site::Site;
 use crate::windows::{counts_of, go_through, sites_of};
 use afdx_count::Counts;
 use afdx_folder::NewFile;
+use afdx_measure::Wanted;
+use afdx_origins::Origins;
 use afdx_paced::laws::{out_goes_on, out_is_in_order};
 use afdx_pcap::laws::{each_file_has_one_reading, what_is_written_is_a_capture};
 use afdx_session::laws::outcomes_isolate;
@@ -29,19 +34,59 @@ fn go_on<R: Read, F: NewFile>(
     network: &Network,
     intake: &mut Intake,
     readers: &mut [R],
+    wanted: Wanted,
+    origins: &mut Option<Origins<'_>>,
     files: &mut [F],
-) -> Result<Vec<Counts<Global>>, Stop>
+) -> Result<Vec<Site>, Stop>
     requires taken { (first : List R) × HasTaken R.remaining network.now first readers.old intake.old [] }
     requires files { length files.old ≡ length (all_ends network.now) }
     ensures ok { (first : List R) → HasTaken R.remaining network.now first readers.old intake.old []
-        → IfOk result (HasRunThrough R.remaining F.contents network.now first readers.new intake.new files.old files.new) }
+        → IfOk result (λ sites. HasRunThrough R.remaining F.contents network.now first readers.new intake.new files.old files.new sites.items) }
+    ensures noted { IfOk result (λ sites. HasNoted network.now (keeps_lists wanted) origins.old origins.new sites.items) }
     ensures err { (first : List R) → HasTaken R.remaining network.now first readers.old intake.old []
         → IfErr result (IsStop R.remaining network.now first readers.new intake.new) }
 {
     check_wires(network)?;
-    let mut sites = sites_of(alloc, network)?;
-    go_through(alloc, network, intake, readers, &mut sites, files)?;
-    Ok(counts_of(alloc, sites, files)?)
+    let mut sites = sites_of(alloc, network, wanted)?;
+    go_through(alloc, network, intake, readers, &mut sites, origins, files)?;
+    Ok(sites)
+}
+
+/// Runs all switches of a network, over all that these readers give, until nothing is left; what leaves goes to the files, in parts, of which the
+/// last stays at the switches. What is wanted of each is noted, and so is what its ports send, where anything is noted.
+///
+/// The errors are those of [`run_unchecked`], in its order; so is the cost.
+pub(crate) fn run_through<R: Read, F: NewFile>(
+    alloc: Global,
+    network: &Network,
+    readers: &mut [R],
+    wanted: Wanted,
+    origins: &mut Option<Origins<'_>>,
+    files: &mut [F],
+) -> Result<Vec<Site>, NetworkRunFault>
+    requires readers { length readers.old ≡ length (open_ends network.now) }
+    requires files { length files.old ≡ length (all_ends network.now) }
+    ensures ok { IfOk result (λ sites. IsRunOver R.remaining F.contents network.now readers.old files.old files.new sites.items) }
+    ensures noted { IfOk result (λ sites. HasNoted network.now (keeps_lists wanted) origins.old origins.new sites.items) }
+    ensures err { IfErr result (IsFaultOver R.remaining network.now readers.old (IsUncheckedRefusal network.now)) }
+{
+    out_goes_on();
+    out_is_in_order();
+    what_is_written_is_a_capture();
+    each_file_has_one_reading();
+    let mut intake = Intake::open(alloc, network, readers)?;
+    match go_on(alloc, network, &mut intake, readers, wanted, origins, files) {
+        Ok(sites) => {
+            intake.end(readers)?;
+            Ok(sites)
+        }
+        Err(Stop::Intake(fault)) => Err(fault),
+        Err(Stop::Run(NetworkRunFault::Memory)) => Err(NetworkRunFault::Memory),
+        Err(Stop::Run(fault)) => {
+            intake.end(readers)?;
+            Err(fault)
+        }
+    }
 }
 
 /// Runs each switch of a network over captures that agree with the wires, whatever the loads, and answers what each counts, in file order.
@@ -86,20 +131,16 @@ pub fn run_unchecked<R: Read, F: NewFile>(
     out_goes_on();
     out_is_in_order();
     what_is_written_is_a_capture();
-    each_file_has_one_reading();
-    let mut intake = Intake::open(alloc, network, readers)?;
-    match go_on(alloc, network, &mut intake, readers, files) {
-        Ok(counts) => {
-            intake.end(readers)?;
-            Ok(counts)
-        }
-        Err(Stop::Intake(fault)) => Err(fault),
-        Err(Stop::Run(NetworkRunFault::Memory)) => Err(NetworkRunFault::Memory),
-        Err(Stop::Run(fault)) => {
-            intake.end(readers)?;
-            Err(fault)
-        }
-    }
+    let mut none_noted = None;
+    let sites = run_through(
+        alloc,
+        network,
+        readers,
+        Wanted::Nothing,
+        &mut none_noted,
+        files,
+    )?;
+    Ok(counts_of(alloc, sites, files)?)
 }
 
 /// Runs each switch of a network whose loads are accepted, as [`run_unchecked`] does: of each the headline holds.

@@ -3,8 +3,9 @@
 ghost use Rattle.std.specs.Prelude.{◌≡◌, ◌<◌, ◌≤◌, ℕ, false, None, Some, List, [], map, length, slice_get, option_map, IfOk, IfErr, OnOk, OnErr};
 ghost use Rattle.afdx_units.specs.Time.{last_second};
 ghost use Rattle.afdx_count.specs.Run.{counts_of};
+ghost use Rattle.afdx_measure.specs.Wanted.{keeps_lists};
 ghost use Rattle.afdx_session.specs.Output.{rows_of};
-ghost use Rattle.afdx_paced.specs.Paced.{arrivals, put_refusal, not_of_memory};
+ghost use Rattle.afdx_paced.specs.Paced.{arrivals, put_refusal, not_of_memory, IsNextSent, HasTakenAll};
 ghost use Rattle.afdx_table.specs.WellFormed.{IsWellFormed};
 ghost use Rattle.afdx_network.specs.declared.fault.NetworkRunFault.TheVariants as fault;
 ghost use Rattle.afdx_network.specs.Inner.Outputs.{silent, all_gone, texts_in, gone_in, HaveGone};
@@ -14,8 +15,10 @@ use crate::fault::NetworkRunFault;
 use crate::output::Output;
 use afdx_count::Counts;
 use afdx_folder::NewFile;
+use afdx_measure::{Measured, Wanted};
 use afdx_paced::{Paced, PacedFault};
 use afdx_pcap::Record;
+use afdx_port::Sent;
 use afdx_table::{PortRow, Table};
 use afdx_units::Stamp;
 use std::alloc::{AllocError, Global};
@@ -41,7 +44,7 @@ impl Model for Site {
     ghost view = { λ s. record { paced = s.paced; left = texts_in s.outputs.items; gone = gone_in s.outputs.items; next = s.next } };
 }
 
-/// The capture of no frames for each port.
+/// Makes a capture of no frames for each port.
 fn silence(alloc: Global, ports: &[PortRow]) -> Result<Vec<Output>, AllocError>
     ensures { IfOk result (λ outputs. outputs.items ≡ map (λ p. silent p.id) ports.now) }
 {
@@ -62,7 +65,7 @@ fn of_put(why: PacedFault) -> NetworkRunFault
     }
 }
 
-/// The earlier of two instants, of which there may be one alone.
+/// Returns the earlier of two instants, of which there may be one alone.
 fn earlier(one: Option<Stamp>, other: Stamp) -> Stamp
     ensures { result ≡ earlier one other }
 {
@@ -72,7 +75,7 @@ fn earlier(one: Option<Stamp>, other: Stamp) -> Stamp
     }
 }
 
-/// What has not gone to the files of the ports goes there.
+/// Writes what has not gone to the files of the ports.
 fn hand_over_all<F: NewFile>(outputs: &mut [Output], files: &mut [F]) -> Result<(), AllocError>
     requires { length files.old ≡ length outputs.old }
     ensures all { OnOk result (outputs.new ≡ map all_gone outputs.old) }
@@ -86,14 +89,14 @@ fn hand_over_all<F: NewFile>(outputs: &mut [Output], files: &mut [F]) -> Result<
 }
 
 impl Site {
-    /// A switch at which nothing came in.
-    pub(crate) fn new(alloc: Global, table: &Table) -> Result<Site, AllocError>
-        ensures fresh { IfOk result (λ s. IsFresh table.now s) }
+    /// Makes a switch at which nothing came in, which notes what is wanted of its run.
+    pub(crate) fn new(alloc: Global, table: &Table, wanted: Wanted) -> Result<Site, AllocError>
+        ensures fresh { IfOk result (λ s. IsFresh (keeps_lists wanted) table.now s) }
         ensures well_formed { IsWellFormed table.now }
     {
         let outputs = silence(alloc, table.ports())?;
         let table = table.copy(alloc)?;
-        let paced = Paced::new(alloc, table)?;
+        let paced = Paced::new(alloc, table, wanted)?;
         let next = paced.next();
         Ok(Site {
             paced,
@@ -103,7 +106,7 @@ impl Site {
         })
     }
 
-    /// A record comes in at a port.
+    /// Takes a record that comes in at a port.
     pub(crate) fn put(
         &mut self,
         port: u8,
@@ -125,7 +128,7 @@ impl Site {
         }
     }
 
-    /// An instant before which nothing happens there. O(1).
+    /// Returns an instant before which nothing happens there. O(1).
     pub(crate) fn next(&self) -> Option<Stamp>
         ensures { result ≡ self.now.next }
     {
@@ -143,7 +146,7 @@ impl Site {
         Ok(())
     }
 
-    /// The number of the port at a place.
+    /// Returns the number of the port at a place.
     pub(crate) fn port(&self, place: usize) -> Option<u8>
         ensures { result ≡ option_map (λ text. text.0) (slice_get self.now.left place) }
     {
@@ -153,7 +156,7 @@ impl Site {
         }
     }
 
-    /// How many ports there are.
+    /// Counts the ports.
     pub(crate) fn ports(&self) -> usize
         ensures left { result ≡ length self.now.left }
         ensures gone { result ≡ length self.now.gone }
@@ -161,7 +164,15 @@ impl Site {
         self.outputs.len()
     }
 
-    /// The next record that left the port at a place goes to its capture.
+    /// Returns what the next record that left a port was sent as.
+    pub(crate) fn next_sent(&self, port: u8) -> Option<Sent>
+        requires going { self.now.paced.failed ≡ false }
+        ensures { IsNextSent self.now.paced port result }
+    {
+        self.paced.next_sent(port)
+    }
+
+    /// Appends the next record that left the port at a place to its capture.
     pub(crate) fn hand_out(
         &mut self,
         place: usize,
@@ -184,7 +195,7 @@ impl Site {
         }
     }
 
-    /// How many records have left the port at a place.
+    /// Counts the records that have left the port at a place.
     pub(crate) fn count(&self, place: usize) -> usize {
         match self.outputs.get(place) {
             Some(output) => output.count(),
@@ -192,7 +203,7 @@ impl Site {
         }
     }
 
-    /// What has left goes to the files of the ports, if there is a part of one.
+    /// Writes what has left to the files of the ports, if there is a part of one.
     pub(crate) fn hand_over<F: NewFile>(&mut self, files: &mut [F]) -> Result<(), AllocError>
         requires { length files.old ≡ length self.old.gone }
         ensures same { OnOk result (HandsOver self.old self.new) }
@@ -205,7 +216,7 @@ impl Site {
         hand_over_all(&mut self.outputs, files)
     }
 
-    /// All that has left goes to the files of the ports: the counts of what came in.
+    /// Writes all that has left to the files of the ports, and returns the counts of what came in.
     pub(crate) fn finish<F: NewFile>(self, files: &mut [F]) -> Result<Counts<Global>, AllocError>
         requires going { self.paced.failed ≡ false }
         requires files { length files.old ≡ length self.gone }
@@ -219,6 +230,19 @@ impl Site {
             ..
         } = self;
         hand_over_all(&mut outputs, files)?;
-        paced.finish()
+        let (counts, _) = paced.finish()?;
+        Ok(counts)
+    }
+
+    /// Returns the counts of what came in, and what was wanted of the run. What has left is let go.
+    pub(crate) fn into_measured(
+        self,
+    ) -> Result<(Counts<Global>, Measured<'static, Global>), AllocError>
+        requires going { self.paced.failed ≡ false }
+        ensures counts { IfOk result (λ both. both.0 ≡ counts_of self.paced.table (rows_of self.paced.table (arrivals self.paced))) }
+        ensures switch { IfOk result (λ both. HasTakenAll self.paced both.1.run) }
+        ensures kept { IfOk result (λ both. both.1.keeps ≡ self.paced.keeps) }
+    {
+        self.paced.finish()
     }
 }

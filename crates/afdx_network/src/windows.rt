@@ -1,6 +1,6 @@
 //! A run of all switches of a network by time, window by window.
 
-ghost use Rattle.std.specs.Prelude.{◌≡◌, ◌+◌, ◌*◌, ◌<◌, ◌≤◌, ◌↔◌, ◌∷◌, ◌++◌, ℕ, IsTrue, MatchOption, IfOk, IfErr, IfSome, OnOk, All, None, Some};
+ghost use Rattle.std.specs.Prelude.{◌≡◌, ◌+◌, ◌*◌, ◌<◌, ◌≤◌, ◌↔◌, ◌∷◌, ◌++◌, ℕ, IsTrue, Bool, MatchOption, IfOk, IfErr, IfSome, OnOk, All, Option, None, Some};
 ghost use Rattle.std.specs.Prelude.{true, false, is_some, List, [], length, map, max, slice_get, position};
 ghost use Rattle.std.specs.List.{AllZip};
 ghost use Rattle.afdx_units.specs.Time.{last_instant, last_second};
@@ -9,6 +9,7 @@ ghost use Rattle.afdx_pcap.specs.Record.{IsWithinLimit};
 ghost use Rattle.afdx_table.specs.declared.rows.PortRow.{PortRow as Row};
 ghost use Rattle.afdx_table.specs.Content.{Content, port_row};
 ghost use Rattle.afdx_merging.specs.Merge.{Arrival};
+ghost use Rattle.afdx_measure.specs.Wanted.{keeps_lists};
 ghost use Rattle.afdx_wiring.specs.File.{is_end};
 ghost use Rattle.afdx_wiring.specs.declared.layout.Wire.{Wire as Cable};
 ghost use Rattle.afdx_wiring.specs.Net.{wire_to, Network as Net};
@@ -22,6 +23,8 @@ ghost use Rattle.afdx_network.specs.Inner.Sites.{IsLook, IsFirst, earlier_of, ac
 ghost use Rattle.afdx_network.specs.Inner.Sites.{HandsOver, gone_at, gone_of, texts_of, counts_at};
 ghost use Rattle.afdx_network.specs.Inner.Sites.{CanCome, CameOver, IsLateFault, AreEarly, StayEarly, IsPortAt, waits_at, Carries, Visits};
 ghost use Rattle.afdx_network.specs.Inner.Windows.{IsOnWay, GoesOn, IsThrough, IsStop};
+ghost use Rattle.afdx_origins.specs.Origins.{Origins as Noted};
+ghost use Rattle.afdx_network.specs.Inner.Noted.{NoneHasLeft, IsNotedOnce, AreNoted, HasEnded};
 
 use crate::fault::{NetworkRunFault, Stop};
 use crate::intake::Intake;
@@ -30,13 +33,17 @@ use crate::site::Site;
 use afdx_core::laws::by_stamp_is_ordered;
 use afdx_count::Counts;
 use afdx_folder::NewFile;
+use afdx_measure::{Measured, Wanted};
+use afdx_origins::Origins;
 use afdx_paced::laws::{
-    later_records_change_nothing, nothing_leaves_before, out_goes_on, out_is_in_order,
+    later_records_change_nothing, later_records_send_nothing, nothing_leaves_before, out_goes_on,
+    out_is_in_order, sends_go_on,
 };
 use afdx_pcap::laws::{
     each_file_has_one_reading, one_more_record_is_appended, what_is_written_is_a_capture,
 };
 use afdx_pcap::{PcapFault, Record};
+use afdx_port::Sent;
 use afdx_session::laws::{all_start_before_the_last_instant, records_are_early};
 use afdx_units::{LEAST_SIZE, Stamp, cost};
 use afdx_wiring::{End, Network, Wire};
@@ -46,14 +53,14 @@ use std::io::Read;
 /// How long a window is where there are no wires: any length is right then.
 const ALONE: u64 = 1_000_000;
 
-/// Whether two ends are one port.
+/// Tells whether two ends are one port.
 fn is_end(one: End, other: End) -> bool
     ensures { result ≡ is_end one other }
 {
     one.switch == other.switch && one.port == other.port
 }
 
-/// The least time from an arrival at the switch where a wire of this delay begins to the arrival that it causes at the wire's end: the
+/// Returns the least time from an arrival at the switch where a wire of this delay begins to the arrival that it causes at the wire's end: the
 /// switch's latency, the line time of the least frame, and the delay.
 fn least_of(network: &Network, from: End, delay: u32) -> Option<u64>
     ensures least { (t : Content) (p : Row) → slice_get network.now.tables from.switch ≡ Some t → port_row t from.port ≡ Some p
@@ -65,7 +72,7 @@ fn least_of(network: &Network, from: End, delay: u32) -> Option<u64>
     Some(table.latency() + cost(row.speed, LEAST_SIZE) + u64::from(delay))
 }
 
-/// The least of these times over all wires. O(wires).
+/// Returns the least of these times over all wires. O(wires).
 fn look_of(network: &Network) -> u64
     ensures { IsLook network.now result }
 {
@@ -79,23 +86,28 @@ fn look_of(network: &Network) -> u64
     look
 }
 
-/// The switches, at which nothing came in.
-pub(crate) fn sites_of(alloc: Global, network: &Network) -> Result<Vec<Site>, AllocError>
+/// Makes the switches, at which nothing came in, and which note what is wanted of their runs.
+pub(crate) fn sites_of(
+    alloc: Global,
+    network: &Network,
+    wanted: Wanted,
+) -> Result<Vec<Site>, AllocError>
     requires one_each { All (λ w. wire_to network.now w.to ≡ Some w) network.now.layout.wires }
     ensures ok { IfOk result (λ sites. (given : Given) × AreGivenSoFar network.now [] given × HaveCome network.now given 0 sites.items) }
     ensures early { (place : ℕ → ℕ) → IfOk result (λ sites. AreEarly place sites.items) }
     ensures gone { IfOk result (λ sites. All (λ bytes. bytes ≡ []) (gone_of sites.items)) }
     ensures ports { IfOk result (λ sites. length (gone_of sites.items) ≡ length (all_ends network.now)) }
+    ensures none_left { IfOk result (λ sites. All (NoneHasLeft (keeps_lists wanted)) sites.items) }
 {
     what_is_written_is_a_capture();
     let mut sites = Vec::new(alloc);
     for table in network.tables() {
-        sites.push(Site::new(alloc, table)?)?;
+        sites.push(Site::new(alloc, table, wanted)?)?;
     }
     Ok(sites)
 }
 
-/// A copy of a record that came over a wire; none where it comes in the last second that pcap can hold.
+/// Copies a record that came over a wire; none if it comes in the last second that pcap can hold.
 fn brought(
     alloc: Global,
     frame: &Record<'_, Global>,
@@ -118,7 +130,7 @@ fn brought(
     }
 }
 
-/// A record goes over a wire. `number` is the record's at the wire's end, counted from 1.
+/// Brings a record over a wire. `number` is the record's at the wire's end, counted from 1.
 fn bring(
     alloc: Global,
     sites: &mut [Site],
@@ -138,14 +150,14 @@ fn bring(
     sites[wire.to.switch].put(wire.to.port, there)
 }
 
-/// The place of the first wire that goes to a port. O(wires).
+/// Finds the place of the first wire that goes to a port. O(wires).
 fn first_to(wires: &[Wire], to: End) -> Option<usize>
     ensures { result ≡ position (λ w. is_end w.to to) wires.now }
 {
     wires.iter().position(|wire| is_end(wire.to, to))
 }
 
-/// Whether no wire before the one at this place goes to the same port. O(wires).
+/// Tells whether no wire before the one at this place goes to the same port. O(wires).
 fn is_first(wires: &[Wire], index: usize) -> bool
     requires { index < length wires.now }
     ensures { (w : Cable) → slice_get wires.now index ≡ Some w → (IsTrue result ↔ (wire_place wires.now w ≡ index)) }
@@ -156,7 +168,7 @@ fn is_first(wires: &[Wire], index: usize) -> bool
     }
 }
 
-/// Whether what leaves a port goes over the wire at a place: it begins there, no wire before it goes to the same port, and it is
+/// Tells whether what leaves a port goes over the wire at a place: it begins there, no wire before it goes to the same port, and it is
 /// not down. O(wires).
 fn goes_over(wires: &[Wire], index: usize, from: End) -> bool
     requires { index < length wires.now }
@@ -165,11 +177,27 @@ fn goes_over(wires: &[Wire], index: usize, from: End) -> bool
     is_end(wires[index].from, from) && is_first(wires, index) && !wires[index].down
 }
 
-/// The next record that left a port goes to the port's capture, and over its wires that are not down. Whether there was one.
+/// Notes what a port sent, where anything is noted; where memory runs out for that, all that was noted is let go.
+fn note_sent(origins: &mut Option<Origins<'_>>, from: End, sent: Option<Sent>)
+    ensures { IsNotedOnce from sent origins.old origins.new }
+{
+    let Some(sent) = sent else {
+        return;
+    };
+    let Some(known) = origins.take() else {
+        return;
+    };
+    if let Ok(more) = known.note(from, &sent) {
+        *origins = Some(more);
+    }
+}
+
+/// Carries the next record that left a port to the port's capture and over its wires that are not down, and tells whether there was one.
 fn carry(
     alloc: Global,
     network: &Network,
     sites: &mut [Site],
+    origins: &mut Option<Origins<'_>>,
     from: End,
     place: usize,
 ) -> Result<bool, NetworkRunFault>
@@ -184,17 +212,21 @@ fn carry(
     ensures err { (given : Given) (begin end : ℕ) → begin ≤ end → AreInWindow network.now given begin end sites.old → IfErr result (IsWireFault network.now) }
     ensures early { (given : Given) (begin end : ℕ) → begin ≤ end → AreInWindow network.now given begin end sites.old → StayEarly network.now given sites.old sites.new result }
     ensures gone { OnOk result (gone_at sites.new ≡ gone_at sites.old) }
+    ensures noted { (keeps : Bool) → AreNoted network.now keeps sites.old origins.old → OnOk result (AreNoted network.now keeps sites.new origins.new) }
 {
     nothing_leaves_before();
     later_records_change_nothing();
+    later_records_send_nothing();
     out_goes_on();
     out_is_in_order();
     one_more_record_is_appended();
     what_is_written_is_a_capture();
     runs_leave_in_time();
+    let sent = sites[from.switch].next_sent(from.port);
     let Some(frame) = sites[from.switch].hand_out(place, from.port)? else {
         return Ok(false);
     };
+    note_sent(origins, from, sent);
     let number = sites[from.switch].count(place);
     let wires = network.layout().wires.as_slice();
     for index in 0..wires.len() {
@@ -205,11 +237,12 @@ fn carry(
     Ok(true)
 }
 
-/// All that left a port goes on.
+/// Carries on all that left a port.
 fn drain(
     alloc: Global,
     network: &Network,
     sites: &mut [Site],
+    origins: &mut Option<Origins<'_>>,
     from: End,
     place: usize,
 ) -> Result<(), NetworkRunFault>
@@ -223,16 +256,18 @@ fn drain(
     ensures err { (given : Given) (begin end : ℕ) → begin ≤ end → AreInWindow network.now given begin end sites.old → IfErr result (IsWireFault network.now) }
     ensures early { (given : Given) (begin end : ℕ) → begin ≤ end → AreInWindow network.now given begin end sites.old → StayEarly network.now given sites.old sites.new result }
     ensures gone { OnOk result (gone_at sites.new ≡ gone_at sites.old) }
+    ensures noted { (keeps : Bool) → AreNoted network.now keeps sites.old origins.old → OnOk result (AreNoted network.now keeps sites.new origins.new) }
 {
-    while carry(alloc, network, sites, from, place)? {}
+    while carry(alloc, network, sites, origins, from, place)? {}
     Ok(())
 }
 
-/// A switch comes to an instant, and all that left it goes on.
+/// Lets a switch come to an instant, and carries on all that left it.
 fn visit(
     alloc: Global,
     network: &Network,
     sites: &mut [Site],
+    origins: &mut Option<Origins<'_>>,
     switch: usize,
     end: Stamp,
 ) -> Result<(), NetworkRunFault>
@@ -246,18 +281,20 @@ fn visit(
     ensures err { (given : Given) (begin : ℕ) → begin ≤ end → AreInWindow network.now given begin end sites.old → IfErr result (IsWireFault network.now) }
     ensures early { (given : Given) (begin : ℕ) → begin ≤ end → AreInWindow network.now given begin end sites.old → StayEarly network.now given sites.old sites.new result }
     ensures gone { OnOk result (gone_at sites.new ≡ gone_at sites.old) }
+    ensures noted { (keeps : Bool) → AreNoted network.now keeps sites.old origins.old → OnOk result (AreNoted network.now keeps sites.new origins.new) }
 {
     out_goes_on();
+    sends_go_on();
     sites[switch].go_to(end)?;
     for place in 0..sites[switch].ports() {
         if let Some(port) = sites[switch].port(place) {
-            drain(alloc, network, sites, End { switch, port }, place)?;
+            drain(alloc, network, sites, origins, End { switch, port }, place)?;
         }
     }
     Ok(())
 }
 
-/// The earlier of two instants, of which there may be none.
+/// Returns the earlier of two instants, of which there may be none.
 fn earlier_of(one: Option<Stamp>, other: Option<Stamp>) -> Option<Stamp>
     ensures { result ≡ earlier_of one other }
 {
@@ -268,7 +305,7 @@ fn earlier_of(one: Option<Stamp>, other: Option<Stamp>) -> Option<Stamp>
     }
 }
 
-/// The first instant at which anything can still happen at any switch. O(switches).
+/// Returns the first instant at which anything can still happen at any switch. O(switches).
 fn first_of(sites: &[Site]) -> Option<Stamp>
     ensures { IsFirst sites.now result }
 {
@@ -279,7 +316,7 @@ fn first_of(sites: &[Site]) -> Option<Stamp>
     first
 }
 
-/// Whether something can happen at a switch before an instant.
+/// Tells whether something can happen at a switch before an instant.
 fn acts_before(site: &Site, end: Stamp) -> bool
     ensures { result ≡ acts_before end site.now.next }
 {
@@ -289,11 +326,12 @@ fn acts_before(site: &Site, end: Stamp) -> bool
     }
 }
 
-/// Each switch at which something can happen before an instant comes to it.
+/// Lets each switch at which something can happen before an instant come to it.
 fn window(
     alloc: Global,
     network: &Network,
     sites: &mut [Site],
+    origins: &mut Option<Origins<'_>>,
     end: Stamp,
 ) -> Result<(), NetworkRunFault>
     requires going { All (λ s. s.paced.failed ≡ false) sites.old }
@@ -305,17 +343,18 @@ fn window(
     ensures err { (given : Given) (begin : ℕ) → begin ≤ end → AreInWindow network.now given begin end sites.old → IfErr result (IsWireFault network.now) }
     ensures early { (given : Given) (begin : ℕ) → begin ≤ end → AreInWindow network.now given begin end sites.old → StayEarly network.now given sites.old sites.new result }
     ensures gone { OnOk result (gone_at sites.new ≡ gone_at sites.old) }
+    ensures noted { (keeps : Bool) → AreNoted network.now keeps sites.old origins.old → OnOk result (AreNoted network.now keeps sites.new origins.new) }
 {
     out_goes_on();
     for switch in 0..sites.len() {
         if acts_before(&sites[switch], end) {
-            visit(alloc, network, sites, switch, end)?;
+            visit(alloc, network, sites, origins, switch, end)?;
         }
     }
     Ok(())
 }
 
-/// The end of the window that begins at the later of two instants, and is so long; the last instant where it ends past that.
+/// Returns the end of the window that begins at the later of two instants, and is so long; the last instant if it ends past that.
 fn end_of(last: Stamp, first: Stamp, look: u64) -> Stamp
     requires { 0 < look }
     ensures least { max first last ≤ result }
@@ -330,7 +369,7 @@ fn end_of(last: Stamp, first: Stamp, look: u64) -> Stamp
     }
 }
 
-/// Whether there is an instant that lies before another one.
+/// Tells whether there is an instant that lies before another one.
 fn is_before(instant: Option<Stamp>, end: Stamp) -> bool
     ensures { result ≡ acts_before end instant }
 {
@@ -340,7 +379,7 @@ fn is_before(instant: Option<Stamp>, end: Stamp) -> bool
     }
 }
 
-/// The next of the records that are given comes in at its switch.
+/// Puts the next of the records that are given into its switch.
 fn put_next<R: Read>(
     alloc: Global,
     intake: &mut Intake,
@@ -353,6 +392,7 @@ fn put_next<R: Read>(
     ensures going { All (λ s. s.paced.failed ≡ false) sites.new }
     ensures reached { (h : ℕ) → All (λ s. s.paced.reached ≤ h) sites.old → All (λ s. s.paced.reached ≤ h) sites.new }
     ensures gone { gone_at sites.new ≡ gone_at sites.old }
+    ensures noted { (net : Net) (keeps : Bool) (origins : Option Noted) → AreNoted net keeps sites.old origins → OnOk result (AreNoted net keeps sites.new origins) }
     ensures on { (net : Net) (first : List R) (came : List Arrival) → HasTaken R.remaining net first readers.old intake.old came
         → OnOk result ((one : Arrival) × HasTaken R.remaining net first readers.new intake.new (came ++ one ∷ [])) }
     ensures ok { (net : Net) (first : List R) (came : List Arrival) (given : Given) (h : ℕ) → IsOnWay R.remaining net first readers.old intake.old came given h sites.old
@@ -361,6 +401,7 @@ fn put_next<R: Read>(
         → IfErr result (IsStop R.remaining net first readers.new intake.new) }
 {
     later_records_change_nothing();
+    later_records_send_nothing();
     out_goes_on();
     what_is_written_is_a_capture();
     each_file_has_one_reading();
@@ -371,7 +412,7 @@ fn put_next<R: Read>(
     }
 }
 
-/// The records that are given before an instant come in at their switches.
+/// Puts the records that are given before an instant into their switches.
 fn take_in<R: Read>(
     alloc: Global,
     intake: &mut Intake,
@@ -384,6 +425,7 @@ fn take_in<R: Read>(
     ensures going { OnOk result (All (λ s. s.paced.failed ≡ false) sites.new) }
     ensures reached { (h : ℕ) → All (λ s. s.paced.reached ≤ h) sites.old → OnOk result (All (λ s. s.paced.reached ≤ h) sites.new) }
     ensures gone { OnOk result (gone_at sites.new ≡ gone_at sites.old) }
+    ensures noted { (net : Net) (keeps : Bool) (origins : Option Noted) → AreNoted net keeps sites.old origins → OnOk result (AreNoted net keeps sites.new origins) }
     ensures on { (net : Net) (first : List R) (came : List Arrival) → HasTaken R.remaining net first readers.old intake.old came
         → OnOk result ((more : List Arrival) × HasTaken R.remaining net first readers.new intake.new (came ++ more)) }
     ensures ok { (net : Net) (first : List R) (came : List Arrival) (given : Given) (h : ℕ) → IsOnWay R.remaining net first readers.old intake.old came given h sites.old
@@ -400,7 +442,7 @@ fn take_in<R: Read>(
     Err(Stop::Run(NetworkRunFault::Memory))
 }
 
-/// What has left goes to the files, in parts.
+/// Writes what has left to the files, in parts.
 fn hand_over<F: NewFile>(sites: &mut [Site], files: &mut [F]) -> Result<(), AllocError>
     requires { length files.old ≡ length (gone_of sites.old) }
     ensures same { OnOk result (AllZip HandsOver sites.old sites.new) }
@@ -425,6 +467,7 @@ pub(crate) fn go_through<R: Read, F: NewFile>(
     intake: &mut Intake,
     readers: &mut [R],
     sites: &mut [Site],
+    origins: &mut Option<Origins<'_>>,
     files: &mut [F],
 ) -> Result<(), Stop>
     requires going { All (λ s. (s.paced.failed ≡ false) × (s.paced.reached ≤ 0)) sites.old }
@@ -434,6 +477,7 @@ pub(crate) fn go_through<R: Read, F: NewFile>(
     ensures going { OnOk result (All (λ s. s.paced.failed ≡ false) sites.new) }
     ensures gone { (start : List F) → HaveGone F.contents start files.old (gone_of sites.old) → OnOk result (HaveGone F.contents start files.new (gone_of sites.new)) }
     ensures files { OnOk result (length files.new ≡ length (gone_of sites.new)) }
+    ensures noted { (keeps : Bool) → AreNoted network.now keeps sites.old origins.old → OnOk result (AreNoted network.now keeps sites.new origins.new) }
     ensures ok { (first : List R) (given : Given) → IsOnWay R.remaining network.now first readers.old intake.old [] given 0 sites.old
         → OnOk result (IsThrough R.remaining network.now first readers.new intake.new sites.new) }
     ensures err { (first : List R) (given : Given) → IsOnWay R.remaining network.now first readers.old intake.old [] given 0 sites.old → ((place : ℕ → ℕ) → AreEarly place sites.old)
@@ -453,7 +497,7 @@ pub(crate) fn go_through<R: Read, F: NewFile>(
         };
         end = end_of(end, first, look);
         take_in(alloc, intake, readers, sites, end)?;
-        window(alloc, network, sites, end)?;
+        window(alloc, network, sites, origins, end)?;
         hand_over(sites, files)?;
     }
     Ok(())
@@ -479,4 +523,19 @@ pub(crate) fn counts_of<F: NewFile>(
         first = next;
     }
     Ok(counts)
+}
+
+/// Returns the counts of each switch, and what was wanted of its run.
+pub(crate) fn measured_of(
+    alloc: Global,
+    sites: Vec<Site>,
+) -> Result<Vec<(Counts<Global>, Measured<'static, Global>)>, AllocError>
+    requires { All (λ s. s.paced.failed ≡ false) sites.items }
+    ensures { IfOk result (λ all. AllZip HasEnded sites.items all.items) }
+{
+    let mut all = Vec::new(alloc);
+    for site in sites {
+        all.push(site.into_measured()?)?;
+    }
+    Ok(all)
 }

@@ -25,7 +25,7 @@ texts_in outputs = map (λ o. (o.port, o.gone ++ o.text)) outputs
 abbrev pub gone_in : List Output → List (List ℕ)
 gone_in outputs = map (λ o. o.gone) outputs
 
--- each file has the bytes at its place behind what it had at the start
+-- each file has the bytes at its place after what it had at the start
 pub record HaveGone {F : Type 0} (contents : F → Option (List ℕ)) (start now : List F) (all : List (List ℕ)) : Type 0 where
   pub long : length now ≡ length start
   pub each : (place : ℕ) (f g : F) (bytes : List ℕ) → slice_get start place ≡ Some f → slice_get now place ≡ Some g → slice_get all place ≡ Some bytes

@@ -211,9 +211,9 @@ pub record IsPortAt (sites : List Site) (e : End) (place : ℕ) : Type 0 where
 abbrev pub after_putting : ℕ → Record → Site → Site
 after_putting port frame s = record { paced = after_put port frame s.paced; left = s.left; gone = s.gone; next = Some (earlier s.next frame.stamp) }
 
--- a switch at which nothing came in
-pub record IsFresh (t : Content) (s : Site) : Type 0 where
-  pub paced : s.paced ≡ fresh_paced t
+-- a switch at which nothing came in, which keeps its lists or not
+pub record IsFresh (keeps : Bool) (t : Content) (s : Site) : Type 0 where
+  pub paced : s.paced ≡ fresh_paced keeps t
   pub left : s.left ≡ map (λ p. (p.id, capture_text [])) t.ports
   pub gone : s.gone ≡ map (λ p. []) t.ports
   pub next : IsNext s.paced s.next

@@ -1,6 +1,5 @@
 -- A run in the course of its windows: what was given so far, and where it stops.
-use Rattle.std.specs.Prelude.{◌≡◌, ◌≤◌, ◌++◌, ℕ, List, [], All, Option, None, Vec}
-use Rattle.afdx_count.specs.Tally.{Tally}
+use Rattle.std.specs.Prelude.{◌≡◌, ◌≤◌, ◌++◌, ℕ, false, List, [], length, All, Option, None}
 use Rattle.afdx_load.specs.Accepted.{IsAccepted}
 use Rattle.afdx_merging.specs.Merge.{Arrival}
 use Rattle.afdx_wiring.specs.Net.{Network}
@@ -10,8 +9,8 @@ use Rattle.afdx_network.specs.declared.fault.Stop.{Stop}
 use Rattle.afdx_network.specs.declared.fault.Stop.TheVariants as stop
 use Rattle.afdx_network.specs.declared.intake.Intake.{Intake}
 use Rattle.afdx_network.specs.Runs.{Given}
-use Rattle.afdx_network.specs.Given.{HasOrder, NoneShareAPort, IsWireFault}
-use Rattle.afdx_network.specs.Inner.Sites.{Site, HasSent, AreCarried, HaveCome, AreEarly, counts_at, texts_of}
+use Rattle.afdx_network.specs.Given.{HasOrder, NoneShareAPort, IsWireFault, AreGivenBy}
+use Rattle.afdx_network.specs.Inner.Sites.{Site, HasSent, AreCarried, HaveCome, AreEarly, gone_of}
 use Rattle.afdx_network.specs.Inner.Outputs.{HaveGone}
 use Rattle.afdx_network.specs.Inner.Intake.{HasTaken, AreGivenSoFar, IsIntakeFault, IsNotBefore, NoneCameLate, next_of}
 
@@ -56,11 +55,22 @@ abbrev pub IsStop : {R : Type 0} → (R → Option (List ℕ)) → Network → L
 IsStop remaining net first now i (stop.Intake why) = IsIntakeFault remaining net first why
 IsStop remaining net first now i (stop.Run why) = StopsOnWay remaining net first now i why
 
--- nothing is left of a run, and all that left is in the files: these are the counts
-pub record HasRunThrough {R F Z : Type 0} (remaining : R → Option (List ℕ)) (contents : F → Option (List ℕ)) (net : Network) (first now : List R) (i : Intake) (old new : List F)
-    (counts : Vec Tally Z) : Type 0 where
-  pub sites : List Site
+-- nothing is left of a run; of what left these switches only a last part is not in the files
+pub record HasRunThrough {R F : Type 0} (remaining : R → Option (List ℕ)) (contents : F → Option (List ℕ)) (net : Network) (first now : List R) (i : Intake) (old new : List F)
+    (sites : List Site) : Type 0 where
   pub through : IsThrough remaining net first now i sites
   pub one_each : NoneShareAPort net
-  pub counted : counts.items ≡ counts_at sites
-  pub gone : HaveGone contents old new (texts_of sites)
+  pub going : All (λ s. s.paced.failed ≡ false) sites
+  pub files : length new ≡ length (gone_of sites)
+  pub gone : HaveGone contents old new (gone_of sites)
+
+-- so it is of a run over all that the readers give
+pub record IsRunOver {R F : Type 0} (remaining : R → Option (List ℕ)) (contents : F → Option (List ℕ)) (net : Network) (first : List R) (old new : List F) (sites : List Site) : Type 0 where
+  pub given : Given
+  pub given_by : AreGivenBy remaining net first given
+  pub carried : AreCarried net given sites
+  pub sent : All (HasSent None) sites
+  pub one_each : NoneShareAPort net
+  pub going : All (λ s. s.paced.failed ≡ false) sites
+  pub files : length new ≡ length (gone_of sites)
+  pub gone : HaveGone contents old new (gone_of sites)

@@ -1,80 +1,37 @@
-use Rattle.std.proofs.Common.{List, subst}
-use Rattle.afdx_network.specs.declared.fault.Stop.{Stop}
+use Rattle.std.proofs.Common.{◌≡◌, List, sym, ap, subst}
+use Rattle.afdx_network.specs.declared.fault.NetworkRunFault.TheVariants as fault
 use Rattle.afdx_network.specs.Given.{IsFaultOver, IsUncheckedRefusal}
-use Rattle.afdx_network.specs.Inner.Windows.{IsStop}
-use Rattle.afdx_network.proofs.Answering.{of_error}
+use Rattle.afdx_network.proofs.AllLeft.{are_formed}
 use Rattle.afdx_network.proofs.Answered.{answered}
-use Rattle.afdx_network.proofs.Stopping.{intake_refuses, stop_refuses}
+use Rattle.afdx_network.proofs.Answering.{of_error}
 use Rattle.afdx_network.proofs.running.run_unchecked.Goals as goal
 
-pub returns-in_err-intake-clause-err : goal.returns-in_err-intake-clause-err
-returns-in_err-intake-clause-err g c =
+pub returns-in_err-sites-clause-err : goal.returns-in_err-sites-clause-err
+returns-in_err-sites-clause-err g c =
+    of_error (IsFaultOver g.R.Read.remaining c.args.network.now c.args.readers.now (IsUncheckedRefusal c.args.network.now)) c.from_residual.result c.in_err-sites.field-0.0 c.from_residual.ensures
+    c.in_err-sites.ensures.err
+
+pub counts_of-requires-clause-going : goal.counts_of-requires-clause-going
+counts_of-requires-clause-going g c = c.in_ok-sites.ensures.ok.going
+
+pub counts_of-requires-clause-files : goal.counts_of-requires-clause-files
+counts_of-requires-clause-files g c = c.in_ok-sites.ensures.ok.files
+
+pub returns-in_err-counts_of-clause-err : goal.returns-in_err-counts_of-clause-err
+returns-in_err-counts_of-clause-err g c =
+    of_error (IsFaultOver g.R.Read.remaining c.args.network.now c.args.readers.now (IsUncheckedRefusal c.args.network.now)) c.from_residual-in_err-counts_of.result fault.Memory
+    c.from_residual-in_err-counts_of.ensures tt
+
+pub returns-clause-ok : goal.returns-clause-ok
+returns-clause-ok g c =
     let net = c.args.network.now in
-    let why = c.in_err-intake.field-0.0 in
-    of_error (IsFaultOver g.R.Read.remaining net c.args.readers.now (IsUncheckedRefusal net)) c.from_residual.result why c.from_residual.ensures
-    (intake_refuses g.R.Read.remaining net c.args.readers.now why c.requires.readers c.in_err-intake.ensures.err)
-
-pub go_on-requires-clause-taken : goal.go_on-requires-clause-taken
-go_on-requires-clause-taken g c = (c.args.readers.now, c.in_ok-intake.ensures.ok)
-
-pub end-requires : goal.end-requires
-end-requires g c =
-    let h = c.in-Ok.ensures.ok c.args.readers.now c.in_ok-intake.ensures.ok in
-    (c.args.network.now, c.args.readers.now, h.through.came, h.through.taken)
-
-pub returns-in_ok-end-in-Ok-clause-ok : goal.returns-in_ok-end-in-Ok-clause-ok
-returns-in_ok-end-in-Ok-clause-ok g c =
-    let net = c.args.network.now in
-    let first = c.args.readers.now in
-    let h = c.in-Ok.ensures.ok first c.in_ok-intake.ensures.ok in
-    let a = answered c.each_file_has_one_reading.ensures.one_list c.out_goes_on.ensures c.out_is_in_order.ensures c.what_is_written_is_a_capture.ensures
-    g.R.Read.remaining g.F.NewFile.contents net first
-    c.go_on.new.readers c.go_on.new.intake c.args.files.now c.go_on.new.files c.in-Ok.counts h (c.in_ok-end-in-Ok.ensures.ok net first h.through.came h.through.taken) in
+    let over = c.in_ok-sites.ensures.ok in
+    let counted = c.in_ok-counts_of.ensures in
+    let a = answered c.out_goes_on.ensures c.out_is_in_order.ensures c.what_is_written_is_a_capture.ensures g.R.Read.remaining g.F.NewFile.contents net c.args.readers.now c.args.files.now
+    c.run_through.new.files c.counts_of.new.files c.in_ok-sites.sites.items c.in_ok-counts_of.field-0.items over counted.counts (counted.gone c.args.files.now over.gone) in
     (a.given, a.came, a.left, a.given_by, a.run, a.put)
 
-pub returns-in_ok-end-in-Ok-clause-formed : goal.returns-in_ok-end-in-Ok-clause-formed
-returns-in_ok-end-in-Ok-clause-formed g c =
-    let net = c.args.network.now in
-    let first = c.args.readers.now in
-    let h = c.in-Ok.ensures.ok first c.in_ok-intake.ensures.ok in
-    (answered c.each_file_has_one_reading.ensures.one_list c.out_goes_on.ensures c.out_is_in_order.ensures c.what_is_written_is_a_capture.ensures g.R.Read.remaining g.F.NewFile.contents net first
-    c.go_on.new.readers c.go_on.new.intake c.args.files.now c.go_on.new.files c.in-Ok.counts h (c.in_ok-end-in-Ok.ensures.ok net first h.through.came h.through.taken)).formed
-
-pub returns-in_err-end-in-Ok-clause-err : goal.returns-in_err-end-in-Ok-clause-err
-returns-in_err-end-in-Ok-clause-err g c =
-    let net = c.args.network.now in
-    let first = c.args.readers.now in
-    let h = c.in-Ok.ensures.ok first c.in_ok-intake.ensures.ok in
-    let why = c.in_err-end-in-Ok.field-0.0 in
-    of_error (IsFaultOver g.R.Read.remaining net first (IsUncheckedRefusal net)) c.from_residual-in_err-end-in-Ok.result why c.from_residual-in_err-end-in-Ok.ensures
-    (intake_refuses g.R.Read.remaining net first why c.requires.readers (c.in_err-end-in-Ok.ensures.err net first h.through.came h.through.taken))
-
-pub returns-in-Err-Intake-clause-err : goal.returns-in-Err-Intake-clause-err
-returns-in-Err-Intake-clause-err g c =
-    let net = c.args.network.now in
-    let first = c.args.readers.now in
-    intake_refuses g.R.Read.remaining net first c.in-Err-Intake.fault c.requires.readers
-    (subst (IsStop g.R.Read.remaining net first c.go_on.new.readers c.go_on.new.intake) c.in-Err-Intake.field-0-is (c.in-Err-Intake.ensures.err first c.in_ok-intake.ensures.ok))
-
-pub end-requires-in-Err-Run : goal.end-requires-in-Err-Run
-end-requires-in-Err-Run g c =
-    let net = c.args.network.now in
-    let first = c.args.readers.now in
-    let s = subst (IsStop g.R.Read.remaining net first c.go_on.new.readers c.go_on.new.intake) c.in-Err-Run.field-0-is (c.in-Err-Run.ensures.err first c.in_ok-intake.ensures.ok) in
-    (net, first, s.came, s.taken)
-
-pub returns-in_ok-end-in-Err-Run-clause-err : goal.returns-in_ok-end-in-Err-Run-clause-err
-returns-in_ok-end-in-Err-Run-clause-err g c =
-    let net = c.args.network.now in
-    let first = c.args.readers.now in
-    let s = subst (IsStop g.R.Read.remaining net first c.go_on.new.readers c.go_on.new.intake) c.in-Err-Run.field-0-is (c.in-Err-Run.ensures.err first c.in_ok-intake.ensures.ok) in
-    stop_refuses g.R.Read.remaining net first c.go_on.new.readers c.go_on.new.intake c.in-Err-Run.fault s (c.in_ok-end-in-Err-Run.ensures.ok net first s.came s.taken)
-
-pub returns-in_err-end-in-Err-Run-clause-err : goal.returns-in_err-end-in-Err-Run-clause-err
-returns-in_err-end-in-Err-Run-clause-err g c =
-    let net = c.args.network.now in
-    let first = c.args.readers.now in
-    let s = subst (IsStop g.R.Read.remaining net first c.go_on.new.readers c.go_on.new.intake) c.in-Err-Run.field-0-is (c.in-Err-Run.ensures.err first c.in_ok-intake.ensures.ok) in
-    let why = c.in_err-end-in-Err-Run.field-0.0 in
-    of_error (IsFaultOver g.R.Read.remaining net first (IsUncheckedRefusal net)) c.from_residual-in_err-end-in-Err-Run.result why c.from_residual-in_err-end-in-Err-Run.ensures
-    (intake_refuses g.R.Read.remaining net first why c.requires.readers (c.in_err-end-in-Err-Run.ensures.err net first s.came s.taken))
+pub returns-clause-formed : goal.returns-clause-formed
+returns-clause-formed g c =
+    let over = c.in_ok-sites.ensures.ok in
+    are_formed c.args.network.now over.given c.in_ok-sites.sites.items over.carried

@@ -15,6 +15,7 @@ loop-init c = record {
   reached = λ h all. all;
   ok = λ given begin end le w. (w, all_stay end c.args.sites.now);
   early = λ given begin end le w none accepted early. early;
+  noted = λ keeps known. known;
 }
 
 pub loop-preserved : goal.loop-preserved
@@ -33,6 +34,7 @@ loop-preserved c =
           (is.window, all_on end c.args.sites.now c.loop.sites c.carry.new.sites was.1 is.on);
       early = λ given begin end le w none accepted early.
           now.early given begin end le (before.ok given begin end le w).0 none accepted (before.early given begin end le w none accepted early);
+      noted = λ keeps known. now.noted keeps (before.noted keeps known);
     }
 
 pub loop-smaller : goal.loop-smaller
@@ -63,3 +65,6 @@ pub returns-in_err-carry-clause-early : goal.returns-in_err-carry-clause-early
 returns-in_err-carry-clause-early c = λ given begin end le w none accepted early.
     match_error (λ _. AreEarly none.order.place c.carry.new.sites) (λ why. why ≡ fault.Memory) c.from_residual.result c.in_err-carry.field-0.0 c.from_residual.ensures
     (c.in_err-carry.ensures.early given begin end le (c.loop.invariant.ok given begin end le w).0 none accepted (c.loop.invariant.early given begin end le w none accepted early))
+
+pub returns-clause-noted : goal.returns-clause-noted
+returns-clause-noted c = λ keeps known. c.in_ok-carry.ensures.noted keeps (c.loop.invariant.noted keeps known)

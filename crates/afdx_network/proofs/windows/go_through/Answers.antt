@@ -16,6 +16,7 @@ use Rattle.afdx_network.proofs.Answering.{of_error}
 use Rattle.afdx_network.proofs.Choosing.{sooner, no_sooner}
 use Rattle.afdx_network.proofs.Going.{OnTheRun, run_begins, way_later, opens_at, window_on, goes_then, going_handed, none_came_late, soon_before, run_is_quiet, run_ends, stops, next_early, none_then}
 use Rattle.afdx_network.proofs.Going.{none_first, gone_as_many, same_gone, reached_by, no_memory}
+use Rattle.afdx_network.proofs.Noting.{noted_handed}
 use Rattle.afdx_network.proofs.Rounds.{still_going}
 use Rattle.afdx_network.proofs.windows.go_through.Goals as goal
 
@@ -24,6 +25,7 @@ loop-alloc-init g c = record {
   run = run_begins g.R.Read.remaining c.args.network.now c.args.readers.now c.args.intake.now c.args.sites.now c.requires.going c.requires.all;
   files = c.requires.files;
   gone = λ start have. have;
+  noted = λ keeps known. known;
 }
 
 pub loop-alloc-smaller : goal.loop-alloc-smaller
@@ -97,6 +99,7 @@ loop-alloc-preserved g c =
       };
       files = c.hand_over.auto.files ∙ l.invariant.files ∙ sym (ap (λ (all : List (List ℕ)). length all) same) ∙ sym (gone_as_many new handed over.same);
       gone = λ from have. over.gone from (subst (HaveGone g.F.NewFile.contents from l.files) (sym same) (l.invariant.gone from have));
+      noted = λ keeps known. noted_handed net keeps c.window.new.origins new handed over.same (now.noted keeps (took.noted net keeps l.origins (l.invariant.noted keeps known)));
     }
 
 pub returns-clause-going : goal.returns-clause-going
@@ -180,3 +183,9 @@ returns-in_err-hand_over-clause-err g c = λ first given w early.
     let on = (c.in_ok-take_in.ensures.ok net first was.more was.given n later).0 in
     of_error (IsStop rem net first c.take_in.new.readers c.take_in.new.intake) c.from_residual-in_err-hand_over.result (stop.Run fault.Memory) c.from_residual-in_err-hand_over.ensures
     (no_memory rem net first c.take_in.new.readers c.take_in.new.intake (was.more ++ on.more) on.on.taken)
+
+pub returns-clause-noted : goal.returns-clause-noted
+returns-clause-noted g c = λ keeps known. c.loop-alloc.invariant.noted keeps known
+
+pub returns-in_default-clause-noted : goal.returns-in_default-clause-noted
+returns-in_default-clause-noted g c = λ keeps known. c.loop-alloc.invariant.noted keeps known

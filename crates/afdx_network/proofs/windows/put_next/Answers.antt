@@ -13,6 +13,7 @@ use Rattle.afdx_network.specs.Inner.Windows.{IsStop}
 use Rattle.afdx_network.proofs.Answering.{of_error}
 use Rattle.afdx_network.proofs.Feeding.{fine, comes_in, next_within}
 use Rattle.afdx_network.proofs.Going.{no_memory}
+use Rattle.afdx_network.proofs.Noting.{noted_in}
 use Rattle.afdx_network.proofs.Places.{map_stays}
 use Rattle.afdx_network.proofs.windows.put_next.Goals as goal
 
@@ -140,3 +141,20 @@ returns-in_ok-put-in-Ok-Some-clause-gone g c =
     let d = c.index-sites-to.result in
     let at = slice_get-get_or sites to.switch d (next_within rem t.0 t.1 c.next.new.readers before after t.2 to frame sites t.4 (next t.0 t.1 t.2 t.3)) in
     map_stays (λ (s : Site). s.gone) sites to.switch c.put.new.self (get_or sites to.switch d) at (ap (λ (s : Site). s.gone) c.in_ok-put-in-Ok-Some.ensures.ok.1)
+
+pub returns-in_ok-put-in-Ok-Some-clause-noted : goal.returns-in_ok-put-in-Ok-Some-clause-noted
+returns-in_ok-put-in-Ok-Some-clause-noted g c = λ net keeps origins known.
+    let rem = g.R.Read.remaining in
+    let before = c.args.intake.now in
+    let after = c.next.new.self in
+    let to = c.in-Ok-Some.to in
+    let frame = c.in-Ok-Some.frame in
+    let next = subst (λ (o : Option (End × Record)). IfSome o (λ both. (net : Network) (first : List g.row.R.Denot) (came : List Arrival) → HasTaken rem net first c.args.readers.now before came
+    → IsNextIn rem net first c.next.new.readers before after came both.0 both.1)) c.in-Ok-Some.field-0-is c.in-Ok-Some.ensures.some in
+    let sites = c.args.sites.now in
+    let t = c.requires.on in
+    let d = c.index-sites-to.result in
+    let at = slice_get-get_or sites to.switch d (next_within rem t.0 t.1 c.next.new.readers before after t.2 to frame sites t.4 (next t.0 t.1 t.2 t.3)) in
+    let put = c.in_ok-put-in-Ok-Some.ensures.ok in
+    noted_in c.later_records_send_nothing.ensures net keeps origins sites (slice_set sites to.switch c.put.new.self) to.switch to.port (get_or sites to.switch d) frame at put.0
+    (ap (slice_set sites to.switch) put.1) known

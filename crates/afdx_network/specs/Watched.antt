@@ -1,0 +1,43 @@
+-- What is known of a run of a network of which nothing goes out.
+use Rattle.std.specs.Prelude.{◌≡◌, ℕ, true, List, [], ◌∷◌, slice_get, Some}
+use Rattle.afdx_table.specs.declared.rows.PortRow.{PortRow}
+use Rattle.afdx_table.specs.Content.{Content, port_row}
+use Rattle.afdx_count.specs.Tally.{Tally}
+use Rattle.afdx_core.specs.Isolation.{IsRun}
+use Rattle.afdx_core.specs.Merge.{merged}
+use Rattle.afdx_core.specs.State.{State, sent_in}
+use Rattle.afdx_session.specs.Texts.{Text}
+use Rattle.afdx_session.specs.Output.{rows_of}
+use Rattle.afdx_session.specs.Outcome.{Results, IsOutcome}
+use Rattle.afdx_wiring.specs.Net.{Network}
+use Rattle.afdx_origins.specs.Origins.{Origins, sent_from}
+use Rattle.afdx_origins.specs.Laws.{KeepBounds}
+use Rattle.afdx_network.specs.Runs.{Given, IsUncheckedRunOf}
+use Rattle.afdx_network.specs.Laws.{IsOfFile, IsFittingNetwork}
+use Rattle.afdx_network.specs.Inner.Sites.{end_at}
+
+-- a switch of the network over the texts that came in there: the counts of its outcome, and a finished switch that took the program's merge
+-- of their records
+pub record IsEnded (t : Content) (texts : List Text) (left : Results) (both : Tally × State) : Type 0 where
+  pub outcome : IsOutcome t texts left
+  pub counts : both.0 ≡ left.counts
+  pub table : both.1.run.table ≡ t
+  pub rows : both.1.run.rows ≡ rows_of t (merged outcome.read)
+  pub is_run : IsRun both.1.run
+  pub all : both.1.run.finished ≡ true
+
+abbrev pub AreEnded : List Content → List (List Text) → List Results → List (Tally × State) → Type 0
+AreEnded [] [] [] [] = Unit {0}
+AreEnded (t ∷ tables) (texts ∷ came) (results ∷ left) (both ∷ switches) = IsEnded t texts results both × AreEnded tables came left switches
+AreEnded _ _ _ _ = ⊥
+
+-- the copies that were noted of each port are those that it sent, in their order
+pub record HaveSent (net : Network) (switches : List (Tally × State)) (o : Origins) : Type 0 where
+  pub network : o.net ≡ net
+  pub each : (switch : ℕ) (both : Tally × State) (p : PortRow) → slice_get switches switch ≡ Some both → port_row both.1.run.table p.id ≡ Some p
+      → sent_from o.sent (end_at switch p.id) ≡ sent_in both.1.run (Some p)
+
+-- where the tables fit together and are accepted, no copy that was noted has ended later than its port's bound allows
+abbrev pub WatchedRunsKeepBounds : Type 0
+WatchedRunsKeepBounds = (net : Network) (given : Given) (came : List (List Text)) (left : List Results) (switches : List (Tally × State)) (o : Origins) → IsOfFile net → IsFittingNetwork net
+    → IsUncheckedRunOf net given came left → AreEnded net.tables came left switches → HaveSent net switches o → KeepBounds net o.sent
