@@ -27,6 +27,21 @@ runs_as_modelled() {
         cmp wanted.txt lines.txt && [ ! -s said.txt ] && diff -r wanted out
 }
 
+# measured_as_modelled COMMAND [--unchecked]: so are the lines of this command, and nothing is put.
+measured_as_modelled() {
+    ls -lR work >before.txt
+    "$afdx" network "$1" work/network.toml work/in "${@:2}" >measured.txt 2>said.txt &&
+        python3 "$top/end_to_end/network_answers.py" "$1" work/network.toml work/in "${@:2}" >wanted.txt &&
+        [ -s measured.txt ] && cmp wanted.txt measured.txt && [ ! -s said.txt ] && ls -lR work | cmp before.txt -
+}
+
+# traced_as_modelled: so are the two files of each switch.
+traced_as_modelled() {
+    rm -rf out wanted && mkdir -p out/cabin out/bay out/cockpit wanted
+    ends 0 "" /dev/null network trace work/network.toml work/in out &&
+        python3 "$top/end_to_end/network_answers.py" trace work/network.toml work/in wanted && diff -r wanted out
+}
+
 # readme_shows COUNT: so many of README's lines are among these.
 readme_shows() {
     [ "$(grep -cxFf lines.txt "$top/README.md")" -eq "$1" ]
@@ -176,6 +191,10 @@ check "a jitter past 10 ms" past
 fresh
 check "the run of the example" runs_as_modelled
 check "README shows lines of it" readme_shows 3
+check "what its frames took from end to end, and its buffers" measured_as_modelled measure
+check "the same with the reports, and when links were policed" measured_as_modelled survey
+check "what they took, of whatever network" measured_as_modelled measure --unchecked
+check "what became of its frames, from switch to switch" traced_as_modelled
 check "the camera disturbs no other link, two switches away" undisturbed
 check "a table elsewhere" absolute
 check "an outage of a cable" outage_as_modelled '/^delay_ns = 40/ a down = true'
@@ -224,6 +243,9 @@ check "few files that may be open" few_open_files
 check "no table" no_table
 check "help of network" helps network --help
 check "help of network check" helps network check --help
+check "help of network measure" helps network measure --help
+check "help of network survey" helps network survey --help
+check "help of network trace" helps network trace --help
 check "no command of networks" ends 2 "afdx: usage" /dev/null network
 check "networks that are drawn by chance, with hostile senders" python3 "$top/end_to_end/networks.py" 60 "$afdx" "$room/drawn"
 grep networks "$room/said"

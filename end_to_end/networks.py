@@ -20,6 +20,7 @@ from random import Random
 
 import babblers
 import model
+import network_answers
 import network_model
 from captures import frame
 from network_model import End, Network, Row, Wire
@@ -372,8 +373,11 @@ def wrong_in(cut: Network, net: Network, given: dict[End, bytes], outcomes: dict
 def differs(afdx: str, room: Path, net: Network, given: dict[End, bytes], outcomes: dict[str, model.Outcome]) -> Iterator[str]:
     """Where the program says something else than the model."""
     lay_out(room, net, given)
+    sites = network_answers.sites_of(net, given, outcomes)
     wanted = [(["check", "net.toml"], network_model.check(net)), (["jitter", "net.toml"], network_model.jitter_lines(net)),
-              (["run", "net.toml", "in", "out"], network_model.report(net, outcomes))]
+              (["run", "net.toml", "in", "out"], network_model.report(net, outcomes)),
+              (["measure", "net.toml", "in"], network_answers.measure(net, sites, False)),
+              (["survey", "net.toml", "in"], network_answers.survey(net, sites, False))]
     for arguments, said in wanted:
         if answer(afdx, room, *arguments) != (0, said, ""):
             yield f"network {arguments[0]}"
@@ -381,6 +385,41 @@ def differs(afdx: str, room: Path, net: Network, given: dict[End, bytes], outcom
         for port, text in outcomes[name].captures.items():
             if (room / "out" / name / f"port-{port}.pcap").read_bytes() != text:
                 yield f"{name}/port-{port}.pcap"
+
+
+def strained(net: Network) -> Network:
+    """The network with no jitter past the sources, small buffers and little patience: frames are policed and lost at any switch."""
+    tight = copy.deepcopy(net)
+    for row in tight.rows:
+        if network_model.row_before(tight, row):
+            row.link.jitter = 0
+    for table in tight.tables.values():
+        for port in table.ports:
+            port.buffer, port.max_delay = 2000, 200_000
+    return tight
+
+
+def strains(afdx: str, room: Path, net: Network, given: dict[End, bytes]) -> Iterator[str]:
+    """Where the program measures something else than the model, of frames that are lost on their way."""
+    tight = strained(net)
+    lay_out(room, tight, given)
+    sites = network_answers.sites_of(tight, given, network_answers.outcomes_of(tight, given, True))
+    for command, said in network_answers.PRINTED.items():
+        if answer(afdx, room, command, "net.toml", "in", "--unchecked") != (0, said(tight, sites, True), ""):
+            yield f"network {command} --unchecked"
+    if answer(afdx, room, "trace", "net.toml", "in", "out", "--unchecked") != (0, "", ""):
+        yield "network trace --unchecked"
+    for name, text in network_answers.trace(tight, sites).items():
+        if (room / "out" / name).read_text() != text:
+            yield name
+
+
+def within_of(net: Network, given: dict[End, bytes], outcomes: dict[str, model.Outcome]) -> Iterator[str]:
+    """Where a delay from end to end lies beside what is promised of its way."""
+    for line in network_answers.measure(net, network_answers.sites_of(net, given, outcomes), False).splitlines():
+        words = line.split()
+        if words[0] == "link" and words[7] != "0" and not int(words[13]) <= int(words[9]) <= int(words[11]) <= int(words[15]):
+            yield line
 
 
 def main() -> None:
@@ -398,9 +437,10 @@ def main() -> None:
         outcomes = network_model.run(net, sent)
         inner += sum(len(model.records_of(outcomes[wire.start.switch].captures[wire.start.port], 0)) for wire in net.wires)
         ties += ties_of(net, sent, outcomes)
-        wrong = list(wrong_of(net, sent, outcomes))
+        wrong = list(wrong_of(net, sent, outcomes)) + list(within_of(net, sent, outcomes))
         if given.afdx:
             wrong += differs(given.afdx, given.room / str(number), net, sent, outcomes)
+            wrong += strains(given.afdx, given.room / f"{number}-strained", net, sent)
             wrong += falls_short(given.afdx, chance, given.room / f"{number}-short", net)
         cut = in_an_outage(chance, net)
         after = network_model.run(cut, sent)

@@ -48,6 +48,8 @@ ROOTS = [
     ("afdx_network", "printed_delays_are_kept"),
     ("afdx_network", "others_change_nothing_in_networks"),
     ("afdx_network", "lesser_ways_deliver"),
+    ("afdx_origins", "none_takes_more_than_its_way"),
+    ("afdx_network", "watched_runs_keep_bounds"),
     ("afdx_serve", "serve"),
 ]
 

@@ -24,7 +24,7 @@ use Rattle.afdx_arguments.specs.declared.request.NetworkRequest.{NetworkRequest}
 use Rattle.afdx_arguments.specs.declared.request.Request.{Request}
 use Rattle.afdx_arguments.specs.declared.request.Request.TheVariants as request
 use Rattle.afdx_arguments.specs.Commands.{alone_app, check_app, size_app, paths_app, run_app, inputs_app, trace_app, explain_app, compare_app, program}
-use Rattle.afdx_arguments.specs.Commands.{network_path_app, network_run_app, network_program}
+use Rattle.afdx_arguments.specs.Commands.{network_path_app, network_paths_app, network_run_app, network_inputs_app, network_program}
 use Rattle.afdx_arguments.specs.Explaining.{HasEntry}
 use Rattle.afdx_arguments.specs.Requests.{HasRecordings, HasNumber, HasLink, AsksFor, AsksOfNetwork, AsksIn, Explains, Reads}
 use Rattle.afdx_arguments.specs.Requests.{is_network, fault_in, faults_of, HasMatches, HasNoMatches}
@@ -38,11 +38,11 @@ unfolding program alone_app check_app size_app paths_app run_app inputs_app trac
 simple_and_free = refl
 
 pub network_simple : is_simple network_program ≡ true
-unfolding network_program network_path_app network_run_app
+unfolding network_program network_path_app network_paths_app network_run_app network_inputs_app
 network_simple = refl
 
 pub network_simple_and_free : is_simple_and_free network_program ≡ true
-unfolding network_program network_path_app network_run_app
+unfolding network_program network_path_app network_paths_app network_run_app network_inputs_app
 network_simple_and_free = refl
 
 -- a text is one number, or none

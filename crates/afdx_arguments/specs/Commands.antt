@@ -115,20 +115,33 @@ program =
 unfoldable pub network_path_app : Text → App
 network_path_app name = with_rule (with_rule (new_app name) (path_rule (codes "NET"))) csv_rule
 
+-- network NAME NET IN OUT [--unchecked]
+unfoldable pub network_paths_app : Text → App
+network_paths_app name =
+    with_rule (with_rule (with_rule (with_rule (new_app name) (path_rule (codes "NET"))) (path_rule (codes "IN"))) (path_rule (codes "OUT")))
+    (flag_rule (codes "unchecked"))
+
 -- network run NET IN OUT [--unchecked] [--csv]
 unfoldable pub network_run_app : App
-network_run_app =
-    with_rule
-    (with_rule (with_rule (with_rule (with_rule (new_app (codes "run")) (path_rule (codes "NET"))) (path_rule (codes "IN"))) (path_rule (codes "OUT")))
-    (flag_rule (codes "unchecked"))) csv_rule
+network_run_app = with_rule (network_paths_app (codes "run")) csv_rule
+
+-- network NAME NET IN [--unchecked]
+unfoldable pub network_inputs_app : Text → App
+network_inputs_app name = with_rule (with_rule (with_rule (new_app name) (path_rule (codes "NET"))) (path_rule (codes "IN"))) (flag_rule (codes "unchecked"))
 
 -- network, which wants a subcommand
 abbrev pub bare_network : App
 bare_network = on_top (λ s. record s { subcommand_required = true }) (new_app (codes "network"))
 
+-- with check and size, then with jitter and run, then with measure and survey
+abbrev pub network_checks : App
+network_checks = with_subcommand (with_subcommand bare_network (network_path_app (codes "check")).top) (network_path_app (codes "size")).top
+
+abbrev pub network_runs : App
+network_runs = with_subcommand (with_subcommand network_checks (network_path_app (codes "jitter")).top) network_run_app.top
+
+abbrev pub network_answers : App
+network_answers = with_subcommand (with_subcommand network_runs (network_inputs_app (codes "measure")).top) (network_inputs_app (codes "survey")).top
+
 unfoldable pub network_program : App
-network_program =
-    with_subcommand
-    (with_subcommand (with_subcommand (with_subcommand bare_network (network_path_app (codes "check")).top) (network_path_app (codes "size")).top)
-    (network_path_app (codes "jitter")).top)
-    network_run_app.top
+network_program = with_subcommand network_answers (network_paths_app (codes "trace")).top

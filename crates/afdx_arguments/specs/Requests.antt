@@ -16,6 +16,7 @@ use Rattle.afdx_arguments.specs.declared.request.RunOptions.{RunOptions}
 use Rattle.afdx_arguments.specs.declared.request.TraceOptions.{TraceOptions}
 use Rattle.afdx_arguments.specs.declared.request.Inputs.{Inputs}
 use Rattle.afdx_arguments.specs.declared.request.Compare.{Compare}
+use Rattle.afdx_arguments.specs.declared.request.NetworkInputs.{NetworkInputs}
 use Rattle.afdx_arguments.specs.declared.request.NetworkPaths.{NetworkPaths}
 use Rattle.afdx_arguments.specs.declared.request.NetworkRequest.{NetworkRequest}
 use Rattle.afdx_arguments.specs.declared.request.NetworkRequest.TheVariants as network
@@ -154,6 +155,13 @@ pub record HasCompare (rows : List Row) (compare : Compare) : Type 0 where
 
 -- ---- subcommands
 
+-- the entries name the files of a network's run of which nothing is put, and whether it is unchecked
+pub record HasNetworkInputs (rows : List Row) (inputs : NetworkInputs) : Type 0 where
+  pub network : first_of (codes "NET") rows ≡ Some inputs.network.now
+  pub input : first_of (codes "IN") rows ≡ Some inputs.input.now
+  pub has_input : inputs.input.now ≢ []
+  pub unchecked : inputs.unchecked ≡ is_set (codes "unchecked") rows
+
 -- the entries name the files of a network's run, and whether it is unchecked
 pub record HasNetworkPaths (rows : List Row) (paths : NetworkPaths) : Type 0 where
   pub network : first_of (codes "NET") rows ≡ Some paths.network.now
@@ -170,6 +178,9 @@ AsksOfNetwork (Some (name, rows)) (network.Check path form) = (name ≡ codes "c
 AsksOfNetwork (Some (name, rows)) (network.Size path form) = (name ≡ codes "size") × (first_of (codes "NET") rows ≡ Some path.now) × (form ≡ form_in rows)
 AsksOfNetwork (Some (name, rows)) (network.Jitter path form) = (name ≡ codes "jitter") × (first_of (codes "NET") rows ≡ Some path.now) × (form ≡ form_in rows)
 AsksOfNetwork (Some (name, rows)) (network.Run paths form) = (name ≡ codes "run") × HasNetworkPaths rows paths × (form ≡ form_in rows)
+AsksOfNetwork (Some (name, rows)) (network.Measure inputs) = (name ≡ codes "measure") × HasNetworkInputs rows inputs
+AsksOfNetwork (Some (name, rows)) (network.Survey inputs) = (name ≡ codes "survey") × HasNetworkInputs rows inputs
+AsksOfNetwork (Some (name, rows)) (network.Trace paths) = (name ≡ codes "trace") × HasNetworkPaths rows paths
 
 -- the subcommand and its entries ask for this
 abbrev pub AsksFor : Option (Text × List Row) → Request → Type 0

@@ -27,6 +27,6 @@ pub use arguments::parse;
 pub use explaining::{is_explained, plain_of};
 pub use fail_on::FailOn;
 pub use request::{
-    Compare, Inputs, NetworkPaths, NetworkRequest, NoRequest, Paths, Request, RunOptions,
-    TraceOptions,
+    Compare, Inputs, NetworkInputs, NetworkPaths, NetworkRequest, NoRequest, Paths, Request,
+    RunOptions, TraceOptions,
 };

@@ -2,12 +2,13 @@
 
 ghost use Rattle.std.specs.Prelude.{MatchOption};
 ghost use Rattle.clap.specs.Words.{found_of, rows_of, subcommand_rows_of};
+ghost use Rattle.afdx_arguments.specs.declared.request.NetworkInputs.{NetworkInputs as GivenFiles};
 ghost use Rattle.afdx_arguments.specs.declared.request.NetworkPaths.{NetworkPaths as Files};
 ghost use Rattle.afdx_arguments.specs.declared.request.NetworkRequest.{NetworkRequest as Asked};
-ghost use Rattle.afdx_arguments.specs.Requests.{HasNetworkPaths, AsksOfNetwork};
+ghost use Rattle.afdx_arguments.specs.Requests.{HasNetworkInputs, HasNetworkPaths, AsksOfNetwork};
 
 use crate::arguments::{argument, flag, form_of};
-use crate::request::{NetworkPaths, NetworkRequest};
+use crate::request::{NetworkInputs, NetworkPaths, NetworkRequest};
 use clap::ArgMatches;
 
 /// The files of a network's run. An empty argument names no folder.
@@ -26,6 +27,24 @@ fn network_paths_of<'a>(matches: &ArgMatches<'a>) -> Option<NetworkPaths<'a>>
         network,
         input,
         output,
+        unchecked,
+    })
+}
+
+/// The files of a network's run of which nothing is put. An empty argument names no folder.
+fn network_inputs_of<'a>(matches: &ArgMatches<'a>) -> Option<NetworkInputs<'a>>
+    ensures { MatchOption result ((inputs : GivenFiles) → HasNetworkInputs (rows_of (found_of matches.now)) inputs → ⊥)
+        (HasNetworkInputs (rows_of (found_of matches.now))) }
+{
+    let network = argument(matches, "NET")?;
+    let input = argument(matches, "IN")?;
+    if input.is_empty() {
+        return None;
+    }
+    let unchecked = flag(matches, "unchecked");
+    Some(NetworkInputs {
+        network,
+        input,
         unchecked,
     })
 }
@@ -52,6 +71,15 @@ pub(crate) fn network_asked<'a>(matches: &ArgMatches<'a>) -> Option<NetworkReque
         let paths = network_paths_of(inner)?;
         let form = form_of(inner);
         Some(NetworkRequest::Run(paths, form))
+    } else if name == "measure" {
+        let inputs = network_inputs_of(inner)?;
+        Some(NetworkRequest::Measure(inputs))
+    } else if name == "survey" {
+        let inputs = network_inputs_of(inner)?;
+        Some(NetworkRequest::Survey(inputs))
+    } else if name == "trace" {
+        let paths = network_paths_of(inner)?;
+        Some(NetworkRequest::Trace(paths))
     } else {
         None
     }

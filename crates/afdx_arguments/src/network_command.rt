@@ -1,9 +1,9 @@
 //! The command line of networks, as `clap` reads it: the arguments after `afdx`.
 
 ghost use Rattle.std.specs.Prelude.{◌≡◌, codes, false, IfOk};
-ghost use Rattle.clap.specs.Words.{app_of, with_subcommand};
+ghost use Rattle.clap.specs.Words.{app_of};
 ghost use Rattle.clap.specs.declared.builder.command.Command.TheViews.{out-Command};
-ghost use Rattle.afdx_arguments.specs.Commands.{network_path_app, network_run_app, bare_network, network_program};
+ghost use Rattle.afdx_arguments.specs.Commands.{network_path_app, network_paths_app, network_run_app, network_inputs_app, bare_network, network_checks, network_runs, network_answers, network_program};
 
 use crate::command::{csv, flag, path, with_argument, with_command, with_no_arguments};
 use clap::Command;
@@ -56,6 +56,41 @@ check refuses, 5 memory or a device.
 
 Example: mkdir -p out/A out/B && afdx network run network.toml in out";
 
+/// What the help of `measure` says at its end.
+const MEASURE: &str =
+    "Runs the network as run does, and puts nothing. For each link and each port at which
+it leads out of the network: how many of its frames left there, their least and
+greatest delay in ns from the stamp at the first switch to the end on the last line,
+and the bounds that check prints, - with --unchecked. Then for each port of each
+switch how full its buffer was.
+
+Status: 0 done, 2 arguments, 3 no network, table or capture, 4 a network that
+check refuses, 5 memory or a device.
+
+Example: afdx network measure network.toml in";
+
+/// What the help of `trace` says at its end.
+const TRACE: &str =
+    "Runs the network as run does, and puts two files for each switch A, OUT/A/arrivals.csv
+and OUT/A/departures.csv, as trace does for one switch; OUT/A must be there. The
+arrivals have one more column, origin: the number that the frame had among the
+arrivals at its first switch, empty where this is that one.
+
+Status: 0 done, 2 arguments, 3 no network, table or capture, 4 a network that
+check refuses, 5 memory or a device.
+
+Example: mkdir -p out/A out/B && afdx network trace network.toml in out";
+
+/// What the help of `survey` says at its end.
+const SURVEY: &str =
+    "Runs the network as run does, and puts nothing. Writes the report of run, the lines of
+measure, and of each switch when its links were policed and when frames came.
+
+Status: 0 done, 2 arguments, 3 no network, table or capture, 4 a network that
+check refuses, 5 memory or a device.
+
+Example: afdx network survey network.toml in";
+
 /// A command that goes by a network file.
 fn with_path<'a>(
     alloc: Global,
@@ -95,21 +130,82 @@ fn jitter<'a>(alloc: Global) -> Result<Command<'a>, AllocError>
     with_path(alloc, "jitter", about, JITTER)
 }
 
+/// A command over a network, captures and a folder for what is put.
+fn with_paths<'a>(
+    alloc: Global,
+    name: &'a str,
+    about: &'a str,
+    more: &'a str,
+    output: &'a str,
+) -> Result<Command<'a>, AllocError>
+    ensures app { IfOk result (λ c. app_of c ≡ network_paths_app name.entry.now) }
+    ensures local { IfOk result (λ c. (out-Command c).has_globals ≡ false) }
+{
+    let network = path(alloc, "NET", "The network file");
+    let folder = "The folder of a folder of captures for each switch";
+    let input = path(alloc, "IN", folder);
+    let output = path(alloc, "OUT", output);
+    let whatever = "Runs a network that check refuses, too";
+    let unchecked = flag(alloc, "unchecked", whatever);
+    let command = with_no_arguments(alloc, name, about, more).arg(network);
+    with_argument(
+        with_argument(with_argument(command, input), output),
+        unchecked,
+    )
+}
+
 fn run<'a>(alloc: Global) -> Result<Command<'a>, AllocError>
     ensures app { IfOk result (λ c. app_of c ≡ network_run_app) }
     ensures local { IfOk result (λ c. (out-Command c).has_globals ≡ false) }
 {
     let about = "Runs the switches of a network over one capture for each port without a wire";
-    let network = path(alloc, "NET", "The network file");
-    let inputs = "The folder of a folder of captures for each switch";
-    let input = path(alloc, "IN", inputs);
     let outputs = "The folder of a folder for each switch's captures";
-    let output = path(alloc, "OUT", outputs);
+    let command = with_paths(alloc, "run", about, RUN, outputs);
+    with_argument(command, csv(alloc))
+}
+
+fn trace<'a>(alloc: Global) -> Result<Command<'a>, AllocError>
+    ensures app { IfOk result (λ c. app_of c ≡ network_paths_app (codes "trace")) }
+    ensures local { IfOk result (λ c. (out-Command c).has_globals ≡ false) }
+{
+    let about = "Writes what became of each frame and of each copy at each switch";
+    let outputs = "The folder of a folder for each switch's arrivals.csv and departures.csv";
+    with_paths(alloc, "trace", about, TRACE, outputs)
+}
+
+/// A command over a network and captures, of which nothing is put.
+fn with_inputs<'a>(
+    alloc: Global,
+    name: &'a str,
+    about: &'a str,
+    more: &'a str,
+) -> Result<Command<'a>, AllocError>
+    ensures app { IfOk result (λ c. app_of c ≡ network_inputs_app name.entry.now) }
+    ensures local { IfOk result (λ c. (out-Command c).has_globals ≡ false) }
+{
+    let network = path(alloc, "NET", "The network file");
+    let folder = "The folder of a folder of captures for each switch";
+    let input = path(alloc, "IN", folder);
     let whatever = "Runs a network that check refuses, too";
     let unchecked = flag(alloc, "unchecked", whatever);
-    let command = with_no_arguments(alloc, "run", about, RUN).arg(network);
-    let command = with_argument(with_argument(command, input), output);
-    with_argument(with_argument(command, unchecked), csv(alloc))
+    let command = with_no_arguments(alloc, name, about, more).arg(network);
+    with_argument(with_argument(command, input), unchecked)
+}
+
+fn measure<'a>(alloc: Global) -> Result<Command<'a>, AllocError>
+    ensures app { IfOk result (λ c. app_of c ≡ network_inputs_app (codes "measure")) }
+    ensures local { IfOk result (λ c. (out-Command c).has_globals ≡ false) }
+{
+    let about = "Measures the delays of links from end to end, and buffers";
+    with_inputs(alloc, "measure", about, MEASURE)
+}
+
+fn survey<'a>(alloc: Global) -> Result<Command<'a>, AllocError>
+    ensures app { IfOk result (λ c. app_of c ≡ network_inputs_app (codes "survey")) }
+    ensures local { IfOk result (λ c. (out-Command c).has_globals ≡ false) }
+{
+    let about = "Says in one pass what run and measure say, and when links were policed";
+    with_inputs(alloc, "survey", about, SURVEY)
 }
 
 /// The program without its commands.
@@ -124,16 +220,31 @@ fn bare_network<'a>(alloc: Global) -> Result<Command<'a>, AllocError>
 
 /// The program with the commands `check` and `size`.
 fn with_checks<'a>(alloc: Global) -> Result<Command<'a>, AllocError>
-    ensures { IfOk result (λ c. app_of c ≡ with_subcommand (with_subcommand bare_network (network_path_app (codes "check")).top) (network_path_app (codes "size")).top) }
+    ensures { IfOk result (λ c. app_of c ≡ network_checks) }
 {
     let program = with_command(bare_network(alloc)?, check(alloc))?;
     with_command(program, size(alloc))
+}
+
+/// The same with `jitter` and `run`.
+fn with_runs<'a>(alloc: Global) -> Result<Command<'a>, AllocError>
+    ensures { IfOk result (λ c. app_of c ≡ network_runs) }
+{
+    let program = with_command(with_checks(alloc)?, jitter(alloc))?;
+    with_command(program, run(alloc))
+}
+
+/// The same with `measure` and `survey`.
+fn with_answers<'a>(alloc: Global) -> Result<Command<'a>, AllocError>
+    ensures { IfOk result (λ c. app_of c ≡ network_answers) }
+{
+    let program = with_command(with_runs(alloc)?, measure(alloc))?;
+    with_command(program, survey(alloc))
 }
 
 /// The program that reads the arguments after `afdx`, where the first of them is `network`.
 pub(crate) fn network_program<'a>(alloc: Global) -> Result<Command<'a>, AllocError>
     ensures { IfOk result (λ c. app_of c ≡ network_program) }
 {
-    let program = with_command(with_checks(alloc)?, jitter(alloc))?;
-    with_command(program, run(alloc))
+    with_command(with_answers(alloc)?, trace(alloc))
 }

@@ -49,6 +49,17 @@ pub struct Inputs<'a> {
     pub unchecked: bool,
 }
 
+/// The files of a run of a network of which nothing is put, as they were written.
+#[derive(Clone, Copy, Debug, PartialEq, Eq)]
+pub struct NetworkInputs<'a> {
+    /// The network file.
+    pub network: &'a str,
+    /// The folder that has a folder of captures for each switch.
+    pub input: &'a str,
+    /// Whether loads, jitters and what the tables agree on are left unchecked.
+    pub unchecked: bool,
+}
+
 /// The files of a run of a network, as they were written.
 #[derive(Clone, Copy, Debug, PartialEq, Eq)]
 pub struct NetworkPaths<'a> {
@@ -73,6 +84,12 @@ pub enum NetworkRequest<'a> {
     Jitter(&'a str, Form),
     /// The network over captures.
     Run(NetworkPaths<'a>, Form),
+    /// The delays from end to end and the buffers of such a run.
+    Measure(NetworkInputs<'a>),
+    /// The reports, the delays, the buffers and the spells of policing of such a run.
+    Survey(NetworkInputs<'a>),
+    /// What became of each frame and of each copy at each switch of such a run.
+    Trace(NetworkPaths<'a>),
 }
 
 /// The files of recordings of a switch, as they were written.

@@ -5,7 +5,8 @@ ghost use Rattle.afdx_network.specs.Given.{open_ends, all_ends};
 
 use crate::networks::cleared;
 use afdx_count::Counts;
-use afdx_network::{NetworkRunFault, all_ends, open_ends, run};
+use afdx_measure::{Range, Wanted};
+use afdx_network::{NetworkRunFault, all_ends, open_ends, run, run_watched};
 use afdx_pcap::PcapFault;
 use afdx_samples::{HEADER, MemoryFile, Sample, capture, small};
 use afdx_wiring::{End, Network};
@@ -152,6 +153,34 @@ fn a_microsecond_of_jitter(rt: HostRuntime) -> Result<(), Fail> {
             "{jitter_us}"
         );
     }
+    Ok(())
+}
+
+/// The first frame of link 3 leaves each switch after those of the others, and the second one alone.
+#[test]
+fn delays_from_end_to_end(rt: HostRuntime) -> Result<(), Fail> {
+    let came = [
+        (0, 1, small(1, 0)),
+        (0, 2, small(2, 0)),
+        (0, 3, small(3, 0)),
+        (0, 3, small(3, 1_000_000)),
+    ];
+    let network = cleared(rt.alloc(), 14)?;
+    let mut readers = readers_of(rt.alloc(), network.network(), &came)?;
+    // example of afdx_origins
+    let watched = run_watched(rt.alloc(), network.network(), &mut readers, Wanted::Nothing)
+        .ok()
+        .ok_or("a run")?;
+    let delays = watched
+        .origins
+        .delays_at(3, End { switch: 1, port: 2 })
+        .ok_or("a link")?;
+    let range = Range {
+        least: 13_440,
+        greatest: 26_880,
+    };
+    assert_eq!(rt; (delays.count, delays.range), (2, Some(range)));
+    // end of example
     Ok(())
 }
 

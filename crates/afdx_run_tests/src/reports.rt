@@ -5,6 +5,7 @@ use crate::texts::Frame::Small;
 use crate::texts::Text::Frames;
 use crate::texts::{EMPTY, Text, captures};
 use afdx_measure::{Measuring, Wanted, report};
+use afdx_network_trace::with_first_numbers;
 use afdx_paced::Paced;
 use afdx_rows::put_verdict;
 use afdx_samples::{record, single, small};
@@ -62,6 +63,18 @@ fn trace_of_one_frame(rt: HostRuntime) -> Result<(), Fail> {
     Ok(())
 }
 
+/// The second frame had number 7 at its first switch; the first one came in here.
+#[test]
+fn numbers_at_first_switches(rt: HostRuntime) -> Result<(), Fail> {
+    // example of afdx_network_trace
+    let arrivals = "frame,port\n0,1\n1,2\n";
+    let text = with_first_numbers(rt.alloc(), arrivals, &[None, Some(7)])?;
+    let with_origins = b"frame,port,origin\n0,1,\n1,2,7\n".as_slice();
+    assert_eq!(rt; text.as_slice(), with_origins);
+    // end of example
+    Ok(())
+}
+
 #[test]
 fn verdict_of_one_frame(rt: HostRuntime) -> Result<(), Fail> {
     let captures = captures(rt.alloc(), ONE_FRAME)?;
@@ -93,7 +106,7 @@ fn one_frame_by_time(rt: HostRuntime) -> Result<(), Fail> {
     // example of afdx_paced
     let table = read(rt.alloc(), single(rt.alloc())?.as_bytes())?;
     let frame = record(rt.alloc(), small(10, 0)).ok_or("a record")?;
-    let mut switch = Paced::new(rt.alloc(), table)?;
+    let mut switch = Paced::new(rt.alloc(), table, Wanted::Nothing)?;
     switch.put(1, frame)?;
     switch.go_to(Stamp::from_ns(6_720).ok_or("an instant")?)?;
     let out = switch.next_out(2)?.ok_or("a record")?;

@@ -16,3 +16,7 @@ pub mod CheckLemmas
 pub mod CompareLemmas
 mod PutLemmas
 mod NetworkRunLemmas
+pub mod NetworkMeasureLemmas
+pub mod WithinLemmas
+mod WatchLemmas
+mod NetworkTraceLemmas

@@ -1,5 +1,5 @@
 -- Why commands of networks were not served.
-use Rattle.std.proofs.Common.{◌≢◌, ℕ, List, Option, None, Global, String, inl, inr}
+use Rattle.std.proofs.Common.{◌≢◌, ℕ, Bool, List, Option, None, Global, String, inl, inr}
 use Rattle.std.specs.Prelude.{◌⊎◌}
 use Rattle.afdx_wiring.specs.declared.fault.NetworkFault.{NetworkFault}
 use Rattle.afdx_wiring.specs.declared.fault.NetworkFault.TheVariants as fault
@@ -17,7 +17,8 @@ use Rattle.afdx_messages.specs.Inner.Failures.{wiring_failure}
 use Rattle.afdx_folder.specs.Files.{Files, DeviceLog, KeepsFiles}
 use Rattle.afdx_messages.specs.Reporting.{IsMade}
 use Rattle.afdx_serve.specs.Networks.{names_of, verdict_of, IsRefused, AreRefusedRows, NetworkVerdict, LeadsToFailure, FailsToGetNetwork}
-use Rattle.afdx_serve.specs.NetworkRuns.{StopsNetwork, EndsNetwork}
+use Rattle.afdx_serve.specs.NetworkRuns.{FailsToLeadFrom, StopsNetwork, EndsNetwork}
+use Rattle.afdx_serve.specs.NetworkTraces.{StopsNetworkTrace, EndsNetworkTrace}
 use Rattle.afdx_serve.specs.Serving.{World, WritesNothing, FailsToPerformNetwork}
 
 -- ---- a network that is not got, or is refused
@@ -94,6 +95,15 @@ pub judged_put : (s : String Global) (names : Names) (verdict : NetworkVerdict) 
 judged_put s names verdict (inl h) = h.2
 judged_put s names verdict (inr h) = h.3
 
+-- nor do the files of a network and of a folder
+not_led : (network : List ℕ) (unchecked : Bool) (input : List ℕ) (files : Option Files) (before after : DeviceLog)
+    → FailsToLeadFrom failure.Usage network unchecked input files before after → ⊥
+not_led network unchecked input files before after (inl h) = got files network before after h
+not_led network unchecked input files before after (inr h) = elim h.2 [
+  | inl refused ↦ judged_usage (names_of h.0.layout.switches) (verdict_of h.0) refused.0.1
+  | inr given ↦ given.1
+]
+
 -- ---- of all commands of networks
 
 -- they never refuse the arguments
@@ -107,18 +117,22 @@ never_usage (ask.Jitter path form) old new h = elim h.0 [
   | inl fails ↦ got old.files path.now old.failed new.failed fails
   | inr fails ↦ fails.2.2
 ]
-never_usage (ask.Run paths form) old new h = elim h.0.0 [
-  | inl fails ↦ got old.files paths.network.now old.failed new.failed fails
-  | inr fails ↦ elim fails.2 [
-    | inl refused ↦ judged_usage (names_of fails.0.layout.switches) (verdict_of fails.0) refused.0.1
-    | inr given ↦ given.1
-  ]
-]
+never_usage (ask.Run paths form) old new h = not_led paths.network.now paths.unchecked paths.input.now old.files old.failed new.failed h.0.0
+never_usage (ask.Measure inputs) old new h = not_led inputs.network.now inputs.unchecked inputs.input.now old.files old.failed new.failed h.0
+never_usage (ask.Survey inputs) old new h = not_led inputs.network.now inputs.unchecked inputs.input.now old.files old.failed new.failed h.0
+never_usage (ask.Trace paths) old new h = not_led paths.network.now paths.unchecked paths.input.now old.files old.failed new.failed h.0.0
 
 -- of a name that failed: no file has changed, or those before a name were put
 network_ended : (name : List ℕ) (paths : NetworkPaths) (a c : Option Files) (before after : DeviceLog) → EndsNetwork name paths a c before after
     → KeepsFiles a c ⊎ ((n : List ℕ) × StopsNetwork n paths a c)
 network_ended name paths a c before after h = elim h.3 [
+  | inl kept ↦ inl kept.1
+  | inr stops ↦ inr (name, (h.0, h.1, h.2, stops.0))
+]
+
+network_trace_ended : (name : List ℕ) (paths : NetworkPaths) (a c : Option Files) (before after : DeviceLog) → EndsNetworkTrace name paths a c before after
+    → KeepsFiles a c ⊎ ((n : List ℕ) × StopsNetworkTrace n paths a c)
+network_trace_ended name paths a c before after h = elim h.3 [
   | inl kept ↦ inl kept.1
   | inr stops ↦ inr (name, (h.0, h.1, h.2, stops.0))
 ]
@@ -164,6 +178,10 @@ spares (failure.OutputCapture p e) (ask.Run paths form) old new made h = inl (h.
 spares (failure.Network e) (ask.Run paths form) old new made h = inl (h.1, h.0.1)
 spares (failure.Get name) (ask.Run paths form) old new made h = inl (h.1, h.0.1)
 spares (failure.Put name) (ask.Run paths form) old new made h = inr (network_ended _ paths _ _ _ _ h.0, h.1)
+spares f (ask.Measure inputs) old new made h = inl (h.2, h.1)
+spares f (ask.Survey inputs) old new made h = inl (h.2, h.1)
+spares (failure.Put name) (ask.Trace paths) old new made h = inr (network_trace_ended _ paths _ _ _ _ h.0, h.1)
+spares f (ask.Trace paths) old new made h = inl (h.1, h.0.1)
 
 -- ---- the failures of refusals
 

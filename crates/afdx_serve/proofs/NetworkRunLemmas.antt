@@ -1,5 +1,5 @@
 -- What a run of a network leads to: reports by switch, captures that are put in order, and why nothing is.
-use Rattle.std.proofs.Common.{◌≡◌, ◌≢◌, ℕ, suc, ◌+◌, ◌<◌, false, not, List, [], ◌∷◌, ◌++◌, length, map, take, drop, get_or, Option, Result, Ok, Err, String, Vec, Global, string_bytes, inl, inr}
+use Rattle.std.proofs.Common.{◌≡◌, ◌≢◌, ℕ, suc, ◌+◌, ◌<◌, Bool, false, not, List, [], ◌∷◌, ◌++◌, length, map, take, drop, get_or, Option, Result, Ok, Err, String, Vec, Global, string_bytes, inl, inr}
 use Rattle.std.proofs.Common.{refl, sym, ap, subst, ◌∙◌, arith}
 use Rattle.std.specs.Prelude.{IfOk, IfErr}
 use Rattle.std.specs.Io.KnownBytes.{Keeps}
@@ -38,7 +38,7 @@ use Rattle.afdx_serve.specs.Runs.{capture_name, names_in, bytes_of_captures, Sto
 use Rattle.afdx_serve.specs.Networks.{names_of, verdict_of, HasNetwork}
 use Rattle.afdx_serve.proofs.NetworkLemmas.{judged_write, judged_put}
 use Rattle.afdx_serve.specs.NetworkRuns.{switch_folder, names_at, bytes_at, captures_of, of_switches, open_names, HasGiven}
-use Rattle.afdx_serve.specs.NetworkRuns.{LeadsToNetwork, GetsGiven, FailsToGetGiven, FailsToLeadNetwork, StopsNetwork, EndsNetwork}
+use Rattle.afdx_serve.specs.NetworkRuns.{LeadsToNetwork, GetsGiven, FailsToGetGiven, FailsToLeadFrom, FailsToLeadNetwork, StopsNetwork, EndsNetwork}
 use Rattle.afdx_csv.specs.declared.form.Form.{Form}
 use Rattle.afdx_serve.specs.Serving.{world, PutsNetwork, FailsToRunNetwork}
 use Rattle.afdx_serve.specs.declared.network_plan.NetworkPlan.{NetworkPlan}
@@ -112,7 +112,7 @@ bytes_left (r ∷ left) =
 -- ---- a network of a file
 
 -- its tables are well formed, one for each switch, and the limits of the file are kept
-of_file : TablesAreWellFormed → LayoutsAreWithinLimits → (files : Option Files) (path : List ℕ) (net : Network) → HasNetwork files path net → IsOfFile net
+pub of_file : TablesAreWellFormed → LayoutsAreWithinLimits → (files : Option Files) (path : List ℕ) (net : Network) → HasNetwork files path net → IsOfFile net
 of_file formed limits files path net has = record {
   well_formed = λ k d lt. formed (get_or has.texts k []) (get_or net.tables k d) (is k d lt);
   tables = many ∙ has.has_texts.1;
@@ -143,7 +143,7 @@ run_count : (net : Network) (given : Given) (came : List (List Text)) (left : Li
     → length (names_of net.layout.switches) ≡ length left
 run_count net given came left of is = length-map net.layout.switches (λ (s : Switch). s.name) ∙ sym of.tables ∙ outcome_count net.tables came left is.outcomes
 
-has_given_before : (a b : Option Files) (path : List ℕ) (names : Names) (given : Given) → KeepsFiles a b → HasGiven b path names given → HasGiven a path names given
+pub has_given_before : (a b : Option Files) (path : List ℕ) (names : Names) (given : Given) → KeepsFiles a b → HasGiven b path names given → HasGiven a path names given
 has_given_before a b path names given keeps = ShowsAll-before a b (names_at path names given) (bytes_at given) keeps
 
 -- the files lead to it
@@ -401,32 +401,33 @@ not_given_before failure.Read a b path net before after keeps h = absurd h
 not_given_before failure.Write a b path net before after keeps h = absurd h
 
 -- no write and no put fails so early
-never_write : (paths : NetworkPaths) (files : Option Files) (before after : DeviceLog) → FailsToLeadNetwork failure.Write paths files before after → ⊥
-never_write paths files before after (inl h) = elim h [
-  | inl layout ↦ layout
-  | inr join ↦ join.2
-]
-never_write paths files before after (inr h) = elim h.2 [
-  | inl refused ↦ judged_write (names_of h.0.layout.switches) (verdict_of h.0) refused.0.1
-  | inr given ↦ given.1
-]
+module _ (network : List ℕ) (unchecked : Bool) (input : List ℕ) (files : Option Files) (before after : DeviceLog) where
+  pub never_write : FailsToLeadFrom failure.Write network unchecked input files before after → ⊥
+  never_write (inl h) = elim h [
+    | inl layout ↦ layout
+    | inr join ↦ join.2
+  ]
+  never_write (inr h) = elim h.2 [
+    | inl refused ↦ judged_write (names_of h.0.layout.switches) (verdict_of h.0) refused.0.1
+    | inr given ↦ given.1
+  ]
 
-never_put : (s : String Global) (paths : NetworkPaths) (files : Option Files) (before after : DeviceLog) → FailsToLeadNetwork (failure.Put s) paths files before after → ⊥
-never_put s paths files before after (inl h) = elim h [
-  | inl layout ↦ layout
-  | inr join ↦ join.2
-]
-never_put s paths files before after (inr h) = elim h.2 [
-  | inl refused ↦ judged_put s (names_of h.0.layout.switches) (verdict_of h.0) refused.0.1
-  | inr given ↦ given.1
-]
+  pub never_put : (s : String Global) → FailsToLeadFrom (failure.Put s) network unchecked input files before after → ⊥
+  never_put s (inl h) = elim h [
+    | inl layout ↦ layout
+    | inr join ↦ join.2
+  ]
+  never_put s (inr h) = elim h.2 [
+    | inl refused ↦ judged_put s (names_of h.0.layout.switches) (verdict_of h.0) refused.0.1
+    | inr given ↦ given.1
+  ]
 
 -- the files lead to no run, and nothing was put or written
 pub no_run : (form : Form) (f : Failure) (paths : NetworkPaths) (a b : Option Files) (first after : DeviceLog) → KeepsFiles a b → (w v : Option (List ℕ)) → Keeps w v
     → FailsToLeadNetwork f paths a first after → FailsToRunNetwork f form paths (world w a first) (world v b after)
 no_run form failure.Memory paths a b first after keeps w v none h = (inl keeps, none)
-no_run form failure.Write paths a b first after keeps w v none h = absurd (never_write paths a first after h)
-no_run form (failure.Put s) paths a b first after keeps w v none h = absurd (never_put s paths a first after h)
+no_run form failure.Write paths a b first after keeps w v none h = absurd (never_write paths.network.now paths.unchecked paths.input.now a first after h)
+no_run form (failure.Put s) paths a b first after keeps w v none h = absurd (never_put paths.network.now paths.unchecked paths.input.now a first after s h)
 no_run form failure.Found paths a b first after keeps w v none h = ((h, keeps), none)
 no_run form failure.Usage paths a b first after keeps w v none h = ((h, keeps), none)
 no_run form (failure.Table r) paths a b first after keeps w v none h = ((h, keeps), none)

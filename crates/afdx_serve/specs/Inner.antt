@@ -3,3 +3,4 @@ pub mod NetworkRunning
 pub mod NotGot
 pub mod Outputs
 pub mod Reports
+pub mod Watching

@@ -4,7 +4,9 @@ pub mod Inner
 pub mod Measures
 pub mod NetworkChecks
 pub mod NetworkJitters
+pub mod NetworkMeasures
 pub mod NetworkRuns
+pub mod NetworkTraces
 pub mod Networks
 pub mod Runs
 pub mod Serving

@@ -110,13 +110,16 @@ FailsToGetGiven _ files path net before after = ⊥
 abbrev pub FailsToPlanNetwork : Failure → Bool → Network → Type 0
 FailsToPlanNetwork f unchecked net = (unchecked ≡ false) × FailsToAcceptNetwork f net
 
--- the files lead to no run
+-- the files of a network and of a folder lead to no run
+abbrev pub FailsToLeadFrom : Failure → (network : List ℕ) → (unchecked : Bool) → (input : List ℕ) → Option Files → DeviceLog → DeviceLog → Type 0
+FailsToLeadFrom f network unchecked input files before after =
+    FailsToGetNetwork f files network before after
+    ⊎ ((net : Network) × HasNetwork files network net
+    × ((FailsToPlanNetwork f unchecked net × (after ≡ before))
+    ⊎ ((unchecked ≡ false → IsAcceptedNetwork net) × FailsToGetGiven f files input net before after)))
+
 abbrev pub FailsToLeadNetwork : Failure → NetworkPaths → Option Files → DeviceLog → DeviceLog → Type 0
-FailsToLeadNetwork f paths files before after =
-    FailsToGetNetwork f files paths.network.now before after
-    ⊎ ((net : Network) × HasNetwork files paths.network.now net
-    × ((FailsToPlanNetwork f paths.unchecked net × (after ≡ before))
-    ⊎ ((paths.unchecked ≡ false → IsAcceptedNetwork net) × FailsToGetGiven f files paths.input.now net before after)))
+FailsToLeadNetwork f paths files before after = FailsToLeadFrom f paths.network.now paths.unchecked paths.input.now files before after
 
 -- those before this name were put
 abbrev pub StopsNetwork : List ℕ → NetworkPaths → Option Files → Option Files → Type 0

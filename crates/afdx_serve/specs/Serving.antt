@@ -28,13 +28,16 @@ use Rattle.afdx_wiring.specs.declared.fault.Short.{Short}
 use Rattle.afdx_wiring.specs.declared.jitters.RowNeed.{RowNeed}
 use Rattle.afdx_wiring.specs.Needs.{all_past}
 use Rattle.afdx_messages.specs.declared.network_failure.JitterRule.TheVariants as jitter
+use Rattle.afdx_arguments.specs.declared.request.NetworkInputs.{NetworkInputs}
 use Rattle.afdx_arguments.specs.declared.request.NetworkPaths.{NetworkPaths}
 use Rattle.afdx_arguments.specs.declared.request.NetworkRequest.{NetworkRequest}
 use Rattle.afdx_arguments.specs.declared.request.NetworkRequest.TheVariants as ask
 use Rattle.afdx_serve.specs.Networks.{names_of, HasNetwork, AreRefusedRows, FailsToGetNetwork, FailsToAcceptNetwork}
 use Rattle.afdx_serve.specs.NetworkChecks.{IsNetworkCheck}
 use Rattle.afdx_serve.specs.NetworkJitters.{JittersAre, FailsToFit}
-use Rattle.afdx_serve.specs.NetworkRuns.{LeadsToNetwork, FailsToPutNetwork, names_at, bytes_at, captures_of, runs_text}
+use Rattle.afdx_serve.specs.NetworkMeasures.{MeasuresNetworkTo, SurveysNetworkTo}
+use Rattle.afdx_serve.specs.NetworkTraces.{PutsNetworkTrace, FailsToTraceNetwork}
+use Rattle.afdx_serve.specs.NetworkRuns.{FailsToLeadFrom, LeadsToNetwork, FailsToPutNetwork, names_at, bytes_at, captures_of, runs_text}
 use Rattle.afdx_folder.specs.Files.{Files, DeviceLog, KeepsFiles, PutsFiles, one_more, settled_after}
 use Rattle.afdx_session.specs.Outcome.{Results}
 use Rattle.afdx_folder.specs.Input.{AreGiven}
@@ -204,12 +207,35 @@ FailsToRunNetwork failure.Write form paths old new =
     (net : Network) × (left : List Results) × PutsNetwork paths old new net left × AppendsPrefix old.written new.written (runs_text form (names_of net.layout.switches) left)
 FailsToRunNetwork f form paths old new = FailsToPutNetwork f paths old.files new.files old.failed new.failed × WritesNothing old new
 
+-- the files lead to this text of a network's run, which was written; nothing was put
+abbrev pub MeasuresNetwork : NetworkInputs → World → World → Type 0
+MeasuresNetwork inputs old new = (text : List ℕ) × MeasuresNetworkTo inputs old.files text × Appends old.written new.written text × KeepsFolder old new
+
+-- why it was not, and what was written
+abbrev pub FailsToWatchNetwork : (List ℕ → Type 0) → Failure → NetworkInputs → World → World → Type 0
+FailsToWatchNetwork IsText failure.Write inputs old new = (text : List ℕ) × IsText text × AppendsPrefix old.written new.written text × KeepsFolder old new
+FailsToWatchNetwork IsText f inputs old new =
+    FailsToLeadFrom f inputs.network.now inputs.unchecked inputs.input.now old.files old.failed new.failed × KeepsFiles old.files new.files × WritesNothing old new
+
+abbrev pub FailsToMeasureNetwork : Failure → NetworkInputs → World → World → Type 0
+FailsToMeasureNetwork f inputs old new = FailsToWatchNetwork (MeasuresNetworkTo inputs old.files) f inputs old new
+
+-- the same of a survey
+abbrev pub SurveysNetwork : NetworkInputs → World → World → Type 0
+SurveysNetwork inputs old new = (text : List ℕ) × SurveysNetworkTo inputs old.files text × Appends old.written new.written text × KeepsFolder old new
+
+abbrev pub FailsToSurveyNetwork : Failure → NetworkInputs → World → World → Type 0
+FailsToSurveyNetwork f inputs old new = FailsToWatchNetwork (SurveysNetworkTo inputs old.files) f inputs old new
+
 -- what a request of networks asks for was done
 abbrev pub PerformsNetwork : NetworkRequest → World → World → Type 0
 PerformsNetwork (ask.Check path form) old new = ChecksNetwork form path.now old new
 PerformsNetwork (ask.Size path form) old new = SizesNetwork form path.now old new
 PerformsNetwork (ask.Jitter path form) old new = GivesJitters form path.now old new
 PerformsNetwork (ask.Run paths form) old new = RunsNetwork form paths old new
+PerformsNetwork (ask.Measure inputs) old new = MeasuresNetwork inputs old new
+PerformsNetwork (ask.Survey inputs) old new = SurveysNetwork inputs old new
+PerformsNetwork (ask.Trace paths) old new = PutsNetworkTrace paths old.files new.files old.failed new.failed × WritesNothing old new
 
 -- why it was not, and what was done
 abbrev pub FailsToPerformNetwork : Failure → NetworkRequest → World → World → Type 0
@@ -217,6 +243,9 @@ FailsToPerformNetwork f (ask.Check path form) old new = FailsToCheckNetwork f fo
 FailsToPerformNetwork f (ask.Size path form) old new = FailsToSizeNetwork f form path.now old new
 FailsToPerformNetwork f (ask.Jitter path form) old new = FailsToGiveJitters f form path.now old new
 FailsToPerformNetwork f (ask.Run paths form) old new = FailsToRunNetwork f form paths old new
+FailsToPerformNetwork f (ask.Measure inputs) old new = FailsToMeasureNetwork f inputs old new
+FailsToPerformNetwork f (ask.Survey inputs) old new = FailsToSurveyNetwork f inputs old new
+FailsToPerformNetwork f (ask.Trace paths) old new = FailsToTraceNetwork f paths old.files new.files old.failed new.failed × WritesNothing old new
 
 -- ---- runs
 

@@ -39,7 +39,7 @@ use std::alloc::{AllocError, Global};
 use std::io::{Read, Write};
 
 /// The folder of a switch's captures in a folder.
-fn switch_folder(alloc: Global, folder: &str, name: &str) -> Result<String, AllocError>
+pub(crate) fn switch_folder(alloc: Global, folder: &str, name: &str) -> Result<String, AllocError>
     ensures { IfOk result (λ path. string_bytes path ≡ switch_folder folder.now name.now) }
 {
     let mut path = String::from_str(alloc, folder)?;
@@ -49,7 +49,7 @@ fn switch_folder(alloc: Global, folder: &str, name: &str) -> Result<String, Allo
 }
 
 /// The names of the captures of these ports in a folder, each in that of its switch, which has its name.
-fn names_at(
+pub(crate) fn names_at(
     alloc: Global,
     path: &str,
     names: &[String],
@@ -82,7 +82,7 @@ fn capture_failure(
 }
 
 /// The failure that a fault of a run leads to, over captures that were opened under these names.
-fn run_failure<F: Folder>(
+pub(crate) fn run_failure<F: Folder>(
     alloc: Global,
     folder: &mut F,
     names: &[String],

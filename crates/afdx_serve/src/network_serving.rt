@@ -5,8 +5,11 @@ ghost use Rattle.afdx_serve.specs.Serving.{world, PerformsNetwork, FailsToPerfor
 
 use crate::network_check::network_check;
 use crate::network_jitter::network_jitter;
+use crate::network_measure::network_measure;
 use crate::network_run::network_run;
 use crate::network_size::network_size;
+use crate::network_survey::network_survey;
+use crate::network_trace::network_trace;
 use afdx_arguments::NetworkRequest;
 use afdx_folder::Folder;
 use afdx_messages::Failure;
@@ -31,5 +34,8 @@ pub(crate) fn perform_network<O: Write, F: Folder>(
         NetworkRequest::Size(path, form) => network_size(alloc, path, *form, out, folder),
         NetworkRequest::Jitter(path, form) => network_jitter(alloc, path, *form, out, folder),
         NetworkRequest::Run(paths, form) => network_run(alloc, paths, *form, out, folder),
+        NetworkRequest::Measure(inputs) => network_measure(alloc, inputs, out, folder),
+        NetworkRequest::Survey(inputs) => network_survey(alloc, inputs, out, folder),
+        NetworkRequest::Trace(paths) => network_trace(alloc, paths, folder),
     }
 }

@@ -76,7 +76,7 @@ fn traced<F: Folder>(
 }
 
 /// The names of the two files in a folder.
-fn names_in(alloc: Global, folder: &str) -> Result<Vec<String>, AllocError>
+pub(crate) fn names_in(alloc: Global, folder: &str) -> Result<Vec<String>, AllocError>
     ensures { IfOk result (λ names. map string_bytes names.items ≡ trace_names folder.now) }
 {
     let mut names = Vec::with_capacity(alloc, 2)?;

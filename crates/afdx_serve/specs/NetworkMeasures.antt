@@ -1,0 +1,122 @@
+-- What is reported of the run of a network of which nothing is put (profile).
+use Rattle.std.specs.Prelude.{◌≡◌, ℕ, ◌≤◌, false, not, Bool, true, List, [], ◌∷◌, ◌++◌, map, flat_map, Option, None, option_map, option_and_then, IfSome, All}
+use Rattle.std.specs.List.Sorted.{IsPermutation, IsSorted}
+use Rattle.afdx_core.specs.State.{State}
+use Rattle.afdx_count.specs.Tally.{Tally}
+use Rattle.afdx_count.specs.Report.{report_of as counts_text}
+use Rattle.afdx_measure.specs.declared.delays.Delays.{Delays}
+use Rattle.afdx_measure.specs.Report.{port_line}
+use Rattle.afdx_measure.specs.Policing.{policing_of}
+use Rattle.afdx_session.specs.Texts.{Text}
+use Rattle.afdx_session.specs.Outcome.{Results}
+use Rattle.afdx_wiring.specs.declared.exit.Exit.{Exit}
+use Rattle.afdx_wiring.specs.declared.ways.Way.{Way}
+use Rattle.afdx_wiring.specs.Lines.{as_line}
+use Rattle.afdx_wiring.specs.Net.{Network, ingress, row_at}
+use Rattle.afdx_wiring.specs.Order.{most_rows, source_within}
+use Rattle.afdx_wiring.specs.Rules.{IsAcceptedNetwork}
+use Rattle.afdx_wiring.specs.Ways.{end_of, exits_of, by_link, AreWaysOf}
+use Rattle.afdx_origins.specs.Origins.{Origins, IsSummary}
+use Rattle.afdx_network.specs.Runs.{Given, IsUncheckedRunOf}
+use Rattle.afdx_network.specs.Given.{AreGiven}
+use Rattle.afdx_network.specs.Outage.{given_up}
+use Rattle.afdx_network.specs.Watched.{AreEnded, HaveSent}
+use Rattle.afdx_network_report.specs.Lines.{Names, report_of}
+use Rattle.afdx_network_report.specs.declared.link_ends.LinkEnd.{LinkEnd}
+use Rattle.afdx_network_report.specs.LinkEnds.{link_end_of, link_end_text}
+use Rattle.afdx_arguments.specs.declared.request.NetworkInputs.{NetworkInputs}
+use Rattle.afdx_folder.specs.Files.{Files}
+use Rattle.afdx_serve.specs.Networks.{names_of, HasNetwork}
+use Rattle.afdx_serve.specs.NetworkRuns.{HasGiven}
+
+-- ---- the ends of links
+
+-- that of an exit, of which nothing is promised: its frames come in where the way back from it ends
+abbrev pub unchecked_end : Network → Exit → LinkEnd
+unchecked_end net x = record {
+  link = x.link;
+  from = option_and_then (λ r. option_map ingress (source_within most_rows net r)) (row_at net x.switch x.link);
+  to = end_of x;
+  bounds = None;
+}
+
+-- of an accepted network those of its ways, of any other those of its exits; by link, then by switch and port
+abbrev pub AreEndsOf : (accepted : Bool) → Network → List LinkEnd → Type 0
+AreEndsOf true net ends = (ways : List Way) × AreWaysOf net ways × (ends ≡ map link_end_of ways)
+AreEndsOf false net ends = (exits : List Exit) × IsPermutation (exits_of net) exits × IsSorted by_link exits × (ends ≡ map (unchecked_end net) exits)
+
+-- the lines of ends, with the delays of the copies that were sent there
+abbrev pub HaveEndLines : Names → Origins → List LinkEnd → List ℕ → Type 0
+HaveEndLines names o [] text = text ≡ []
+HaveEndLines names o (e ∷ ends) text =
+    (d : Delays) × (more : List ℕ) × IsSummary o.net o.sent e.link e.to d × HaveEndLines names o ends more × (text ≡ as_line (link_end_text names e d) ++ more)
+
+-- no delay there is greater than the most that is promised
+abbrev pub IsWithinItsWay : Origins → LinkEnd → Type 0
+IsWithinItsWay o e = (d : Delays) → IsSummary o.net o.sent e.link e.to d → IfSome d.range (λ range. IfSome e.bounds (λ bounds. range.greatest ≤ bounds.most))
+
+-- ---- the switches
+
+-- a text of each switch, with its name before each line
+abbrev pub named_texts : (Tally → State → List ℕ) → Names → List (Tally × State) → List ℕ
+named_texts text (name ∷ names) (both ∷ switches) = report_of name (text both.0 both.1) ++ named_texts text names switches
+named_texts text _ _ = []
+
+-- how full the buffers were
+abbrev pub peaks_text : Tally → State → List ℕ
+peaks_text counts s = flat_map (port_line s.run) s.run.table.ports
+
+-- ---- the run
+
+-- the run of a network over the captures of a folder, of which those of switches that are down do not come in, came to these counts and
+-- finished switches, and sent these copies
+pub record WatchesFrom (files : Option Files) (path : List ℕ) (net : Network) (switches : List (Tally × State)) (o : Origins) : Type 0 where
+  pub given : Given
+  pub came : List (List Text)
+  pub left : List Results
+  pub has_given : HasGiven files path (names_of net.layout.switches) given
+  pub are_given : AreGiven net given
+  pub led : IsUncheckedRunOf net (given_up net.layout given) came left
+  pub ended : AreEnded net.tables came left switches
+  pub sent : HaveSent net switches o
+
+-- so did that of the network of a file, which is accepted unless the run is unchecked
+pub record IsMeasuredNetwork (inputs : NetworkInputs) (files : Option Files) (net : Network) (switches : List (Tally × State)) (o : Origins) : Type 0 where
+  pub has_network : HasNetwork files inputs.network.now net
+  pub watched : WatchesFrom files inputs.input.now net switches o
+  pub accepted : inputs.unchecked ≡ false → IsAcceptedNetwork net
+
+-- ---- the texts of a run, whatever it is over
+
+-- what `network measure` writes of it: the lines of these ends, and how full buffers were
+pub record HasMeasuredText (accepted : Bool) (net : Network) (names : Names) (switches : List (Tally × State)) (o : Origins) (text : List ℕ) : Type 0 where
+  pub ends : List LinkEnd
+  pub lines : List ℕ
+  pub are_ends : AreEndsOf accepted net ends
+  pub lines_are : HaveEndLines names o ends lines
+  pub text_is : text ≡ lines ++ named_texts peaks_text names switches
+
+-- what `network survey` writes
+pub record HasSurveyText (accepted : Bool) (net : Network) (names : Names) (switches : List (Tally × State)) (o : Origins) (text : List ℕ) : Type 0 where
+  pub measured : List ℕ
+  pub has_measured : HasMeasuredText accepted net names switches o measured
+  pub text_is : text ≡ named_texts (λ counts s. counts_text counts) names switches ++ measured ++ named_texts (λ counts s. policing_of s.run) names switches
+
+-- `network measure` reports this: the delays from end to end, and how full buffers were; of an accepted network no delay is greater than
+-- what is promised
+pub record MeasuresNetworkTo (inputs : NetworkInputs) (files : Option Files) (text : List ℕ) : Type 0 where
+  pub net : Network
+  pub switches : List (Tally × State)
+  pub origins : Origins
+  pub measured : IsMeasuredNetwork inputs files net switches origins
+  pub has_text : HasMeasuredText (not inputs.unchecked) net (names_of net.layout.switches) switches origins text
+  pub within : inputs.unchecked ≡ false → All (IsWithinItsWay origins) has_text.ends
+
+-- `network survey` reports this: the reports of `network run`, what `network measure` says, and when links were policed and frames came
+pub record SurveysNetworkTo (inputs : NetworkInputs) (files : Option Files) (text : List ℕ) : Type 0 where
+  pub net : Network
+  pub switches : List (Tally × State)
+  pub origins : Origins
+  pub measured : IsMeasuredNetwork inputs files net switches origins
+  pub has_text : HasSurveyText (not inputs.unchecked) net (names_of net.layout.switches) switches origins text
+  pub within : inputs.unchecked ≡ false → All (IsWithinItsWay origins) has_text.has_measured.ends
