@@ -1,5 +1,5 @@
 #!/usr/bin/env python3
-"""What `afdx network measure`, `afdx network survey` and `afdx network trace` answer, by the plain models of a network and of a switch: slowly.
+"""What `afdx network measure`, `survey` and `trace` answer, by the plain models of a network and of a switch: slowly.
 
 Where a frame came from is found by its place: the record of so many at the end of a wire is the frame of so many that left its start.
 """
