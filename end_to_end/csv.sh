@@ -94,6 +94,12 @@ check "network check of an outage" says 2 network check outage/network.toml
 check "network size" says 2 network size "$aircraft/network.toml"
 check "network jitter" says 2 network jitter "$aircraft/network.toml"
 check "network run" runs_switches
+check "network measure" says 2 network measure "$aircraft/network.toml" "$aircraft/in"
+check "... has a row for each end of a link" grep -q '^,way,,400,cabin.2,bay.3,3,' rows.csv
+check "network measure of whatever network" says 2 network measure "$aircraft/network.toml" "$aircraft/in" --unchecked
+check "network survey" says 2 network survey "$aircraft/network.toml" "$aircraft/in"
+check "... has a spell with its switch" grep -q '^cabin,spell,,401,' rows.csv
+check "network survey of an outage" says 2 network survey outage/network.toml "$aircraft/in"
 check "a network that is not there" refused network check none.toml
 check "alone has no rows" usage alone --id 1 --bag 1 --jitter 0 --size 64
 check "trace has no rows" usage trace "$network/table.toml" "$network/in" out

@@ -6,6 +6,7 @@
 
 import argparse
 import csv
+import io
 import re
 import sys
 from collections.abc import Callable, Iterator
@@ -20,6 +21,8 @@ VERDICT = re.compile(r"policed (?P<links>\d+) links? (?P<policed>\d+) frames?, f
 WAY = re.compile(r"link (?P<link>\d+) from (?P<from>\S+) to (?P<to>\S+) ways (?P<ways>.+) least (?P<least>\d+) most (?P<most>\d+) "
                  r"jitter (?P<jitter>[\d ]+)")
 LOST = re.compile(r"link (?P<link>\d+) to (?P<to>\S+) none")
+END = re.compile(r"link (?P<link>\d+) from (?P<from>\S+) to (?P<to>\S+) sent (?P<sent>\d+) least (?P<least>\S+) greatest (?P<greatest>\S+) "
+                 r"bound (?P<least_bound>\S+) to (?P<bound>\S+)")
 SPELL = re.compile(r"link (?P<link>\d+) policed (?P<policed>\d+) from (?P<from>\d+) to (?P<to>\d+) "
                    r"early (?P<least_early>\d+) to (?P<greatest_early>\d+)")
 SPAN = re.compile(r"span from (?P<from>\S+) to (?P<to>\S+) frames (?P<frames>\d+)")
@@ -71,9 +74,8 @@ def counted(line: str) -> Row | None:
 
 
 def counted_at_switch(line: str) -> Row | None:
-    switch, _, rest = line.partition(" ")
-    row = counted(rest)
-    return row and {"switch": switch} | row
+    """Reads a line of `network run`."""
+    return at_switch(line, counted)
 
 
 def measured(line: str) -> Row | None:
@@ -92,6 +94,33 @@ def surveyed(line: str) -> Row | None:
         if found := pattern.fullmatch(line):
             return {"kind": kind} | found.groupdict()
     return measured(line) or counted(line)
+
+
+def end_of_link(line: str) -> Row | None:
+    """Reads a line of a link between two ports of a network."""
+    found = END.fullmatch(line)
+    return slack({"kind": "way"} | found.groupdict()) if found else None
+
+
+def at_switch(line: str, read: Callable[[str], Row | None]) -> Row | None:
+    """Reads a line with the name of a switch before it."""
+    switch, _, rest = line.partition(" ")
+    row = read(rest)
+    return row and {"switch": switch} | row
+
+
+def measured_in_network(line: str) -> Row | None:
+    """Reads a line of `network measure`."""
+    return end_of_link(line) or at_switch(line, measured)
+
+
+def surveyed_in_network(line: str) -> Row | None:
+    """Reads a line of `network survey`, whose stamps have columns other than those of ports."""
+    found = end_of_link(line)
+    if found:
+        return found
+    row = at_switch(line, surveyed)
+    return row and {{"from": "first", "to": "last"}.get(word, word): value for word, value in row.items()}
 
 
 def checked_way(line: str) -> Row | None:
@@ -115,7 +144,7 @@ def compared(line: str) -> Row | None:
 
 READERS = {"check": matched(CHECK), "size": matched(SIZE), "run": counted, "measure": measured, "survey": surveyed, "compare": compared,
            "network check": checked_way, "network size": matched(SIZE), "network jitter": matched(JITTER),
-           "network run": counted_at_switch}
+           "network run": counted_at_switch, "network measure": measured_in_network, "network survey": surveyed_in_network}
 
 
 def rows_of(command: str, lines: str) -> Iterator[Row]:
@@ -126,13 +155,19 @@ def rows_of(command: str, lines: str) -> Iterator[Row]:
             yield {word: "" if value in ("-", "none") else value for word, value in row.items() if word != "switch" or "network" in command}
 
 
+def csv_of(command: str, lines: str) -> str:
+    """Writes the rows of lines below their heading."""
+    text = io.StringIO()
+    writer = csv.DictWriter(text, headings()[command], restval="", lineterminator="\n")
+    writer.writeheader()
+    writer.writerows(rows_of(command, lines))
+    return text.getvalue()
+
+
 def main() -> None:
     parser = argparse.ArgumentParser(description=__doc__, formatter_class=argparse.RawDescriptionHelpFormatter)
     parser.add_argument("command", nargs="+")
-    command = " ".join(parser.parse_args().command)
-    writer = csv.DictWriter(sys.stdout, headings()[command], restval="", lineterminator="\n")
-    writer.writeheader()
-    writer.writerows(rows_of(command, sys.stdin.read()))
+    sys.stdout.write(csv_of(" ".join(parser.parse_args().command), sys.stdin.read()))
 
 
 if __name__ == "__main__":

@@ -35,6 +35,12 @@ measured_as_modelled() {
         [ -s measured.txt ] && cmp wanted.txt measured.txt && [ ! -s said.txt ] && ls -lR work | cmp before.txt -
 }
 
+# rows_as_modelled COMMAND [--unchecked]: with --csv it writes rows of the model's lines.
+rows_as_modelled() {
+    measured_as_modelled "$@" && "$afdx" network "$1" work/network.toml work/in "${@:2}" --csv >rows.csv 2>said.txt &&
+        python3 "$top/end_to_end/csv_rows.py" network "$1" <wanted.txt | cmp - rows.csv && [ ! -s said.txt ]
+}
+
 # traced_as_modelled: so are the two files of each switch.
 traced_as_modelled() {
     rm -rf out wanted && mkdir -p out/cabin out/bay out/cockpit wanted
@@ -194,6 +200,9 @@ check "README shows lines of it" readme_shows 3
 check "what its frames took from end to end, and its buffers" measured_as_modelled measure
 check "the same with the reports, and when links were policed" measured_as_modelled survey
 check "what they took, of whatever network" measured_as_modelled measure --unchecked
+check "rows of what they took" rows_as_modelled measure
+check "rows of all of it" rows_as_modelled survey
+check "rows of whatever network" rows_as_modelled survey --unchecked
 check "what became of its frames, from switch to switch" traced_as_modelled
 check "the camera disturbs no other link, two switches away" undisturbed
 check "a table elsewhere" absolute

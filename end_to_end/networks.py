@@ -19,6 +19,7 @@ from pathlib import Path
 from random import Random
 
 import babblers
+import csv_rows
 import model
 import network_answers
 import network_model
@@ -370,17 +371,25 @@ def wrong_in(cut: Network, net: Network, given: dict[End, bytes], outcomes: dict
             yield f"link {row.link.id} to {row.switch}.{port} in an outage: {wrong}"
 
 
+def measured(net: Network, sites: network_answers.Sites, unchecked: bool) -> Iterator[tuple[list[str], str]]:
+    """What the commands say that put nothing, as lines and as rows."""
+    options = ["--unchecked"] if unchecked else []
+    for command, said in network_answers.PRINTED.items():
+        lines = said(net, sites, unchecked)
+        yield [command, "net.toml", "in", *options], lines
+        yield [command, "net.toml", "in", *options, "--csv"], csv_rows.csv_of(f"network {command}", lines)
+
+
 def differs(afdx: str, room: Path, net: Network, given: dict[End, bytes], outcomes: dict[str, model.Outcome]) -> Iterator[str]:
     """Where the program says something else than the model."""
     lay_out(room, net, given)
     sites = network_answers.sites_of(net, given, outcomes)
     wanted = [(["check", "net.toml"], network_model.check(net)), (["jitter", "net.toml"], network_model.jitter_lines(net)),
               (["run", "net.toml", "in", "out"], network_model.report(net, outcomes)),
-              (["measure", "net.toml", "in"], network_answers.measure(net, sites, False)),
-              (["survey", "net.toml", "in"], network_answers.survey(net, sites, False))]
+              *measured(net, sites, False)]
     for arguments, said in wanted:
         if answer(afdx, room, *arguments) != (0, said, ""):
-            yield f"network {arguments[0]}"
+            yield f"network {' '.join(arguments)}"
     for name in net.names:
         for port, text in outcomes[name].captures.items():
             if (room / "out" / name / f"port-{port}.pcap").read_bytes() != text:
@@ -404,9 +413,9 @@ def strains(afdx: str, room: Path, net: Network, given: dict[End, bytes]) -> Ite
     tight = strained(net)
     lay_out(room, tight, given)
     sites = network_answers.sites_of(tight, given, network_answers.outcomes_of(tight, given, True))
-    for command, said in network_answers.PRINTED.items():
-        if answer(afdx, room, command, "net.toml", "in", "--unchecked") != (0, said(tight, sites, True), ""):
-            yield f"network {command} --unchecked"
+    for arguments, said in measured(tight, sites, True):
+        if answer(afdx, room, *arguments) != (0, said, ""):
+            yield f"network {' '.join(arguments)}"
     if answer(afdx, room, "trace", "net.toml", "in", "out", "--unchecked") != (0, "", ""):
         yield "network trace --unchecked"
     for name, text in network_answers.trace(tight, sites).items():

@@ -125,9 +125,10 @@ network_paths_app name =
 unfoldable pub network_run_app : App
 network_run_app = with_rule (network_paths_app (codes "run")) csv_rule
 
--- network NAME NET IN [--unchecked]
+-- network measure NET IN [--unchecked] [--csv], and survey with the same arguments
 unfoldable pub network_inputs_app : Text → App
-network_inputs_app name = with_rule (with_rule (with_rule (new_app name) (path_rule (codes "NET"))) (path_rule (codes "IN"))) (flag_rule (codes "unchecked"))
+network_inputs_app name =
+    with_rule (with_rule (with_rule (with_rule (new_app name) (path_rule (codes "NET"))) (path_rule (codes "IN"))) (flag_rule (codes "unchecked"))) csv_rule
 
 -- network, which wants a subcommand
 abbrev pub bare_network : App

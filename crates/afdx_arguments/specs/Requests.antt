@@ -178,8 +178,8 @@ AsksOfNetwork (Some (name, rows)) (network.Check path form) = (name ≡ codes "c
 AsksOfNetwork (Some (name, rows)) (network.Size path form) = (name ≡ codes "size") × (first_of (codes "NET") rows ≡ Some path.now) × (form ≡ form_in rows)
 AsksOfNetwork (Some (name, rows)) (network.Jitter path form) = (name ≡ codes "jitter") × (first_of (codes "NET") rows ≡ Some path.now) × (form ≡ form_in rows)
 AsksOfNetwork (Some (name, rows)) (network.Run paths form) = (name ≡ codes "run") × HasNetworkPaths rows paths × (form ≡ form_in rows)
-AsksOfNetwork (Some (name, rows)) (network.Measure inputs) = (name ≡ codes "measure") × HasNetworkInputs rows inputs
-AsksOfNetwork (Some (name, rows)) (network.Survey inputs) = (name ≡ codes "survey") × HasNetworkInputs rows inputs
+AsksOfNetwork (Some (name, rows)) (network.Measure inputs form) = (name ≡ codes "measure") × HasNetworkInputs rows inputs × (form ≡ form_in rows)
+AsksOfNetwork (Some (name, rows)) (network.Survey inputs form) = (name ≡ codes "survey") × HasNetworkInputs rows inputs × (form ≡ form_in rows)
 AsksOfNetwork (Some (name, rows)) (network.Trace paths) = (name ≡ codes "trace") × HasNetworkPaths rows paths
 
 -- the subcommand and its entries ask for this

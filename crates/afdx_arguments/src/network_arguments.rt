@@ -73,10 +73,12 @@ pub(crate) fn network_asked<'a>(matches: &ArgMatches<'a>) -> Option<NetworkReque
         Some(NetworkRequest::Run(paths, form))
     } else if name == "measure" {
         let inputs = network_inputs_of(inner)?;
-        Some(NetworkRequest::Measure(inputs))
+        let form = form_of(inner);
+        Some(NetworkRequest::Measure(inputs, form))
     } else if name == "survey" {
         let inputs = network_inputs_of(inner)?;
-        Some(NetworkRequest::Survey(inputs))
+        let form = form_of(inner);
+        Some(NetworkRequest::Survey(inputs, form))
     } else if name == "trace" {
         let paths = network_paths_of(inner)?;
         Some(NetworkRequest::Trace(paths))

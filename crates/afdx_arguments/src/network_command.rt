@@ -189,7 +189,8 @@ fn with_inputs<'a>(
     let whatever = "Runs a network that check refuses, too";
     let unchecked = flag(alloc, "unchecked", whatever);
     let command = with_no_arguments(alloc, name, about, more).arg(network);
-    with_argument(with_argument(command, input), unchecked)
+    let command = with_argument(with_argument(command, input), unchecked);
+    with_argument(command, csv(alloc))
 }
 
 fn measure<'a>(alloc: Global) -> Result<Command<'a>, AllocError>

@@ -85,9 +85,9 @@ pub enum NetworkRequest<'a> {
     /// The network over captures.
     Run(NetworkPaths<'a>, Form),
     /// The delays from end to end and the buffers of such a run.
-    Measure(NetworkInputs<'a>),
+    Measure(NetworkInputs<'a>, Form),
     /// The reports, the delays, the buffers and the spells of policing of such a run.
-    Survey(NetworkInputs<'a>),
+    Survey(NetworkInputs<'a>, Form),
     /// What became of each frame and of each copy at each switch of such a run.
     Trace(NetworkPaths<'a>),
 }

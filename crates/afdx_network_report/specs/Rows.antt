@@ -1,10 +1,15 @@
 -- What is reported of a network as comma-separated values (profile). No name has a comma, a quote or a line feed: a switch's has letters,
 -- digits, `-` and `_` alone.
-use Rattle.std.specs.Prelude.{ℕ, codes, decimal, List, [], ◌∷◌, ◌++◌, map, flat_map}
+use Rattle.std.specs.Prelude.{ℕ, codes, decimal, List, [], ◌∷◌, ◌++◌, map, flat_map, Option}
+use Rattle.std.specs.Option.{option_map, option_map_or}
+use Rattle.afdx_measure.specs.declared.delays.Delays.{Delays}
+use Rattle.afdx_wiring.specs.declared.layout.End.{End}
 use Rattle.afdx_wiring.specs.declared.ways.Way.{Way}
 use Rattle.afdx_wiring.specs.declared.jitters.RowNeed.{RowNeed}
-use Rattle.afdx_csv.specs.Csv.{heading, row}
+use Rattle.afdx_csv.specs.Csv.{optional, heading, row}
+use Rattle.afdx_csv.specs.Slack.{slack_text, share_text}
 use Rattle.afdx_network_report.specs.Lines.{Names, name_of, end_text, last_end}
+use Rattle.afdx_network_report.specs.declared.link_ends.LinkEnd.{LinkEnd}
 
 -- texts with semicolons between them
 abbrev pub joined : List (List ℕ) → List ℕ
@@ -45,3 +50,32 @@ need_row names r = row need_columns ((codes "switch", name_of names r.switch) �
 
 abbrev pub needs_rows : Names → List RowNeed → List ℕ
 needs_rows names rows = heading need_columns ++ flat_map (need_row names) rows
+
+-- ---- delays from end to end
+
+abbrev pub least_of : Delays → Option ℕ
+least_of d = option_map (λ r. r.least) d.range
+
+abbrev pub greatest_of : Delays → Option ℕ
+greatest_of d = option_map (λ r. r.greatest) d.range
+
+abbrev pub least_bound : LinkEnd → Option ℕ
+least_bound e = option_map (λ b. b.least) e.bounds
+
+abbrev pub bound_of : LinkEnd → Option ℕ
+bound_of e = option_map (λ b. b.most) e.bounds
+
+-- where frames come in, or nothing
+abbrev pub come_in_field : Names → Option End → List ℕ
+come_in_field names from = option_map_or (end_text names) from []
+
+-- under some columns, between these ports: how many frames left, what they took in nanoseconds, what they may take, and what the greatest left of that
+abbrev pub end_fields : List (List ℕ) → List ℕ → List ℕ → LinkEnd → Delays → List ℕ
+end_fields columns from to e d = row columns ((codes "kind", codes "way") ∷ (codes "link", decimal e.link) ∷ (codes "from", from) ∷ (codes "to", to)
+    ∷ (codes "sent", decimal d.count) ∷ (codes "least", optional (least_of d)) ∷ (codes "greatest", optional (greatest_of d))
+    ∷ (codes "least_bound", optional (least_bound e)) ∷ (codes "bound", optional (bound_of e))
+    ∷ (codes "slack", slack_text (greatest_of d) (bound_of e)) ∷ (codes "slack_per_mille", share_text (greatest_of d) (bound_of e)) ∷ [])
+
+-- of a link and a port at which it leads out of the network
+abbrev pub link_end_row : List (List ℕ) → Names → LinkEnd → Delays → List ℕ
+link_end_row columns names e d = end_fields columns (come_in_field names e.from) (end_text names e.to) e d

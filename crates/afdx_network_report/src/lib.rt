@@ -19,6 +19,7 @@
 #![tactic(auto)]
 
 mod accepted;
+mod end_rows;
 mod ends;
 mod jitters;
 mod link_ends;
@@ -26,6 +27,7 @@ mod reports;
 mod rows;
 
 pub use accepted::accepted_text;
+pub use end_rows::put_link_end_row;
 pub use ends::name_of;
 pub use jitters::jitter_text;
 pub use link_ends::{LinkEnd, put_link_end};

@@ -17,7 +17,7 @@ const WAYS: &[&str] = &["link", "from", "to", "ways", "least", "most", "jitter"]
 const JITTERS: &[&str] = &["switch", "link", "jitter_us"];
 
 /// A port: the name of its switch, a dot and its number.
-fn end_field(alloc: Global, names: &[String], end: End) -> Result<String, AllocError>
+pub(crate) fn end_field(alloc: Global, names: &[String], end: End) -> Result<String, AllocError>
     ensures { IfOk result (λ text. string_bytes text ≡ end_text (map string_bytes names.now) end) }
 {
     let mut text = String::new(alloc);

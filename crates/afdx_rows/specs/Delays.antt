@@ -17,6 +17,14 @@ abbrev pub measure_columns : List (List ℕ)
 measure_columns = codes "kind" ∷ codes "link" ∷ codes "port" ∷ codes "sent" ∷ codes "least" ∷ codes "greatest" ∷ codes "bound" ∷ codes "slack"
     ∷ codes "slack_per_mille" ∷ codes "occupied" ∷ codes "buffer" ∷ codes "at" ∷ []
 
+-- of a network: what is said of an end of a link, between two ports, and then of a buffer
+abbrev pub end_columns : List (List ℕ)
+end_columns = codes "least" ∷ codes "greatest" ∷ codes "least_bound" ∷ codes "bound" ∷ codes "slack" ∷ codes "slack_per_mille" ∷ codes "occupied"
+    ∷ codes "buffer" ∷ codes "at" ∷ []
+
+abbrev pub network_measure_columns : List (List ℕ)
+network_measure_columns = codes "switch" ∷ codes "kind" ∷ codes "port" ∷ codes "link" ∷ codes "from" ∷ codes "to" ∷ codes "sent" ∷ end_columns
+
 -- ---- rows under some columns
 
 abbrev pub least_of : Delays → Option ℕ
@@ -31,9 +39,9 @@ delays_row columns link port d bound = row columns ((codes "kind", codes "delays
     ∷ (codes "sent", decimal d.count) ∷ (codes "least", optional (least_of d)) ∷ (codes "greatest", optional (greatest_of d)) ∷ (codes "bound", optional bound)
     ∷ (codes "slack", slack_text (greatest_of d) bound) ∷ (codes "slack_per_mille", share_text (greatest_of d) bound) ∷ [])
 
--- how full a port's buffer was, in bytes, beside what it has, and the stamp of the first admission that reached it
-abbrev pub buffer_row : List (List ℕ) → ℕ → ℕ → Option Filling → List ℕ
-buffer_row columns port buffer peak = row columns ((codes "kind", codes "buffer") ∷ (codes "port", decimal port)
+-- how full the buffer of a port of the switch of this name was, in bytes, beside what it has, and the stamp of the first admission that reached it
+abbrev pub buffer_row : List (List ℕ) → List ℕ → ℕ → ℕ → Option Filling → List ℕ
+buffer_row columns switch port buffer peak = row columns ((codes "switch", switch) ∷ (codes "kind", codes "buffer") ∷ (codes "port", decimal port)
     ∷ (codes "occupied", decimal (option_map_or (λ f. f.bytes) peak 0)) ∷ (codes "buffer", decimal buffer) ∷ (codes "at", optional (option_map (λ f. f.at) peak)) ∷ [])
 
 -- ---- rows of a finished run
@@ -46,9 +54,13 @@ row_at columns promised r l port =
 abbrev pub link_rows : List (List ℕ) → Bool → Run → Link → List ℕ
 link_rows columns promised r l = flat_map (row_at columns promised r l) l.to
 
-abbrev pub port_row_of : List (List ℕ) → Run → PortRow → List ℕ
-port_row_of columns r p = buffer_row columns p.id p.buffer (peak_at r p)
+abbrev pub port_row_of : List (List ℕ) → List ℕ → Run → PortRow → List ℕ
+port_row_of columns switch r p = buffer_row columns switch p.id p.buffer (peak_at r p)
 
--- of each link of the table, in its order, at each of its output ports, in the link's order; then of each port, by rising number
+-- of each port, by rising number
+abbrev pub buffers_rows : List (List ℕ) → List ℕ → Run → List ℕ
+buffers_rows columns switch r = flat_map (port_row_of columns switch r) r.table.ports
+
+-- of each link of the table, in its order, at each of its output ports, in the link's order; then of each port of a switch without a name
 abbrev pub measures_rows : List (List ℕ) → Bool → Run → List ℕ
-measures_rows columns promised r = flat_map (link_rows columns promised r) r.table.links ++ flat_map (port_row_of columns r) r.table.ports
+measures_rows columns promised r = flat_map (link_rows columns promised r) r.table.links ++ buffers_rows columns [] r

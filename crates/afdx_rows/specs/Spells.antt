@@ -6,27 +6,43 @@ use Rattle.afdx_core.specs.State.{Run}
 use Rattle.afdx_spells.specs.declared.spell.Spell.{Spell}
 use Rattle.afdx_measure.specs.Policing.{spells_in, stamp_at}
 use Rattle.afdx_csv.specs.Csv.{optional, row}
-use Rattle.afdx_rows.specs.Counts.{count_columns}
-use Rattle.afdx_rows.specs.Delays.{measures_rows}
+use Rattle.afdx_rows.specs.Counts.{count_columns, network_run_columns}
+use Rattle.afdx_rows.specs.Delays.{end_columns, measures_rows}
 
 -- those of the report, of what was measured, of spells and of when frames came
 abbrev pub survey_columns : List (List ℕ)
 survey_columns = count_columns ++ codes "least" ∷ codes "greatest" ∷ codes "bound" ∷ codes "slack" ∷ codes "slack_per_mille" ∷ codes "occupied"
     ∷ codes "buffer" ∷ codes "at" ∷ codes "from" ∷ codes "to" ∷ codes "least_early" ∷ codes "greatest_early" ∷ codes "frames" ∷ []
 
--- how many frames of a link were policed in a spell, the stamps of the first and of the last, and how early they came, in ns
-abbrev pub spell_row : List (List ℕ) → ℕ → Spell → List ℕ
-spell_row columns link s = row columns ((codes "kind", codes "spell") ∷ (codes "link", decimal link) ∷ (codes "policed", decimal s.count)
-    ∷ (codes "from", decimal s.first) ∷ (codes "to", decimal s.last) ∷ (codes "least_early", decimal s.least) ∷ (codes "greatest_early", decimal s.greatest) ∷ [])
+-- of a network, in which from and to are ports, so that these stamps have other columns
+abbrev pub network_survey_columns : List (List ℕ)
+network_survey_columns = network_run_columns ++ (codes "from" ∷ codes "to" ∷ end_columns)
+    ++ codes "first" ∷ codes "last" ∷ codes "least_early" ∷ codes "greatest_early" ∷ codes "frames" ∷ []
 
-abbrev pub spell_rows : List (List ℕ) → Run → Link → List ℕ
-spell_rows columns r l = flat_map (spell_row columns l.id) (spells_in r l)
+-- ---- rows of the switch of a name, under some columns; those with stamps have the names of these two
+
+-- how many frames of a link were policed in a spell, the stamps of the first and of the last, and how early they came, in ns
+abbrev pub spell_row : List (List ℕ) → List ℕ → List ℕ × List ℕ → ℕ → Spell → List ℕ
+spell_row columns switch stamps link s = row columns ((codes "switch", switch) ∷ (codes "kind", codes "spell") ∷ (codes "link", decimal link)
+    ∷ (codes "policed", decimal s.count) ∷ (stamps.0, decimal s.first) ∷ (stamps.1, decimal s.last) ∷ (codes "least_early", decimal s.least)
+    ∷ (codes "greatest_early", decimal s.greatest) ∷ [])
+
+abbrev pub spell_rows : List (List ℕ) → List ℕ → List ℕ × List ℕ → Run → Link → List ℕ
+spell_rows columns switch stamps r l = flat_map (spell_row columns switch stamps l.id) (spells_in r l)
 
 -- the stamps of the first and of the last frame that came, and how many came
-abbrev pub span_row : List (List ℕ) → List Row → List ℕ
-span_row columns rows = row columns ((codes "kind", codes "span") ∷ (codes "from", optional (stamp_at 0 rows))
-    ∷ (codes "to", optional (stamp_at (length rows - 1) rows)) ∷ (codes "frames", decimal (length rows)) ∷ [])
+abbrev pub span_row : List (List ℕ) → List ℕ → List ℕ × List ℕ → List Row → List ℕ
+span_row columns switch stamps rows = row columns ((codes "switch", switch) ∷ (codes "kind", codes "span") ∷ (stamps.0, optional (stamp_at 0 rows))
+    ∷ (stamps.1, optional (stamp_at (length rows - 1) rows)) ∷ (codes "frames", decimal (length rows)) ∷ [])
 
--- what is measured of a finished run, then each spell of each link, and when frames came
+-- each spell of each link, and when frames came
+abbrev pub stamped_rows : List (List ℕ) → List ℕ → List ℕ × List ℕ → Run → List ℕ
+stamped_rows columns switch stamps r = flat_map (spell_rows columns switch stamps r) r.table.links ++ span_row columns switch stamps r.rows
+
+-- of a switch of a network
+abbrev pub policing_rows : List ℕ → Run → List ℕ
+policing_rows switch r = stamped_rows network_survey_columns switch (codes "first", codes "last") r
+
+-- what is measured of a finished run, and then these, of a switch without a name
 abbrev pub survey_rows : List (List ℕ) → Bool → Run → List ℕ
-survey_rows columns promised r = measures_rows columns promised r ++ flat_map (spell_rows columns r) r.table.links ++ span_row columns r.rows
+survey_rows columns promised r = measures_rows columns promised r ++ stamped_rows columns [] (codes "from", codes "to") r

@@ -3,7 +3,7 @@
 ghost use Rattle.std.specs.Prelude.{◌≡◌, ◌++◌, map, flat_map, slice_get, Some, string_bytes, OnOk};
 ghost use Rattle.afdx_table.specs.Content.{port_row};
 ghost use Rattle.afdx_measure.specs.Report.{bound_at};
-ghost use Rattle.afdx_rows.specs.Delays.{least_of, greatest_of, delays_row, buffer_row, link_rows, port_row_of, measures_rows};
+ghost use Rattle.afdx_rows.specs.Delays.{least_of, greatest_of, delays_row, buffer_row, link_rows, port_row_of, buffers_rows, measures_rows};
 
 use afdx_csv::{Field, put_row, slack, slack_per_mille};
 use afdx_load::{Loads, bounds, loads};
@@ -21,6 +21,26 @@ pub const MEASURE: &[&str] = &[
     "sent",
     "least",
     "greatest",
+    "bound",
+    "slack",
+    "slack_per_mille",
+    "occupied",
+    "buffer",
+    "at",
+];
+
+/// Those of `network measure`.
+pub const NETWORK_MEASURE: &[&str] = &[
+    "switch",
+    "kind",
+    "port",
+    "link",
+    "from",
+    "to",
+    "sent",
+    "least",
+    "greatest",
+    "least_bound",
     "bound",
     "slack",
     "slack_per_mille",
@@ -89,16 +109,17 @@ fn put_delays<A: Allocator + Copy>(
     )
 }
 
-/// Appends the row of a port with a buffer of so many bytes.
+/// Appends the row of a port with a buffer of so many bytes, of the switch of this name.
 fn put_buffer<A: Allocator + Copy>(
     text: &mut String<A>,
     columns: &[&str],
+    switch: &str,
     port: u8,
     buffer: u32,
     peak: Option<Filling>,
 ) -> Result<(), AllocError>
     ensures { OnOk result (string_bytes text.new
-        ≡ string_bytes text.old ++ buffer_row (map (λ name. name.now) columns.now) port buffer peak) }
+        ≡ string_bytes text.old ++ buffer_row (map (λ name. name.now) columns.now) switch.now port buffer peak) }
 {
     let (bytes, at) = match peak {
         Some(peak) => (peak.bytes, Some(peak.at.ns())),
@@ -108,6 +129,7 @@ fn put_buffer<A: Allocator + Copy>(
         text,
         columns,
         &[
+            ("switch", Field::Word(switch)),
             ("kind", Field::Word("buffer")),
             ("port", Field::Number(Some(u128::from(port)))),
             ("occupied", Field::Number(Some(u128::from(bytes)))),
@@ -178,28 +200,33 @@ fn put_links<A: Allocator + Copy, B: Allocator + Copy>(
 fn put_port<A: Allocator + Copy, B: Allocator + Copy>(
     text: &mut String<A>,
     columns: &[&str],
+    switch: &str,
     measures: &Measures<'_, B>,
     row: &PortRow,
 ) -> Result<(), AllocError>
     requires { port_row measures.now.run.table row.now.id ≡ Some row.now }
     ensures { OnOk result (string_bytes text.new
-        ≡ string_bytes text.old ++ port_row_of (map (λ name. name.now) columns.now) measures.now.run row.now) }
+        ≡ string_bytes text.old ++ port_row_of (map (λ name. name.now) columns.now) switch.now measures.now.run row.now) }
 {
-    put_buffer(text, columns, row.id, row.buffer, measures.peak_at(row.id))
+    let peak = measures.peak_at(row.id);
+    put_buffer(text, columns, switch, row.id, row.buffer, peak)
 }
 
-/// Appends the rows of all ports, by rising number.
-fn put_ports<A: Allocator + Copy, B: Allocator + Copy>(
+/// Appends, under these columns, a row for each port of a finished switch of this name, by rising number: how full its buffer was.
+///
+/// An error says that memory ran out; the text is then of no use. O(ports) for each row, beside its columns.
+pub fn put_buffers<A: Allocator + Copy, B: Allocator + Copy>(
     text: &mut String<A>,
     columns: &[&str],
+    switch: &str,
     measures: &Measures<'_, B>,
 ) -> Result<(), AllocError>
     ensures { OnOk result (string_bytes text.new
-        ≡ string_bytes text.old ++ flat_map (port_row_of (map (λ name. name.now) columns.now) measures.now.run) measures.now.run.table.ports) }
+        ≡ string_bytes text.old ++ buffers_rows (map (λ name. name.now) columns.now) switch.now measures.now.run) }
 {
     ports_are_found();
     for row in measures.table().ports() {
-        put_port(text, columns, measures, row)?;
+        put_port(text, columns, switch, measures, row)?;
     }
     Ok(())
 }
@@ -218,5 +245,5 @@ pub fn put_measures<A: Allocator + Copy, B: Allocator + Copy>(
         ≡ string_bytes text.old ++ measures_rows (map (λ name. name.now) columns.now) promised measures.now.run) }
 {
     put_links(text, columns, measures, promised)?;
-    put_ports(text, columns, measures)
+    put_buffers(text, columns, "", measures)
 }

@@ -20,6 +20,6 @@ mod loaded;
 mod surveyed;
 
 pub use counted::{NETWORK_RUN, RUN, put_counts, put_verdict};
-pub use delayed::{MEASURE, put_measures};
+pub use delayed::{MEASURE, NETWORK_MEASURE, put_buffers, put_measures};
 pub use loaded::{CHECK, NETWORK_SIZE, SIZE, put_check, put_size};
-pub use surveyed::{SURVEY, put_survey};
+pub use surveyed::{NETWORK_SURVEY, SURVEY, put_policing, put_survey};

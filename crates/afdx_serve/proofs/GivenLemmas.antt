@@ -16,7 +16,7 @@ use Rattle.afdx_wiring.specs.File.{Layout, is_down}
 use Rattle.afdx_wiring.specs.Net.{Network}
 use Rattle.afdx_network.specs.Runs.{Given, AreOutcomes}
 use Rattle.afdx_network.specs.Given.{is_open, ends_from, open_ends, all_from, all_ends, AreOpen, AreGiven, AreGivenBy}
-use Rattle.afdx_network.specs.Outage.{silent, up_at, given_up, coming, comes}
+use Rattle.afdx_network.specs.Outage.{silent, up_at, given_up, coming}
 use Rattle.afdx_network.specs.declared.outage.Incoming.{Incoming}
 use Rattle.afdx_network_report.specs.Lines.{Names, name_of}
 use Rattle.afdx_messages.specs.declared.failure.Failure.{Failure}

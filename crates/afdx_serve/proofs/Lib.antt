@@ -17,6 +17,7 @@ pub mod CompareLemmas
 mod PutLemmas
 mod NetworkRunLemmas
 pub mod NetworkMeasureLemmas
+pub mod NetworkRowLemmas
 pub mod WithinLemmas
 mod WatchLemmas
 mod NetworkTraceLemmas

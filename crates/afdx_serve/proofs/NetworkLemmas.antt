@@ -118,8 +118,8 @@ never_usage (ask.Jitter path form) old new h = elim h.0 [
   | inr fails ↦ fails.2.2
 ]
 never_usage (ask.Run paths form) old new h = not_led paths.network.now paths.unchecked paths.input.now old.files old.failed new.failed h.0.0
-never_usage (ask.Measure inputs) old new h = not_led inputs.network.now inputs.unchecked inputs.input.now old.files old.failed new.failed h.0
-never_usage (ask.Survey inputs) old new h = not_led inputs.network.now inputs.unchecked inputs.input.now old.files old.failed new.failed h.0
+never_usage (ask.Measure inputs form) old new h = not_led inputs.network.now inputs.unchecked inputs.input.now old.files old.failed new.failed h.0
+never_usage (ask.Survey inputs form) old new h = not_led inputs.network.now inputs.unchecked inputs.input.now old.files old.failed new.failed h.0
 never_usage (ask.Trace paths) old new h = not_led paths.network.now paths.unchecked paths.input.now old.files old.failed new.failed h.0.0
 
 -- of a name that failed: no file has changed, or those before a name were put
@@ -178,8 +178,8 @@ spares (failure.OutputCapture p e) (ask.Run paths form) old new made h = inl (h.
 spares (failure.Network e) (ask.Run paths form) old new made h = inl (h.1, h.0.1)
 spares (failure.Get name) (ask.Run paths form) old new made h = inl (h.1, h.0.1)
 spares (failure.Put name) (ask.Run paths form) old new made h = inr (network_ended _ paths _ _ _ _ h.0, h.1)
-spares f (ask.Measure inputs) old new made h = inl (h.2, h.1)
-spares f (ask.Survey inputs) old new made h = inl (h.2, h.1)
+spares f (ask.Measure inputs form) old new made h = inl (h.2, h.1)
+spares f (ask.Survey inputs form) old new made h = inl (h.2, h.1)
 spares (failure.Put name) (ask.Trace paths) old new made h = inr (network_trace_ended _ paths _ _ _ _ h.0, h.1)
 spares f (ask.Trace paths) old new made h = inl (h.1, h.0.1)
 

@@ -1,5 +1,5 @@
 -- What is reported of the run of a network of which nothing is put: one more end, and one more switch.
-use Rattle.std.proofs.Common.{◌≡◌, ℕ, suc, ◌+◌, ◌<◌, true, false, Option, List, [], ◌∷◌, ◌++◌, length, map, take, get_or, Result, Ok, Err, Vec, String, Global, string_bytes}
+use Rattle.std.proofs.Common.{◌≡◌, ℕ, ◌+◌, ◌<◌, true, false, Option, List, [], ◌∷◌, ◌++◌, length, map, take, get_or, Result, Ok, Err, Vec, String, Global, string_bytes}
 use Rattle.std.proofs.Common.{refl, ap, sym, ◌∙◌, subst, arith}
 use Rattle.std.specs.Prelude.{IfOk}
 use Rattle.std.specs.List.Sorted.{IsPermutation, IsSorted}
@@ -14,7 +14,6 @@ use Rattle.afdx_session.specs.Outcome.{Results}
 use Rattle.afdx_wiring.specs.declared.exit.Exit.{Exit}
 use Rattle.afdx_wiring.specs.declared.ways.Way.{Way}
 use Rattle.afdx_wiring.specs.File.{Switch}
-use Rattle.afdx_wiring.specs.Lines.{as_line}
 use Rattle.afdx_wiring.specs.Net.{Network}
 use Rattle.afdx_wiring.specs.Ways.{exits_of, by_link, AreWaysOf}
 use Rattle.afdx_network.specs.declared.outage.Incoming.{Incoming}
@@ -26,10 +25,10 @@ use Rattle.afdx_folder.specs.Files.{Files, KeepsFiles}
 use Rattle.afdx_origins.specs.Origins.{Origins, IsSummary}
 use Rattle.afdx_network_report.specs.Lines.{Names, name_of, report_of}
 use Rattle.afdx_network_report.specs.declared.link_ends.LinkEnd.{LinkEnd}
-use Rattle.afdx_network_report.specs.LinkEnds.{link_end_of, link_end_text}
+use Rattle.afdx_network_report.specs.LinkEnds.{link_end_of}
 use Rattle.afdx_serve.specs.Networks.{names_of}
 use Rattle.afdx_serve.specs.declared.network_survey.Parts.{Parts}
-use Rattle.afdx_serve.specs.NetworkMeasures.{unchecked_end, AreEndsOf, HaveEndLines, named_texts, peaks_text, WatchesFrom}
+use Rattle.afdx_serve.specs.NetworkMeasures.{unchecked_end, AreEndsOf, HaveEndTexts, said_of, peaks_text, WatchesFrom}
 use Rattle.afdx_serve.specs.Inner.NetworkRunning.{AreOpenedEnds}
 use Rattle.afdx_serve.specs.Inner.Watching.{HasPartsMore, ArePartsOf}
 use Rattle.afdx_serve.proofs.GivenLemmas.{gave}
@@ -37,21 +36,20 @@ use Rattle.afdx_serve.proofs.NetworkRunLemmas.{has_given_before}
 
 -- ---- ends
 
-end_more : (names : Names) (o : Origins) (ends : List LinkEnd) (e : LinkEnd) (d : Delays) (text : List ℕ) → HaveEndLines names o ends text → IsSummary o.net o.sent e.link e.to d
-    → HaveEndLines names o (ends ++ e ∷ []) (text ++ as_line (link_end_text names e d))
-end_more names o [] e d text is summary =
-    (d, [], summary, refl, ap (λ (t : List ℕ). t ++ as_line (link_end_text names e d)) is ∙ sym (append-nil (as_line (link_end_text names e d))))
-end_more names o (x ∷ ends) e d text are summary =
-    let line = as_line (link_end_text names x are.0) in
-    let own = as_line (link_end_text names e d) in
-    (are.0, are.1 ++ own, are.2, end_more names o ends e d are.1 are.3 summary, ap (λ (t : List ℕ). t ++ own) are.4 ∙ append_assoc line are.1 own)
+text_more : (said : LinkEnd → Delays → List ℕ) (o : Origins) (ends : List LinkEnd) (e : LinkEnd) (d : Delays) (text : List ℕ) → HaveEndTexts said o ends text
+    → IsSummary o.net o.sent e.link e.to d → HaveEndTexts said o (ends ++ e ∷ []) (text ++ said e d)
+text_more said o [] e d text is summary = (d, [], summary, refl, ap (λ (t : List ℕ). t ++ said e d) is ∙ sym (append-nil (said e d)))
+text_more said o (x ∷ ends) e d text are summary =
+    let own = said e d in
+    (are.0, are.1 ++ own, are.2, text_more said o ends e d are.1 are.3 summary, ap (λ (t : List ℕ). t ++ own) are.4 ∙ append_assoc (said x are.0) are.1 own)
 
 -- that at a place
-pub end_at : (names : Names) (o : Origins) (ends : List LinkEnd) (i : ℕ) (e : LinkEnd) (d : Delays) (old new : List ℕ) → i < length ends → HaveEndLines names o (take i ends) old
-    → IsSummary o.net o.sent (get_or ends i e).link (get_or ends i e).to d → new ≡ old ++ as_line (link_end_text names (get_or ends i e) d) → HaveEndLines names o (take (i + 1) ends) new
-end_at names o ends i e d old new lt lines summary grown =
-    subst (λ (es : List LinkEnd). HaveEndLines names o es new) (sym (take_more ends i e lt))
-    (subst (λ (t : List ℕ). HaveEndLines names o (take i ends ++ get_or ends i e ∷ []) t) (sym grown) (end_more names o (take i ends) (get_or ends i e) d old lines summary))
+pub text_at : (said : LinkEnd → Delays → List ℕ) (o : Origins) (ends : List LinkEnd) (i : ℕ) (e : LinkEnd) (d : Delays) (old new : List ℕ) → i < length ends
+    → HaveEndTexts said o (take i ends) old → IsSummary o.net o.sent (get_or ends i e).link (get_or ends i e).to d → new ≡ old ++ said (get_or ends i e) d
+    → HaveEndTexts said o (take (i + 1) ends) new
+text_at said o ends i e d old new lt texts summary grown =
+    subst (λ (es : List LinkEnd). HaveEndTexts said o es new) (sym (take_more ends i e lt))
+    (subst (λ (t : List ℕ). HaveEndTexts said o (take i ends ++ get_or ends i e ∷ []) t) (sym grown) (text_more said o (take i ends) (get_or ends i e) d old texts summary))
 
 -- those of an accepted network
 pub accepted_ends : {Z E : Type 0} (net : Network) (ways : List Way) (r : Result (Vec LinkEnd Z) E) → AreWaysOf net ways → IfOk r (λ ends. ends.items ≡ map link_end_of ways)
@@ -99,28 +97,28 @@ watched_before a b path net switches o keeps w = record {
 
 -- ---- switches
 
-pub none_named : (text : Tally → State → List ℕ) (names : Names) → named_texts text names [] ≡ []
-none_named text [] = refl
-none_named text (name ∷ names) = refl
+pub none_said : (said : List ℕ → Tally → State → List ℕ) (names : Names) → said_of said names [] ≡ []
+none_said said [] = refl
+none_said said (name ∷ names) = refl
 
-named_more : (text : Tally → State → List ℕ) (names : Names) (switches : List (Tally × State)) (both : Tally × State) → length switches < length names
-    → named_texts text names (switches ++ both ∷ []) ≡ named_texts text names switches ++ report_of (name_of names (length switches)) (text both.0 both.1)
-named_more text [] switches both lt = absurd (omega (arith, lt))
-named_more text (name ∷ names) [] both lt =
-    ap (λ (more : List ℕ). report_of name (text both.0 both.1) ++ more) (none_named text names) ∙ append-nil (report_of name (text both.0 both.1))
-named_more text (name ∷ names) (x ∷ switches) both lt =
-    ap (λ (more : List ℕ). report_of name (text x.0 x.1) ++ more) (named_more text names switches both (omega (arith, lt)))
-    ∙ sym (append_assoc (report_of name (text x.0 x.1)) (named_texts text names switches) (report_of (name_of names (length switches)) (text both.0 both.1)))
+said_more : (said : List ℕ → Tally → State → List ℕ) (names : Names) (switches : List (Tally × State)) (both : Tally × State) → length switches < length names
+    → said_of said names (switches ++ both ∷ []) ≡ said_of said names switches ++ said (name_of names (length switches)) both.0 both.1
+said_more said [] switches both lt = absurd (omega (arith, lt))
+said_more said (name ∷ names) [] both lt =
+    ap (λ (more : List ℕ). said name both.0 both.1 ++ more) (none_said said names) ∙ append-nil (said name both.0 both.1)
+said_more said (name ∷ names) (x ∷ switches) both lt =
+    ap (λ (more : List ℕ). said name x.0 x.1 ++ more) (said_more said names switches both (omega (arith, lt)))
+    ∙ sym (append_assoc (said name x.0 x.1) (said_of said names switches) (said (name_of names (length switches)) both.0 both.1))
 
 -- a text with one more of them, whose name is at its place
-pub one_more_named : (text : Tally → State → List ℕ) (names : Names) (switches : List (Tally × State)) (both : Tally × State) (switch : ℕ) (start old new name lines : List ℕ)
-    → switch ≡ length switches → switch < length names → name ≡ name_of names switch → lines ≡ text both.0 both.1 → old ≡ start ++ named_texts text names switches
-    → new ≡ old ++ report_of name lines → new ≡ start ++ named_texts text names (switches ++ both ∷ [])
-one_more_named text names switches both switch start old new name lines count lt named said was grown =
-    let own : List ℕ = report_of (name_of names (length switches)) (text both.0 both.1) in
-    grown ∙ ap (λ (n : List ℕ). old ++ report_of n lines) (named ∙ ap (name_of names) count) ∙ ap (λ (l : List ℕ). old ++ report_of (name_of names (length switches)) l) said
-    ∙ ap (λ (o : List ℕ). o ++ own) was ∙ append_assoc start (named_texts text names switches) own
-    ∙ ap (λ (l : List ℕ). start ++ l) (sym (named_more text names switches both (omega (arith, count, lt))))
+pub one_more_said_of : (said : List ℕ → Tally → State → List ℕ) (names : Names) (switches : List (Tally × State)) (both : Tally × State) (switch : ℕ) (start old new name : List ℕ)
+    → switch ≡ length switches → switch < length names → name ≡ name_of names switch → old ≡ start ++ said_of said names switches → new ≡ old ++ said name both.0 both.1
+    → new ≡ start ++ said_of said names (switches ++ both ∷ [])
+one_more_said_of said names switches both switch start old new name count lt named was grown =
+    let own : List ℕ = said (name_of names (length switches)) both.0 both.1 in
+    grown ∙ ap (λ (n : List ℕ). old ++ said n both.0 both.1) (named ∙ ap (name_of names) count)
+    ∙ ap (λ (t : List ℕ). t ++ own) was ∙ append_assoc start (said_of said names switches) own
+    ∙ ap (λ (t : List ℕ). start ++ t) (sym (said_more said names switches both (omega (arith, count, lt))))
 
 -- ---- switches that are taken one after the other
 
@@ -137,35 +135,36 @@ all_taken yielded (x ∷ rest) all whole none = absurd (omega (arith, none))
 
 -- ---- the parts of a survey
 
-abbrev counted : Tally → State → List ℕ
-counted counts s = counts_text counts
+abbrev counted : List ℕ → Tally → State → List ℕ
+counted name counts s = report_of name (counts_text counts)
 
-abbrev policed : Tally → State → List ℕ
-policed counts s = policing_of s.run
+abbrev filled : List ℕ → Tally → State → List ℕ
+filled name counts s = report_of name (peaks_text counts s)
+
+abbrev policed : List ℕ → Tally → State → List ℕ
+policed name counts s = report_of name (policing_of s.run)
 
 pub no_parts : (names : Names) (p : Parts) → p.reports.items ≡ [] → p.peaks.items ≡ [] → p.policing.items ≡ [] → ArePartsOf names [] p
 no_parts names p reports peaks policing = record {
-  reports = reports ∙ sym (none_named counted names);
-  peaks = peaks ∙ sym (none_named peaks_text names);
-  policing = policing ∙ sym (none_named policed names);
+  reports = reports ∙ sym (none_said counted names);
+  peaks = peaks ∙ sym (none_said filled names);
+  policing = policing ∙ sym (none_said policed names);
 }
 
 pub parts_more : (names : Names) (switches : List (Tally × State)) (both : Tally × State) (switch : ℕ) (name : List ℕ) (old new : Parts) → switch ≡ length switches → switch < length names
     → name ≡ name_of names switch → ArePartsOf names switches old → HasPartsMore name both.0 both.1 old new → ArePartsOf names (switches ++ both ∷ []) new
 parts_more names switches both switch name old new count lt named was more = record {
-  reports = one_more_named counted names switches both switch [] old.reports.items new.reports.items name (counts_text both.0) count lt named refl was.reports more.reports;
-  peaks = one_more_named peaks_text names switches both switch [] old.peaks.items new.peaks.items name (peaks_text both.0 both.1) count lt named refl was.peaks more.peaks;
-  policing = one_more_named policed names switches both switch [] old.policing.items new.policing.items name (policing_of both.1.run) count lt named refl was.policing more.policing;
+  reports = one_more_said_of counted names switches both switch [] _ _ name count lt named was.reports more.reports;
+  peaks = one_more_said_of filled names switches both switch [] _ _ name count lt named was.peaks more.peaks;
+  policing = one_more_said_of policed names switches both switch [] _ _ name count lt named was.policing more.policing;
 }
 
 -- they are joined, with other lines after the reports
-pub survey_joined : (names : Names) (switches : List (Tally × State)) (p : Parts) (lines first second text : List ℕ) → ArePartsOf names switches p
-    → first ≡ p.reports.items ++ lines → second ≡ first ++ p.peaks.items → text ≡ second ++ p.policing.items
-    → text ≡ named_texts counted names switches ++ (lines ++ named_texts peaks_text names switches) ++ named_texts policed names switches
-survey_joined names switches p lines first second text are one two three =
-    let reports = named_texts counted names switches in
-    let peaks = named_texts peaks_text names switches in
-    let last : second ≡ reports ++ (lines ++ peaks) =
-    two ∙ ap (λ (t : List ℕ). t ++ p.peaks.items) one ∙ ap (λ (t : List ℕ). (p.reports.items ++ lines) ++ t) are.peaks ∙ ap (λ (t : List ℕ). (t ++ lines) ++ peaks) are.reports
-    ∙ append_assoc reports lines peaks in
-    three ∙ ap (λ (t : List ℕ). t ++ p.policing.items) last ∙ ap (λ (t : List ℕ). (reports ++ (lines ++ peaks)) ++ t) are.policing
+pub survey_joined : (names : Names) (switches : List (Tally × State)) (p : Parts) (lines text : List ℕ) → ArePartsOf names switches p
+    → text ≡ ((p.reports.items ++ lines) ++ p.peaks.items) ++ p.policing.items
+    → text ≡ said_of counted names switches ++ (lines ++ said_of filled names switches) ++ said_of policed names switches
+survey_joined names switches p lines text are is =
+    let reports = said_of counted names switches in
+    let peaks = said_of filled names switches in
+    let policing = said_of policed names switches in
+    rw (are.reports, are.peaks, are.policing) at is ∙ ap (λ (t : List ℕ). t ++ policing) (append_assoc reports lines peaks)

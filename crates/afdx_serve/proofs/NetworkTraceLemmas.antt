@@ -1,5 +1,5 @@
 -- What is put of the trace of a network's run: of one more switch, and all of it; and why it is not.
-use Rattle.std.proofs.Common.{◌≡◌, ℕ, suc, ◌+◌, ◌<◌, Bool, false, List, [], ◌∷◌, ◌++◌, length, map, take, get_or, Option, Result, Ok, Err, Bor, Vec, String, Global, string_bytes, inl, inr}
+use Rattle.std.proofs.Common.{◌≡◌, ℕ, suc, ◌+◌, ◌<◌, List, [], ◌∷◌, ◌++◌, length, map, take, get_or, Option, Result, Ok, Err, Bor, Vec, String, Global, string_bytes, inl, inr}
 use Rattle.std.proofs.Common.{refl, sym, ap, subst, ◌∙◌, arith}
 use Rattle.std.specs.Prelude.{MatchResult}
 use Rattle.std.proofs.lemmas.List.{append_assoc, append-nil, flat_map_more, length-map, length-take-le, map-append, take_more}
@@ -7,7 +7,6 @@ use Rattle.afdx_core.specs.State.{State}
 use Rattle.afdx_count.specs.Tally.{Tally}
 use Rattle.afdx_trace.specs.declared.shown.Selection.{Selection}
 use Rattle.afdx_wiring.specs.Net.{Network}
-use Rattle.afdx_wiring.specs.Rules.{IsAcceptedNetwork}
 use Rattle.afdx_network_report.specs.Lines.{Names}
 use Rattle.afdx_arguments.specs.declared.request.NetworkInputs.{NetworkInputs}
 use Rattle.afdx_arguments.specs.declared.request.NetworkPaths.{NetworkPaths}
@@ -17,7 +16,6 @@ use Rattle.afdx_folder.specs.Files.{Files, DeviceLog, KeepsFiles, PutsFiles, set
 use Rattle.afdx_serve.specs.declared.network_watched.Planned.{Planned}
 use Rattle.afdx_serve.specs.Runs.{StopsAt, EndsAt, FailsToPut}
 use Rattle.afdx_serve.specs.Networks.{names_of, HasNetwork}
-use Rattle.afdx_serve.specs.NetworkMeasures.{WatchesFrom}
 use Rattle.afdx_serve.specs.NetworkRuns.{switch_folder, FailsToLeadFrom}
 use Rattle.afdx_serve.specs.NetworkTraces.{network_trace_names, switch_texts, network_trace_texts, IsNetworkTraceIn, StopsNetworkTrace, EndsNetworkTrace, PutsNetworkTrace, FailsToTraceNetwork}
 use Rattle.afdx_serve.specs.Traces.{trace_names}

@@ -1,7 +1,7 @@
 -- On no way of an accepted network does a frame take longer than is promised.
-use Rattle.std.proofs.Common.{◌≡◌, ◌+◌, ◌-◌, ◌<◌, ◌≤◌, ◌==◌, ℕ, Bool, true, false, cond, not, string_bytes, List, [], ◌∷◌, ◌++◌, map, find, get_or, length, slice_get, Option, Some, None}
+use Rattle.std.proofs.Common.{◌≡◌, ◌-◌, ◌<◌, ◌==◌, ℕ, Bool, true, false, cond, not, string_bytes, List, [], ◌∷◌, ◌++◌, map, find, get_or, length, slice_get, Option, Some, None}
 use Rattle.std.proofs.Common.{refl, ap, sym, ◌∙◌, subst, arith}
-use Rattle.std.specs.Prelude.{All, IfSome, reverse, option_and_then}
+use Rattle.std.specs.Prelude.{All, reverse, option_and_then}
 use Rattle.std.specs.Option.{option_map, unwrap_or}
 use Rattle.std.specs.List.{AllByRecursion, AllZip}
 use Rattle.std.proofs.lemmas.Bool.{eqb-true}
@@ -13,9 +13,6 @@ use Rattle.afdx_table.specs.WellFormed.{TablesAreWellFormed}
 use Rattle.afdx_table.specs.Content.{Content, link_row}
 use Rattle.afdx_core.specs.State.{State}
 use Rattle.afdx_count.specs.Tally.{Tally}
-use Rattle.afdx_count.specs.Report.{report_of as counts_text}
-use Rattle.afdx_measure.specs.declared.delays.Delays.{Delays}
-use Rattle.afdx_measure.specs.Policing.{policing_of}
 use Rattle.afdx_wiring.specs.declared.exit.Exit.{Exit}
 use Rattle.afdx_wiring.specs.declared.layout.End.{End}
 use Rattle.afdx_wiring.specs.declared.layout.Wire.{Wire}
@@ -35,8 +32,11 @@ use Rattle.afdx_network_report.specs.LinkEnds.{link_end_of}
 use Rattle.afdx_network_report.specs.declared.link_ends.LinkEnd.{LinkEnd}
 use Rattle.afdx_serve.specs.declared.network_watched.Planned.{Planned}
 use Rattle.afdx_serve.specs.Networks.{names_of}
-use Rattle.afdx_serve.specs.NetworkMeasures.{AreEndsOf, HaveEndLines, IsWithinItsWay, named_texts, peaks_text, WatchesFrom, IsMeasuredNetwork}
-use Rattle.afdx_serve.specs.NetworkMeasures.{HasMeasuredText, HasSurveyText, MeasuresNetworkTo, SurveysNetworkTo}
+use Rattle.afdx_csv.specs.declared.form.Form.{Form}
+use Rattle.afdx_rows.specs.Delays.{network_measure_columns}
+use Rattle.afdx_rows.specs.Spells.{network_survey_columns}
+use Rattle.afdx_serve.specs.NetworkMeasures.{AreEndsOf, HaveEnds, IsWithinItsWay, heading_in, buffers_in, counts_in, policing_in, WatchesFrom, IsMeasuredNetwork}
+use Rattle.afdx_serve.specs.NetworkMeasures.{IsMeasuredText, HasMeasuredText, HasSurveyText, MeasuresNetworkTo, SurveysNetworkTo}
 use Rattle.afdx_serve.specs.Inner.NetworkRunning.{network_in, is_accepted}
 use Rattle.afdx_serve.specs.Inner.Watching.{IsPlanned}
 use Rattle.afdx_serve.proofs.NetworkMeasureLemmas.{watched_before}
@@ -140,38 +140,42 @@ module _ (law : NoneTakesMoreThanItsWay) (runs : WatchedRunsKeepBounds) (formed 
     abbrev names_in : Names
     names_in = names_of (network_in p.plan).layout.switches
 
-    lines_of : (text : List ℕ) → HasMeasuredText (is_accepted p.plan) (network_in p.plan) (map string_bytes p.names.items) switches o text
-        → HasMeasuredText (not inputs.unchecked) (network_in p.plan) names_in switches o text
-    lines_of text t = record {
+    said_of_it : (form : Form) (columns : List (List ℕ)) (text : List ℕ)
+        → IsMeasuredText form columns (is_accepted p.plan) (network_in p.plan) (map string_bytes p.names.items) switches o text
+        → IsMeasuredText form columns (not inputs.unchecked) (network_in p.plan) names_in switches o text
+    said_of_it form columns text t = record {
       ends = t.ends;
       lines = t.lines;
       are_ends = subst (λ accepted. AreEndsOf accepted (network_in p.plan) t.ends) planned.chosen t.are_ends;
-      lines_are = subst (λ (ns : Names). HaveEndLines ns o t.ends t.lines) planned.names t.lines_are;
-      text_is = t.text_is ∙ ap (λ (ns : Names). t.lines ++ named_texts peaks_text ns switches) planned.names;
+      lines_are = subst (λ (ns : Names). HaveEnds form columns ns o t.ends t.lines) planned.names t.lines_are;
+      text_is = t.text_is ∙ ap (λ (ns : Names). t.lines ++ buffers_in form columns ns switches) planned.names;
     }
 
-    pub measures_to : (text : List ℕ) → HasMeasuredText (is_accepted p.plan) (network_in p.plan) (map string_bytes p.names.items) switches o text → MeasuresNetworkTo inputs a text
-    unfolding lines_of
-    measures_to text t = record {
+    pub measures_to : (form : Form) (text : List ℕ) → HasMeasuredText form (is_accepted p.plan) (network_in p.plan) (map string_bytes p.names.items) switches o text
+        → MeasuresNetworkTo form inputs a text
+    unfolding said_of_it
+    measures_to form text t = record {
       net = network_in p.plan;
       switches = switches;
       origins = o;
       measured = measured_by;
-      has_text = lines_of text t;
-      within = λ checked. all_kept inputs a (network_in p.plan) switches o t.ends measured_by (lines_of text t).are_ends checked;
+      has_text = record { measured = t.measured; has_measured = said_of_it form network_measure_columns t.measured t.has_measured; text_is = t.text_is };
+      within = λ checked. all_kept inputs a (network_in p.plan) switches o t.has_measured.ends measured_by (said_of_it form network_measure_columns t.measured t.has_measured).are_ends checked;
     }
 
-    pub surveys_to : (text : List ℕ) → HasSurveyText (is_accepted p.plan) (network_in p.plan) (map string_bytes p.names.items) switches o text → SurveysNetworkTo inputs a text
-    unfolding lines_of
-    surveys_to text t = record {
+    pub surveys_to : (form : Form) (text : List ℕ) → HasSurveyText form (is_accepted p.plan) (network_in p.plan) (map string_bytes p.names.items) switches o text
+        → SurveysNetworkTo form inputs a text
+    unfolding said_of_it
+    surveys_to form text t = record {
       net = network_in p.plan;
       switches = switches;
       origins = o;
       measured = measured_by;
       has_text = record {
         measured = t.measured;
-        has_measured = lines_of t.measured t.has_measured;
-        text_is = t.text_is ∙ ap (λ (ns : Names). named_texts (λ counts s. counts_text counts) ns switches ++ t.measured ++ named_texts (λ counts s. policing_of s.run) ns switches) planned.names;
+        has_measured = said_of_it form network_survey_columns t.measured t.has_measured;
+        text_is = t.text_is
+            ∙ ap (λ (ns : Names). heading_in form network_survey_columns ++ counts_in form ns switches ++ t.measured ++ policing_in form ns switches) planned.names;
       };
-      within = λ checked. all_kept inputs a (network_in p.plan) switches o t.has_measured.ends measured_by (lines_of t.measured t.has_measured).are_ends checked;
+      within = λ checked. all_kept inputs a (network_in p.plan) switches o t.has_measured.ends measured_by (said_of_it form network_survey_columns t.measured t.has_measured).are_ends checked;
     }

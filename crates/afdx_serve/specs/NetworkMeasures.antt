@@ -24,6 +24,13 @@ use Rattle.afdx_network.specs.Watched.{AreEnded, HaveSent}
 use Rattle.afdx_network_report.specs.Lines.{Names, report_of}
 use Rattle.afdx_network_report.specs.declared.link_ends.LinkEnd.{LinkEnd}
 use Rattle.afdx_network_report.specs.LinkEnds.{link_end_of, link_end_text}
+use Rattle.afdx_network_report.specs.Rows.{link_end_row}
+use Rattle.afdx_csv.specs.declared.form.Form.{Form}
+use Rattle.afdx_csv.specs.declared.form.Form.TheVariants.{Lines, Csv}
+use Rattle.afdx_csv.specs.Csv.{heading}
+use Rattle.afdx_rows.specs.Counts.{counts_rows}
+use Rattle.afdx_rows.specs.Delays.{network_measure_columns, buffers_rows}
+use Rattle.afdx_rows.specs.Spells.{network_survey_columns, policing_rows}
 use Rattle.afdx_arguments.specs.declared.request.NetworkInputs.{NetworkInputs}
 use Rattle.afdx_folder.specs.Files.{Files}
 use Rattle.afdx_serve.specs.Networks.{names_of, HasNetwork}
@@ -45,11 +52,20 @@ abbrev pub AreEndsOf : (accepted : Bool) → Network → List LinkEnd → Type 0
 AreEndsOf true net ends = (ways : List Way) × AreWaysOf net ways × (ends ≡ map link_end_of ways)
 AreEndsOf false net ends = (exits : List Exit) × IsPermutation (exits_of net) exits × IsSorted by_link exits × (ends ≡ map (unchecked_end net) exits)
 
--- the lines of ends, with the delays of the copies that were sent there
+-- what is said of ends, with the delays of the copies that were sent there
+abbrev pub HaveEndTexts : (LinkEnd → Delays → List ℕ) → Origins → List LinkEnd → List ℕ → Type 0
+HaveEndTexts said o [] text = text ≡ []
+HaveEndTexts said o (e ∷ ends) text =
+    (d : Delays) × (more : List ℕ) × IsSummary o.net o.sent e.link e.to d × HaveEndTexts said o ends more × (text ≡ said e d ++ more)
+
+-- a line of each
 abbrev pub HaveEndLines : Names → Origins → List LinkEnd → List ℕ → Type 0
-HaveEndLines names o [] text = text ≡ []
-HaveEndLines names o (e ∷ ends) text =
-    (d : Delays) × (more : List ℕ) × IsSummary o.net o.sent e.link e.to d × HaveEndLines names o ends more × (text ≡ as_line (link_end_text names e d) ++ more)
+HaveEndLines names = HaveEndTexts (λ e d. as_line (link_end_text names e d))
+
+-- in a form, whose rows are under these columns
+abbrev pub HaveEnds : Form → (columns : List (List ℕ)) → Names → Origins → List LinkEnd → List ℕ → Type 0
+HaveEnds Lines columns names = HaveEndLines names
+HaveEnds Csv columns names = HaveEndTexts (link_end_row columns names)
 
 -- no delay there is greater than the most that is promised
 abbrev pub IsWithinItsWay : Origins → LinkEnd → Type 0
@@ -57,14 +73,31 @@ IsWithinItsWay o e = (d : Delays) → IsSummary o.net o.sent e.link e.to d → I
 
 -- ---- the switches
 
--- a text of each switch, with its name before each line
+-- what is said of each switch, by its name
+abbrev pub said_of : (List ℕ → Tally → State → List ℕ) → Names → List (Tally × State) → List ℕ
+said_of said (name ∷ names) (both ∷ switches) = said name both.0 both.1 ++ said_of said names switches
+said_of said _ _ = []
+
+-- a text of each, with its name before each line
 abbrev pub named_texts : (Tally → State → List ℕ) → Names → List (Tally × State) → List ℕ
-named_texts text (name ∷ names) (both ∷ switches) = report_of name (text both.0 both.1) ++ named_texts text names switches
-named_texts text _ _ = []
+named_texts text = said_of (λ name counts s. report_of name (text counts s))
 
 -- how full the buffers were
 abbrev pub peaks_text : Tally → State → List ℕ
 peaks_text counts s = flat_map (port_line s.run) s.run.table.ports
+
+-- in a form: how full the buffers were, the reports, and when links were policed and frames came
+abbrev pub buffers_in : Form → (columns : List (List ℕ)) → Names → List (Tally × State) → List ℕ
+buffers_in Lines columns = named_texts peaks_text
+buffers_in Csv columns = said_of (λ name counts s. buffers_rows columns name s.run)
+
+abbrev pub counts_in : Form → Names → List (Tally × State) → List ℕ
+counts_in Lines = named_texts (λ counts s. counts_text counts)
+counts_in Csv = said_of (λ name counts s. counts_rows network_survey_columns name counts)
+
+abbrev pub policing_in : Form → Names → List (Tally × State) → List ℕ
+policing_in Lines = named_texts (λ counts s. policing_of s.run)
+policing_in Csv = said_of (λ name counts s. policing_rows name s.run)
 
 -- ---- the run
 
@@ -88,35 +121,46 @@ pub record IsMeasuredNetwork (inputs : NetworkInputs) (files : Option Files) (ne
 
 -- ---- the texts of a run, whatever it is over
 
--- what `network measure` writes of it: the lines of these ends, and how full buffers were
-pub record HasMeasuredText (accepted : Bool) (net : Network) (names : Names) (switches : List (Tally × State)) (o : Origins) (text : List ℕ) : Type 0 where
+-- rows are below a heading
+abbrev pub heading_in : Form → (columns : List (List ℕ)) → List ℕ
+heading_in Lines columns = []
+heading_in Csv columns = heading columns
+
+-- what is measured of it: what is said of these ends, and how full buffers were
+pub record IsMeasuredText (form : Form) (columns : List (List ℕ)) (accepted : Bool) (net : Network) (names : Names) (switches : List (Tally × State)) (o : Origins) (text : List ℕ) : Type 0 where
   pub ends : List LinkEnd
   pub lines : List ℕ
   pub are_ends : AreEndsOf accepted net ends
-  pub lines_are : HaveEndLines names o ends lines
-  pub text_is : text ≡ lines ++ named_texts peaks_text names switches
+  pub lines_are : HaveEnds form columns names o ends lines
+  pub text_is : text ≡ lines ++ buffers_in form columns names switches
+
+-- what `network measure` writes
+pub record HasMeasuredText (form : Form) (accepted : Bool) (net : Network) (names : Names) (switches : List (Tally × State)) (o : Origins) (text : List ℕ) : Type 0 where
+  pub measured : List ℕ
+  pub has_measured : IsMeasuredText form network_measure_columns accepted net names switches o measured
+  pub text_is : text ≡ heading_in form network_measure_columns ++ measured
 
 -- what `network survey` writes
-pub record HasSurveyText (accepted : Bool) (net : Network) (names : Names) (switches : List (Tally × State)) (o : Origins) (text : List ℕ) : Type 0 where
+pub record HasSurveyText (form : Form) (accepted : Bool) (net : Network) (names : Names) (switches : List (Tally × State)) (o : Origins) (text : List ℕ) : Type 0 where
   pub measured : List ℕ
-  pub has_measured : HasMeasuredText accepted net names switches o measured
-  pub text_is : text ≡ named_texts (λ counts s. counts_text counts) names switches ++ measured ++ named_texts (λ counts s. policing_of s.run) names switches
+  pub has_measured : IsMeasuredText form network_survey_columns accepted net names switches o measured
+  pub text_is : text ≡ heading_in form network_survey_columns ++ counts_in form names switches ++ measured ++ policing_in form names switches
 
 -- `network measure` reports this: the delays from end to end, and how full buffers were; of an accepted network no delay is greater than
 -- what is promised
-pub record MeasuresNetworkTo (inputs : NetworkInputs) (files : Option Files) (text : List ℕ) : Type 0 where
+pub record MeasuresNetworkTo (form : Form) (inputs : NetworkInputs) (files : Option Files) (text : List ℕ) : Type 0 where
   pub net : Network
   pub switches : List (Tally × State)
   pub origins : Origins
   pub measured : IsMeasuredNetwork inputs files net switches origins
-  pub has_text : HasMeasuredText (not inputs.unchecked) net (names_of net.layout.switches) switches origins text
-  pub within : inputs.unchecked ≡ false → All (IsWithinItsWay origins) has_text.ends
+  pub has_text : HasMeasuredText form (not inputs.unchecked) net (names_of net.layout.switches) switches origins text
+  pub within : inputs.unchecked ≡ false → All (IsWithinItsWay origins) has_text.has_measured.ends
 
 -- `network survey` reports this: the reports of `network run`, what `network measure` says, and when links were policed and frames came
-pub record SurveysNetworkTo (inputs : NetworkInputs) (files : Option Files) (text : List ℕ) : Type 0 where
+pub record SurveysNetworkTo (form : Form) (inputs : NetworkInputs) (files : Option Files) (text : List ℕ) : Type 0 where
   pub net : Network
   pub switches : List (Tally × State)
   pub origins : Origins
   pub measured : IsMeasuredNetwork inputs files net switches origins
-  pub has_text : HasSurveyText (not inputs.unchecked) net (names_of net.layout.switches) switches origins text
+  pub has_text : HasSurveyText form (not inputs.unchecked) net (names_of net.layout.switches) switches origins text
   pub within : inputs.unchecked ≡ false → All (IsWithinItsWay origins) has_text.has_measured.ends

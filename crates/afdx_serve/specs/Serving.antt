@@ -208,8 +208,8 @@ FailsToRunNetwork failure.Write form paths old new =
 FailsToRunNetwork f form paths old new = FailsToPutNetwork f paths old.files new.files old.failed new.failed × WritesNothing old new
 
 -- the files lead to this text of a network's run, which was written; nothing was put
-abbrev pub MeasuresNetwork : NetworkInputs → World → World → Type 0
-MeasuresNetwork inputs old new = (text : List ℕ) × MeasuresNetworkTo inputs old.files text × Appends old.written new.written text × KeepsFolder old new
+abbrev pub MeasuresNetwork : Form → NetworkInputs → World → World → Type 0
+MeasuresNetwork form inputs old new = (text : List ℕ) × MeasuresNetworkTo form inputs old.files text × Appends old.written new.written text × KeepsFolder old new
 
 -- why it was not, and what was written
 abbrev pub FailsToWatchNetwork : (List ℕ → Type 0) → Failure → NetworkInputs → World → World → Type 0
@@ -217,15 +217,15 @@ FailsToWatchNetwork IsText failure.Write inputs old new = (text : List ℕ) × I
 FailsToWatchNetwork IsText f inputs old new =
     FailsToLeadFrom f inputs.network.now inputs.unchecked inputs.input.now old.files old.failed new.failed × KeepsFiles old.files new.files × WritesNothing old new
 
-abbrev pub FailsToMeasureNetwork : Failure → NetworkInputs → World → World → Type 0
-FailsToMeasureNetwork f inputs old new = FailsToWatchNetwork (MeasuresNetworkTo inputs old.files) f inputs old new
+abbrev pub FailsToMeasureNetwork : Failure → Form → NetworkInputs → World → World → Type 0
+FailsToMeasureNetwork f form inputs old new = FailsToWatchNetwork (MeasuresNetworkTo form inputs old.files) f inputs old new
 
 -- the same of a survey
-abbrev pub SurveysNetwork : NetworkInputs → World → World → Type 0
-SurveysNetwork inputs old new = (text : List ℕ) × SurveysNetworkTo inputs old.files text × Appends old.written new.written text × KeepsFolder old new
+abbrev pub SurveysNetwork : Form → NetworkInputs → World → World → Type 0
+SurveysNetwork form inputs old new = (text : List ℕ) × SurveysNetworkTo form inputs old.files text × Appends old.written new.written text × KeepsFolder old new
 
-abbrev pub FailsToSurveyNetwork : Failure → NetworkInputs → World → World → Type 0
-FailsToSurveyNetwork f inputs old new = FailsToWatchNetwork (SurveysNetworkTo inputs old.files) f inputs old new
+abbrev pub FailsToSurveyNetwork : Failure → Form → NetworkInputs → World → World → Type 0
+FailsToSurveyNetwork f form inputs old new = FailsToWatchNetwork (SurveysNetworkTo form inputs old.files) f inputs old new
 
 -- what a request of networks asks for was done
 abbrev pub PerformsNetwork : NetworkRequest → World → World → Type 0
@@ -233,8 +233,8 @@ PerformsNetwork (ask.Check path form) old new = ChecksNetwork form path.now old 
 PerformsNetwork (ask.Size path form) old new = SizesNetwork form path.now old new
 PerformsNetwork (ask.Jitter path form) old new = GivesJitters form path.now old new
 PerformsNetwork (ask.Run paths form) old new = RunsNetwork form paths old new
-PerformsNetwork (ask.Measure inputs) old new = MeasuresNetwork inputs old new
-PerformsNetwork (ask.Survey inputs) old new = SurveysNetwork inputs old new
+PerformsNetwork (ask.Measure inputs form) old new = MeasuresNetwork form inputs old new
+PerformsNetwork (ask.Survey inputs form) old new = SurveysNetwork form inputs old new
 PerformsNetwork (ask.Trace paths) old new = PutsNetworkTrace paths old.files new.files old.failed new.failed × WritesNothing old new
 
 -- why it was not, and what was done
@@ -243,8 +243,8 @@ FailsToPerformNetwork f (ask.Check path form) old new = FailsToCheckNetwork f fo
 FailsToPerformNetwork f (ask.Size path form) old new = FailsToSizeNetwork f form path.now old new
 FailsToPerformNetwork f (ask.Jitter path form) old new = FailsToGiveJitters f form path.now old new
 FailsToPerformNetwork f (ask.Run paths form) old new = FailsToRunNetwork f form paths old new
-FailsToPerformNetwork f (ask.Measure inputs) old new = FailsToMeasureNetwork f inputs old new
-FailsToPerformNetwork f (ask.Survey inputs) old new = FailsToSurveyNetwork f inputs old new
+FailsToPerformNetwork f (ask.Measure inputs form) old new = FailsToMeasureNetwork f form inputs old new
+FailsToPerformNetwork f (ask.Survey inputs form) old new = FailsToSurveyNetwork f form inputs old new
 FailsToPerformNetwork f (ask.Trace paths) old new = FailsToTraceNetwork f paths old.files new.files old.failed new.failed × WritesNothing old new
 
 -- ---- runs

@@ -2,11 +2,12 @@
 
 ghost use Rattle.std.specs.Prelude.{◌≡◌, true, map, string_bytes, IfOk};
 ghost use Rattle.afdx_serve.specs.Inner.NetworkRunning.{network_in, is_accepted};
-ghost use Rattle.afdx_serve.specs.NetworkMeasures.{AreEndsOf, HaveEndLines, unchecked_end};
+ghost use Rattle.afdx_serve.specs.NetworkMeasures.{AreEndsOf, HaveEndTexts, HaveEndLines, unchecked_end};
 ghost use Rattle.afdx_network_report.specs.LinkEnds.{link_end_of};
+ghost use Rattle.afdx_network_report.specs.Rows.{link_end_row};
 
 use crate::network_plan::NetworkPlan;
-use afdx_network_report::{LinkEnd, put_link_end};
+use afdx_network_report::{LinkEnd, put_link_end, put_link_end_row};
 use afdx_origins::Origins;
 use afdx_wiring::{ClearedNetwork, Exit, Network, Way};
 use std::alloc::{AllocError, Global};
@@ -93,6 +94,28 @@ pub(crate) fn ends_text(
             return Err(AllocError);
         };
         put_link_end(&mut text, names, end, &delays)?;
+    }
+    Ok(text)
+}
+
+/// Their rows, under these columns.
+pub(crate) fn ends_rows(
+    alloc: Global,
+    columns: &[&str],
+    names: &[String],
+    ends: &[LinkEnd],
+    origins: &Origins<'_>,
+) -> Result<String, AllocError>
+    ensures { IfOk result (λ text.
+        HaveEndTexts (link_end_row (map (λ name. name.now) columns.now) (map string_bytes names.now)) origins.now ends.now (string_bytes text)) }
+{
+    let mut text = String::new(alloc);
+    for end in ends {
+        // A link leads to each of its ends, so that this is there.
+        let Some(delays) = origins.delays_at(end.link, end.to) else {
+            return Err(AllocError);
+        };
+        put_link_end_row(alloc, &mut text, columns, names, end, &delays)?;
     }
     Ok(text)
 }

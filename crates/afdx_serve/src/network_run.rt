@@ -11,8 +11,7 @@ ghost use Rattle.afdx_network.specs.declared.outage.Incoming.{Incoming as Coming
 ghost use Rattle.afdx_network.specs.Written.{captures_in, AreWritten};
 ghost use Rattle.afdx_folder.specs.Files.{Files, KeepsFiles};
 ghost use Rattle.afdx_serve.specs.Networks.{names_of};
-ghost use Rattle.afdx_serve.specs.NetworkRuns.{switch_folder, bytes_at, captures_of, reports_of, switch_rows, runs_text, HasGiven, FailsToGetGiven};
-ghost use Rattle.afdx_serve.specs.Inner.Leading.{AreOpened};
+ghost use Rattle.afdx_serve.specs.NetworkRuns.{switch_folder, bytes_at, captures_of, reports_of, switch_rows, runs_text, FailsToGetGiven};
 ghost use Rattle.afdx_serve.specs.Inner.Outputs.{HaveBytes};
 ghost use Rattle.afdx_serve.specs.Inner.NetworkRunning.{network_in, end_names, AreOpenedEnds, HasRun, LeadsFrom, IsCaptureFailure};
 ghost use Rattle.afdx_serve.specs.Serving.{world, RunsNetwork, FailsToRunNetwork};

@@ -34,8 +34,8 @@ pub(crate) fn perform_network<O: Write, F: Folder>(
         NetworkRequest::Size(path, form) => network_size(alloc, path, *form, out, folder),
         NetworkRequest::Jitter(path, form) => network_jitter(alloc, path, *form, out, folder),
         NetworkRequest::Run(paths, form) => network_run(alloc, paths, *form, out, folder),
-        NetworkRequest::Measure(inputs) => network_measure(alloc, inputs, out, folder),
-        NetworkRequest::Survey(inputs) => network_survey(alloc, inputs, out, folder),
+        NetworkRequest::Measure(inputs, form) => network_measure(alloc, inputs, *form, out, folder),
+        NetworkRequest::Survey(inputs, form) => network_survey(alloc, inputs, *form, out, folder),
         NetworkRequest::Trace(paths) => network_trace(alloc, paths, folder),
     }
 }

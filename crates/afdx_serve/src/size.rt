@@ -4,9 +4,8 @@ ghost use Rattle.std.specs.Prelude.{◌≡◌, ℕ, ◌++◌, [], map, Some, opt
 ghost use Rattle.afdx_table.specs.Content.{port_row};
 ghost use Rattle.afdx_load.specs.Load.{load_of};
 ghost use Rattle.afdx_load.specs.Fits.{is_broken, broken_rules};
-ghost use Rattle.afdx_wiring.specs.Lines.{as_line};
 ghost use Rattle.afdx_serve.specs.Checks.{IsLeastBuffer};
-ghost use Rattle.afdx_serve.specs.Sizes.{delay_text, letter_of, letters_of, verdict_text, amounts_text, delays_text, size_text};
+ghost use Rattle.afdx_serve.specs.Sizes.{delay_text, letter_of, letters_of, verdict_text, amounts_text, delays_text};
 ghost use Rattle.afdx_serve.specs.Sizes.{of_switch, columns_for, size_in, size_heading, IsSizeOf, AreSizesWith, AreSizesIn};
 ghost use Rattle.afdx_serve.specs.Serving.{world, Sizes, FailsToSize};
 

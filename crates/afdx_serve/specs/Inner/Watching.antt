@@ -12,10 +12,15 @@ use Rattle.afdx_network.specs.Given.{NoneShareAPort}
 use Rattle.afdx_arguments.specs.declared.request.NetworkInputs.{NetworkInputs}
 use Rattle.afdx_folder.specs.Files.{Files}
 use Rattle.afdx_network_report.specs.Lines.{Names, report_of}
+use Rattle.afdx_csv.specs.declared.form.Form.TheVariants.{Csv}
+use Rattle.afdx_rows.specs.Counts.{counts_rows}
+use Rattle.afdx_rows.specs.Delays.{buffers_rows}
+use Rattle.afdx_rows.specs.Spells.{network_survey_columns, policing_rows}
 use Rattle.afdx_network_trace.specs.First.{HaveFirstNumbers}
 use Rattle.afdx_serve.specs.declared.network_watched.Planned.{Planned}
 use Rattle.afdx_serve.specs.declared.network_survey.Parts.{Parts}
-use Rattle.afdx_serve.specs.NetworkMeasures.{named_texts, peaks_text, WatchesFrom}
+use Rattle.afdx_serve.specs.declared.network_survey.SwitchRows.{SwitchRows}
+use Rattle.afdx_serve.specs.NetworkMeasures.{named_texts, peaks_text, buffers_in, counts_in, policing_in, WatchesFrom}
 use Rattle.afdx_serve.specs.NetworkTraces.{ShowsAllLines, network_trace_texts}
 use Rattle.afdx_serve.specs.Networks.{names_of, HasNetwork}
 use Rattle.afdx_serve.specs.Inner.NetworkRunning.{network_in, is_accepted}
@@ -40,6 +45,17 @@ pub record ArePartsOf (names : Names) (switches : List (Tally × State)) (p : Pa
   pub reports : p.reports.items ≡ named_texts (λ counts s. counts_text counts) names switches
   pub peaks : p.peaks.items ≡ named_texts peaks_text names switches
   pub policing : p.policing.items ≡ named_texts (λ counts s. policing_of s.run) names switches
+
+-- the same of rows
+pub record HasRowsMore (name : List ℕ) (counts : Tally) (s : State) (old new : SwitchRows) : Type 0 where
+  pub counts_are : string_bytes new.counts ≡ string_bytes old.counts ++ counts_rows network_survey_columns name counts
+  pub buffers : string_bytes new.buffers ≡ string_bytes old.buffers ++ buffers_rows network_survey_columns name s.run
+  pub policing : string_bytes new.policing ≡ string_bytes old.policing ++ policing_rows name s.run
+
+pub record AreRowsOf (names : Names) (switches : List (Tally × State)) (r : SwitchRows) : Type 0 where
+  pub counts : string_bytes r.counts ≡ counts_in Csv names switches
+  pub buffers : string_bytes r.buffers ≡ buffers_in Csv network_survey_columns names switches
+  pub policing : string_bytes r.policing ≡ policing_in Csv names switches
 
 -- the run over the captures of a folder came to finished switches that lead to these texts of a trace
 pub record HasTraced (files : Option Files) (path : List ℕ) (net : Network) (texts : List (List ℕ)) : Type 0 where

@@ -1,4 +1,3 @@
-use Rattle.std.proofs.Common.{ap}
 use Rattle.afdx_serve.proofs.NetworkMeasureLemmas.{accepted_ends}
 use Rattle.afdx_serve.proofs.network_ends.accepted_ends.Goals as goal
 

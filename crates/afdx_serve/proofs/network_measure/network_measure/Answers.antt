@@ -11,18 +11,18 @@ use Rattle.afdx_serve.proofs.network_measure.network_measure.Goals.{In_ok-text}
 use Rattle.afdx_serve.proofs.network_measure.network_measure.Goals as goal
 
 -- what was measured of the run
-measured : (g : Over) (c : In_ok-text g) → MeasuresNetworkTo c.args.inputs.now (g.F.Folder.files c.args.folder.now) c.in_ok-text.text.items
+measured : (g : Over) (c : In_ok-text g) → MeasuresNetworkTo c.args.form c.args.inputs.now (g.F.Folder.files c.args.folder.now) c.in_ok-text.text.items
 measured g c =
     let m = c.in_ok-text.ensures.led.0 in
     let planned = c.in_ok-planned.ensures in
     measures_to c.none_takes_more_than_its_way.ensures c.watched_runs_keep_bounds.ensures c.tables_are_well_formed.ensures c.layouts_are_within_limits.ensures c.args.inputs.now _ _
-    c.in_ok-planned.planned planned.got.0 planned.same m.switches m.origins m.watched _ m.says
+    c.in_ok-planned.planned planned.got.0 planned.same m.switches m.origins m.watched c.args.form _ m.says
 
 pub returns-in_err-planned : goal.returns-in_err-planned
 returns-in_err-planned g c =
     let fails = c.in_err-planned.ensures in
     of_error _ _ _ c.in_err-planned.field-0.0 c.from_residual.ensures
-    (not_watched (MeasuresNetworkTo c.args.inputs.now (g.F.Folder.files c.args.folder.now)) c.in_err-planned.field-0.0 c.args.inputs.now _ _ _ _ fails.same _ _ (Keeps-refl _) fails.got)
+    (not_watched (MeasuresNetworkTo c.args.form c.args.inputs.now (g.F.Folder.files c.args.folder.now)) c.in_err-planned.field-0.0 c.args.inputs.now _ _ _ _ fails.same _ _ (Keeps-refl _) fails.got)
 
 pub measured_text-requires : goal.measured_text-requires
 measured_text-requires g c = (c.args.inputs.now, g.F.Folder.files c.args.folder.now, c.in_ok-planned.ensures.got.0)
@@ -31,8 +31,9 @@ pub returns-in_err-text : goal.returns-in_err-text
 returns-in_err-text g c =
     let planned = c.in_ok-planned.ensures in
     let fails = c.in_err-text.ensures in
-    of_error _ _ _ c.in_err-text.field-0.0 c.from_residual-in_err-text.ensures
-    (not_measured (MeasuresNetworkTo c.args.inputs.now (g.F.Folder.files c.args.folder.now)) c.in_err-text.field-0.0 c.args.inputs.now _ _ _ c.in_ok-planned.planned _ _ _ planned.got.0 planned.same
+    let why = c.in_err-text.field-0.0 in
+    of_error _ _ _ why c.from_residual-in_err-text.ensures
+    (not_measured (MeasuresNetworkTo c.args.form c.args.inputs.now (g.F.Folder.files c.args.folder.now)) why c.args.inputs.now _ _ _ c.in_ok-planned.planned _ _ _ planned.got.0 planned.same
     fails.same planned.got.1 _ _ (Keeps-refl _) fails.led)
 
 pub returns-in_err-write_bytes : goal.returns-in_err-write_bytes

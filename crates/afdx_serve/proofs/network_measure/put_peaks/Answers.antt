@@ -1,18 +1,23 @@
-use Rattle.std.proofs.Common.{rules, ◌≡◌, ◌∙◌, ◌++◌, ◌+◌, ◌≤◌, [], ◌∷◌, ℕ, List, length, map, string_bytes, append_assoc, append-nil, refl, ap, sym, subst, arith}
+use Rattle.std.proofs.Common.{rules, ◌≡◌, ◌∙◌, ◌++◌, ◌+◌, ◌≤◌, [], ◌∷◌, ℕ, List, length, map, string_bytes, append_assoc, append-nil, refl, ap, sym, arith}
 use Rattle.std.proofs.lemmas.List.{length-append, length-map}
 use Rattle.std.specs.Vec.Iter.{into_iter_items}
 use Rattle.afdx_core.specs.State.{State}
 use Rattle.afdx_count.specs.Tally.{Tally}
+use Rattle.afdx_network_report.specs.Lines.{report_of}
 use Rattle.afdx_serve.specs.NetworkMeasures.{named_texts, peaks_text}
-use Rattle.afdx_serve.proofs.NetworkMeasureLemmas.{none_named, one_more_named, next_named, all_taken}
+use Rattle.afdx_serve.proofs.NetworkMeasureLemmas.{none_said, one_more_said_of, next_named, all_taken}
 use Rattle.afdx_serve.proofs.network_measure.put_peaks.Goals as goal
+
+-- the lines of the buffers of a switch
+abbrev said : List ℕ → Tally → State → List ℕ
+said name counts s = report_of name (peaks_text counts s)
 
 pub loop-both-init : goal.loop-both-init
 loop-both-init c = record {
   whole = refl;
   left = search rules;
   count = refl;
-  text = sym (ap (λ (more : List ℕ). c.args.text.now.items ++ more) (none_named peaks_text (map string_bytes c.args.names.now)) ∙ append-nil c.args.text.now.items);
+  text = sym (ap (λ (more : List ℕ). c.args.text.now.items ++ more) (none_said said (map string_bytes c.args.names.now)) ∙ append-nil c.args.text.now.items);
 }
 
 pub overflow_add-switch : goal.overflow_add-switch
@@ -33,13 +38,13 @@ loop-both-preserved c =
     let steps : into_iter_items at.both-iterator ≡ both ∷ rest = c.in-Some.ensures.steps.0 in
     let whole = ap (λ (left : List (Tally × State)). at.yielded ++ left) (sym steps) ∙ at.invariant.whole in
     let lt = next_named at.yielded rest c.args.switches.items both c.args.names.now (whole ∙ c.into_iter-both-iterator.ensures.into_iter_gives.0) c.requires in
-    let lines = ap (λ (s : State). peaks_text both.0 s) c.in-Some-into_measures.ensures in
+    let lines = c.in_ok-push_peaks.ensures both.0 ∙ ap (λ (s : State). at.text.items ++ said c.name_of.result.now both.0 s) c.in-Some-into_measures.ensures in
     record {
       whole = append_assoc at.yielded (both ∷ []) rest ∙ whole;
       left = let was = at.invariant.left in let gone = c.in-Some.ensures.steps.1 in let short = ap (λ (ys : List (Tally × State)). length ys) steps in omega (arith, was, gone, short);
       count = let was = at.invariant.count in omega (arith, was, length-append at.yielded (both ∷ []));
-      text = one_more_named peaks_text names at.yielded both at.switch _ _ _ _ _ at.invariant.count (let count = at.invariant.count in omega (arith, lt, count)) c.name_of.ensures lines
-          at.invariant.text (c.in_ok-push_peaks.ensures both.0);
+      text = one_more_said_of said names at.yielded both at.switch _ _ _ _ at.invariant.count (let count = at.invariant.count in omega (arith, lt, count)) c.name_of.ensures
+          at.invariant.text lines;
     }
 
 pub returns : goal.returns

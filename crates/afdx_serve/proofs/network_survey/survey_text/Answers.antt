@@ -1,38 +1,34 @@
-use Rattle.std.proofs.Common.{◌≡◌, ◌∙◌, ◌++◌, ℕ, List, map, string_bytes, append_assoc, refl, sym, ap}
-use Rattle.afdx_serve.specs.NetworkMeasures.{named_texts, peaks_text}
-use Rattle.afdx_serve.proofs.NetworkMeasureLemmas.{survey_joined}
+use Rattle.std.proofs.Common.{map, string_bytes}
+use Rattle.afdx_csv.specs.declared.form.Form.TheVariants.{Lines, Csv}
+use Rattle.afdx_serve.specs.Inner.NetworkRunning.{network_in, is_accepted}
+use Rattle.afdx_serve.proofs.NetworkRowLemmas.{surveyed_said}
 use Rattle.afdx_serve.proofs.WatchLemmas.{named_switches}
 use Rattle.afdx_serve.proofs.network_survey.survey_text.Goals as goal
 
-pub parts_of-requires : goal.parts_of-requires
-parts_of-requires g c =
-    rw c.deref-3.ensures.value
-    (named_switches c.requires.0 c.requires.1 (g.F.Folder.files c.args.folder.now) c.args.path.now c.args.planned.now _ _ c.requires.2 c.in_ok-switches.ensures.led.0)
+pub lines_of-requires : goal.lines_of-requires
+lines_of-requires g c =
+    rw c.deref.ensures.value
+    (named_switches c.requires.0 c.requires.1 (g.F.Folder.files c.args.folder.now) c.args.path.now c.args.planned.now _ _ c.requires.2 c.in_ok-watched.ensures.led.0)
+
+pub returns-in-Lines-clause-led : goal.returns-in-Lines-clause-led
+returns-in-Lines-clause-led g c =
+    let watched = c.in_ok-watched.ensures.led in
+    let plan = c.args.planned.now.plan in
+    let said = rw (c.deref.ensures.value, c.deref-in-Lines.ensures.value) at c.lines_of.ensures in
+    rw c.in-Lines.is
+    (surveyed_said Lines (is_accepted plan) (g.F.Folder.files c.args.folder.now) c.args.path.now (network_in plan) (map string_bytes c.args.planned.now.names.items)
+    c.in_ok-watched.watched.switches.items c.in_ok-watched.watched.origins c.in_ok-ends.ends.items c.lines_of.result _ _ watched.0 c.in_ok-ends.ensures watched.1 said)
+
+pub rows_of-requires : goal.rows_of-requires
+rows_of-requires g c =
+    rw c.deref-in-Csv.ensures.value
+    (named_switches c.requires.0 c.requires.1 (g.F.Folder.files c.args.folder.now) c.args.path.now c.args.planned.now _ _ c.requires.2 c.in_ok-watched.ensures.led.0)
 
 pub returns-clause-led : goal.returns-clause-led
 returns-clause-led g c =
-    let watched = c.in_ok-switches.ensures.led in
-    let names = map string_bytes c.args.planned.now.names.items in
-    let lines = string_bytes c.in_ok-lines.lines in
-    let parts = rw c.deref-3.ensures.value at c.in_ok-parts.ensures in
-    let first = c.in_ok-extend_from_slice.ensures.items ∙ ap (λ (t : List ℕ). c.in_ok-parts.parts.reports.items ++ t) c.as_bytes.ensures.value in
-    let second = c.in_ok-extend_from_slice-2.ensures.items ∙ ap (λ (t : List ℕ). c.extend_from_slice.new.self.items ++ t) c.deref-4.ensures.value in
-    let third = c.in_ok-extend_from_slice-3.ensures.items ∙ ap (λ (t : List ℕ). c.extend_from_slice-2.new.self.items ++ t) c.deref-5.ensures.value in (
-      record {
-        switches = c.in_ok-switches.field-0.switches.items;
-        origins = c.in_ok-switches.field-0.origins;
-        watched = watched.0;
-        says = record {
-          measured = lines ++ named_texts peaks_text names c.in_ok-switches.field-0.switches.items;
-          has_measured = record {
-            ends = c.in_ok-ends.ends.items;
-            lines = lines;
-            are_ends = c.in_ok-ends.ensures;
-            lines_are = rw (c.deref.ensures.value, c.deref-2.ensures.value) at c.in_ok-lines.ensures;
-            text_is = refl;
-          };
-          text_is = survey_joined names c.in_ok-switches.field-0.switches.items c.in_ok-parts.parts lines _ _ _ parts first second third;
-        };
-      },
-      watched.1,
-    )
+    let watched = c.in_ok-watched.ensures.led in
+    let plan = c.args.planned.now.plan in
+    let said = rw (c.deref-in-Csv.ensures.value, c.deref-in-Csv-2.ensures.value) at c.rows_of.ensures in
+    rw c.in-Csv.is
+    (surveyed_said Csv (is_accepted plan) (g.F.Folder.files c.args.folder.now) c.args.path.now (network_in plan) (map string_bytes c.args.planned.now.names.items)
+    c.in_ok-watched.watched.switches.items c.in_ok-watched.watched.origins c.in_ok-ends.ends.items c.rows_of.result _ _ watched.0 c.in_ok-ends.ensures watched.1 said)

@@ -1,11 +1,9 @@
-use Rattle.std.proofs.Common.{rules, ◌≡◌, ◌∙◌, ℕ, List, Vec, Global, String, length, map, string_bytes, inl, sym, ap, subst}
+use Rattle.std.proofs.Common.{◌≡◌, ◌∙◌, ℕ, List, Vec, Global, String, length, map, string_bytes, inl, sym, ap}
 use Rattle.std.proofs.lemmas.List.{length-map}
-use Rattle.afdx_folder.specs.Files.{Files}
 use Rattle.afdx_messages.specs.declared.failure.Failure.TheVariants.{Memory}
 use Rattle.afdx_serve.specs.Networks.{names_of}
 use Rattle.afdx_serve.specs.NetworkTraces.{network_trace_names}
 use Rattle.afdx_serve.specs.Inner.NetworkRunning.{network_in}
-use Rattle.afdx_serve.specs.Inner.Watching.{HasTraced}
 use Rattle.afdx_serve.proofs.Errors.{of_error}
 use Rattle.afdx_serve.proofs.FileLemmas.{KeepsFiles-trans}
 use Rattle.afdx_serve.proofs.NetworkTraceLemmas.{as_many_texts, is_trace, not_led_to_trace, put_or_not}

@@ -1,5 +1,4 @@
-use Rattle.std.proofs.Common.{◌∙◌, ℕ, List, Vec, Global, ap}
-use Rattle.afdx_trace.specs.Arrivals.{arrivals_text}
+use Rattle.std.proofs.Common.{◌∙◌, ℕ, Vec, Global, ap}
 use Rattle.afdx_network_trace.specs.Column.{with_column}
 use Rattle.afdx_serve.proofs.NetworkTraceLemmas.{two_more}
 use Rattle.afdx_serve.proofs.network_trace.push_texts.Goals as goal

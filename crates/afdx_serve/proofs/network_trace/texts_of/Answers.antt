@@ -1,4 +1,4 @@
-use Rattle.std.proofs.Common.{◌≡◌, ◌∙◌, ◌++◌, ◌<◌, ◌≤◌, ℕ, [], List, Vec, Global, Option, length, map, take, get_or, refl, ap, sym, arith}
+use Rattle.std.proofs.Common.{◌≡◌, ◌∙◌, ◌++◌, ◌<◌, ◌≤◌, ℕ, [], List, Vec, Global, Option, length, map, take, get_or, ap, sym, arith}
 use Rattle.std.proofs.lemmas.List.{get_or-map, length-map, take_all}
 use Rattle.afdx_core.specs.State.{State}
 use Rattle.afdx_serve.specs.NetworkTraces.{switch_texts, network_trace_texts}

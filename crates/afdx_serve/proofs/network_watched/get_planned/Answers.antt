@@ -3,7 +3,6 @@ use Rattle.afdx_wiring.specs.Net.{Network}
 use Rattle.afdx_wiring.specs.Rules.{IsAcceptedNetwork}
 use Rattle.afdx_network.specs.Given.{NoneShareAPort}
 use Rattle.afdx_serve.specs.Networks.{names_of, HasNetwork}
-use Rattle.afdx_serve.specs.Inner.NetworkRunning.{network_in}
 use Rattle.afdx_serve.proofs.Errors.{of_error}
 use Rattle.afdx_serve.proofs.NetworkRunLemmas.{none_share_a_port, as_many_tables}
 use Rattle.afdx_serve.proofs.network_watched.get_planned.Goals as goal

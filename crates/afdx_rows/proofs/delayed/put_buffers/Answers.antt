@@ -3,7 +3,7 @@ use Rattle.std.proofs.lemmas.List.Elements.{Contains-get_or}
 use Rattle.afdx_table.specs.declared.rows.PortRow.{PortRow}
 use Rattle.afdx_table.specs.Content.{Content}
 use Rattle.afdx_table.specs.WellFormed.{IsWellFormed}
-use Rattle.afdx_rows.proofs.delayed.put_ports.Goals as goal
+use Rattle.afdx_rows.proofs.delayed.put_buffers.Goals as goal
 
 pub put_port-requires : goal.put_port-requires
 put_port-requires g c =
