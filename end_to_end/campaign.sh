@@ -95,6 +95,16 @@ full_disk() {
         [ "$(tail -n 1 digest.txt)" = "$(cat engines/digest)" ]
 }
 
+# asks_of_networks: of a network the same is asked: its delays are those from end to end, and what is kept is by switch.
+asks_of_networks() {
+    printf '%s\n' "program = \"$AFDX\"" 'recordings = ["flights/*"]' 'root = "aircraft"' 'ask = "trace"' 'keep = "policed"' '[[network]]' \
+        'name = "aircraft"' "file = \"$top/examples/aircraft/network.toml\"" >aircraft.toml
+    mkdir flights && cp -r "$top/examples/aircraft/in" flights/first && "$campaign" run aircraft.toml && ls -R aircraft/kept &&
+        grep '^aircraft,cockpit,401,2,15,137660,319918,.*,first$' aircraft/csv/worst.csv &&
+        grep '^aircraft,cabin,401,first,' aircraft/csv/babblers.csv && grep -o 'nearest to its bound was [a-z]* link [0-9]* at port' aircraft/campaign.html &&
+        head -n 1 aircraft/kept/aircraft/first/bay/arrivals.csv | grep ',origin$'
+}
+
 # tells_progress: a line on a terminal, of which nothing stays.
 tells_progress() {
     campaign terminal "recordings = [\"$room/recordings/recordings/r000*\"]"
@@ -117,6 +127,7 @@ check "are on the page" page_says '42 of 45 tasks are answered, 3 are faults' '2
 check "the page in a browser" /usr/bin/python3 "$top/end_to_end/campaign_page.py" "$made"
 check "two tables, and their page in a browser" compares
 check "what changed is asked anew" asks_anew
+check "a network" asks_of_networks
 check "a full disk" full_disk
 check "a line that says how far it is" tells_progress
 

@@ -9,7 +9,8 @@ from captures import HEADER
 
 PATIENCE = 120  # seconds, on a busy machine too
 STAND_IN = """#!/bin/sh
-# check TABLE, or survey|run|trace TABLE IN [OUT]
+# check TABLE, or survey|run|trace TABLE IN [OUT], or after the word network the same of a network file
+[ "$1" != network ] || { of=network && shift; }
 command=$1 folder=$3 out=$4
 [ "$1" = check ] || . "$folder/act"
 """

@@ -21,7 +21,7 @@ REFUSED = [
     (GOOD.replace('"one"', '"../one"'), "name has other signs than letters, digits, - _ and ., [[table]] 1"),
     ('ask = "all"\n' + GOOD, "ask is none of survey, run, trace, top"),
     ('keep = "all"\n' + GOOD, 'keep needs ask = "run" or "trace": a survey puts nothing, top'),
-    (GOOD.replace("[[table]]", "[[network]]"), 'of a [[network]] only ask = "run" is answered, top'),
+    (GOOD.replace("[[table]]", "[[network]]") + "unchecked = 1\n", "unchecked is no bool, [[network]] 1"),
     (GOOD + "[limits]\ntries = 0\n", "tries is not above 0, [limits]"),
     (GOOD + "[limits]\nmemory = -1.5\n", "memory is not above 0, [limits]"),
     (GOOD.replace('["flights/*/run*"]', "[]"), "recordings is no list of patterns, top")]
@@ -66,15 +66,18 @@ def test_the_key_is_of_what_the_answer_is_a_function_of(tmp_path: Path) -> None:
     assert not set(keys()) & set(third)
 
 
-def test_of_a_network_the_captures_of_end_systems_are_read(tmp_path: Path) -> None:
-    text = GOOD.replace("[[table]]", "[[network]]").replace("one.toml", "net.toml")
-    file = campaign(tmp_path, 'ask = "run"\n' + text)
+@pytest.mark.parametrize("line, ask, key, judge", [
+    ("", "survey", "", "check"), ('ask = "trace"\n', "trace", "", "check"),
+    ('ask = "run"\n', "run", "unchecked = true\n", "size")])
+def test_of_a_network_the_captures_of_end_systems_are_read(
+        tmp_path: Path, line: str, ask: str, key: str, judge: str) -> None:
+    file = campaign(tmp_path, line + GOOD.replace("[[table]]", "[[network]]").replace("one.toml", "net.toml") + key)
     (tmp_path / "net.toml").write_text('[[switch]]\nname = "A"\ntable = "one.toml"\n[[switch]]\nname = "B"\n'
                                        'table = "one.toml"\n[[wire]]\nfrom = "A.7"\nto = "B.1"\n')
-    (tmp_path / "afdx").write_text("#!/bin/sh\n[ \"$1 $2\" = 'network check' ]\n")
+    (tmp_path / "afdx").write_text(f"#!/bin/sh\n[ \"$1 $2\" = 'network {judge}' ]\n")
     task = tasks_of(read_campaign(file))[0]
     assert task.recording.files == ("A/port-1.pcap", "A/port-7.pcap", "B/port-7.pcap")
-    assert task.table.switches == ("A", "B")
+    assert (task.table.switches, task.ask, task.table.unchecked) == (("A", "B"), ask, bool(key))
 
 
 @pytest.mark.parametrize("pattern, status, line", [

@@ -179,7 +179,14 @@ def contents(base: sqlite3.Connection) -> list[tuple[Any, ...]]:
 
 
 def test_rows_of_a_network_name_their_switch() -> None:
-    read = rows_of("switch,kind,port,link,priority,passed,policed,offered,full,aged,sent\n"
-                   "A,link,,10,,3,1,,,,\nB,out,2,,high,,,4,1,0,3")
+    read = rows_of("switch,kind,port,link,priority,passed,policed,offered,full,aged,sent,from,to,least,greatest,"
+                   "least_bound,bound,occupied,buffer,at,first,last,least_early,greatest_early\n"
+                   "A,link,,10,,3,1,,,,,,,,,,,,,,,,,\nB,out,2,,high,,,4,1,0,3,,,,,,,,,,,,,\n"
+                   ",way,,10,,,,,,,3,A.1,B-2.11,100,200,90,1000,,,,,,,\n,way,,11,,,,,,,0,,A.3,,,,,,,,,,,\n"
+                   "B,buffer,2,,,,,,,,,,,,,,,64,100,7,,,,\nA,spell,,10,,,1,,,,,,,,,,,,,,2000,2500,500,700\n"
+                   "A,span,,,,,,,,,,,,,,,,,,,1000,2500,,")
     assert read.links == [("A", 10, 3, 1)]
     assert read.ports[("B", 2)][9:13] == [4, 1, 0, 3]
+    assert read.ports[("B", 2)][-3:] == [64, 100, 7]
+    assert read.delays == [("B-2", 10, 11, 3, 100, 200, 1000), ("A", 11, 3, 0, None, None, None)]
+    assert read.spells == [("A", 10, 2000, 2500, 1, 500, 700)]

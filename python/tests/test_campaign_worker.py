@@ -3,6 +3,7 @@ import os
 import signal
 import subprocess
 import sys
+from dataclasses import replace
 from pathlib import Path
 
 import pytest
@@ -96,6 +97,24 @@ def test_outputs_are_kept(tmp_path: Path, keep: str, policed: int, kept: bool) -
     asked = task(tmp_path, act, ask="run", keep=keep)
     work_hard(asked)
     assert (tmp_path / "campaign/kept/t/r1/port-1.pcap").exists() == kept
+
+
+@pytest.mark.parametrize("ask, kept", [
+    ("survey", []), ("run", ["A/port-1.pcap"]), ("trace", ["A/arrivals.csv", "B/arrivals.csv"])])
+def test_of_a_network_the_same_is_asked(tmp_path: Path, ask: str, kept: list[str]) -> None:
+    act = f"""[ "$of" = network ] || exit 9
+    case $command in
+    run) echo >"$out/A/port-1.pcap" ;;
+    trace) echo >"$out/A/arrivals.csv"; echo >"$out/B/arrivals.csv" ;;
+    esac
+    {QUIET}"""
+    asked = task(tmp_path, act, ask=ask, keep="none" if ask == "survey" else "all")
+    asked = replace(asked, table=replace(asked.table, switches=("A", "B")))
+    assert work_hard(asked).status == 0
+    rows = [HEADING, SEEN, PASSED]
+    assert answer_at(asked.answer)["text"].splitlines() == (rows if ask == "run" else [*rows, DELAYS])
+    folder = tmp_path / "campaign/kept/t/r1"
+    assert sorted(str(path.relative_to(folder)) for path in folder.glob("*/*")) == kept
 
 
 def test_first_stamps_in_either_order_and_both_parts(tmp_path: Path) -> None:

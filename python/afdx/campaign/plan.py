@@ -40,8 +40,8 @@ def tasks_of(campaign: Campaign) -> list[Task]:
 def checked(program: str, configured: Configured) -> Table:
     """Answers the table, if afdx accepts it, or at least reads it if it is run unchecked."""
     path = str(configured.file)
-    command = ["network", "check"] if configured.network else ["size" if configured.unchecked else "check"]
-    answer = Program(COMMAND, program).ask(*command, path)
+    of_networks = ("network",) if configured.network else ()
+    answer = Program(COMMAND, program).ask(*of_networks, "size" if configured.unchecked else "check", path)
     if answer.status:
         status = LOAD if answer.status in (INPUT, LOAD) else DEVICE  # out of memory and killed, too
         raise failure(status, f"table {configured.name}: {answer.line}")
@@ -49,7 +49,8 @@ def checked(program: str, configured: Configured) -> Table:
         return Table(configured.name, (path,), (), configured.unchecked, table_identity((path,)))
     switches = toml.read(COMMAND, configured.file).get("switch", [])
     files = (path, *(str(configured.file.parent / switch["table"]) for switch in switches))
-    return Table(configured.name, files, tuple(switch["name"] for switch in switches), False, table_identity(files))
+    names = tuple(switch["name"] for switch in switches)
+    return Table(configured.name, files, names, configured.unchecked, table_identity(files))
 
 
 def captures_of(configured: Configured) -> tuple[str, ...]:

@@ -16,6 +16,8 @@ PORT = (*INGRESS, *(f"{priority}_{word}" for priority in ("high", "low") for wor
 BEGIN = {"in": 0, "high": len(INGRESS), "low": len(INGRESS) + len(EGRESS), "buffer": len(PORT) - len(HELD)}
 COLUMNS = {"in": tuple(word.replace("_", "-") for word in INGRESS), "high": EGRESS, "low": EGRESS,
            "buffer": ("occupied", "buffer", "at")}
+DELAYS = ("sent", "least", "greatest", "bound")
+SPELL = ("policed", "least_early", "greatest_early")
 
 
 @dataclass
@@ -32,15 +34,33 @@ class Rows:
         noted = self.ports.setdefault((switch, int(row["port"])), [None] * len(PORT))
         noted[BEGIN[kind]:BEGIN[kind] + len(values)] = values
 
+    def delay(self, place: Place, row: dict[str, str]) -> None:
+        """Notes the delays of a link, at an output port or, of a network, at the port where it leads out."""
+        sent, least, greatest, bound = (number(row[column]) for column in DELAYS)
+        switch, port = place
+        self.delays.append((switch, int(row["link"]), port, sent, least, greatest, bound))
+
+    def spell(self, switch: str, row: dict[str, str]) -> None:
+        """Notes a spell; of a network `from` and `to` are ports."""
+        begin, end = (int(row[column]) for column in (("first", "last") if "first" in row else ("from", "to")))
+        frames, least, greatest = (int(row[column]) for column in SPELL)
+        self.spells.append((switch, int(row["link"]), begin, end, frames, least, greatest))
+
 
 def rows_of(text: str) -> Rows:
-    """Reads the rows of the report, of `measure` and of spells; of a network each names its switch."""
+    """Reads the rows of the report, of `measure` and of spells; of a network each names its switch, or its port has."""
     rows = Rows()
     reader = csv.reader(text.splitlines())
     heading: list[str] = next(reader, [])
     for fields in reader:
         read(rows, dict(zip(heading, fields)))
     return rows
+
+
+def place_of(port: str) -> Place:
+    """Answers the switch and the number of a port, as SWITCH.7."""
+    switch, _, own = port.rpartition(".")
+    return switch, int(own)
 
 
 def read(rows: Rows, row: dict[str, str]) -> None:
@@ -52,12 +72,10 @@ def read(rows: Rows, row: dict[str, str]) -> None:
         case "out":
             rows.port(switch, row, row["priority"])
         case "delays":
-            link, port, sent = (int(row[column]) for column in ("link", "port", "sent"))
-            least, greatest, bound = (number(row[column]) for column in ("least", "greatest", "bound"))
-            rows.delays.append((switch, link, port, sent, least, greatest, bound))
+            rows.delay((switch, int(row["port"])), row)
+        case "way":
+            rows.delay(place_of(row["to"]), row)
         case "link":
             rows.links.append((switch, int(row["link"]), int(row["passed"]), int(row["policed"])))
         case "spell":
-            link, begin, end, frames, least, greatest = (int(row[column]) for column in (
-                "link", "from", "to", "policed", "least_early", "greatest_early"))
-            rows.spells.append((switch, link, begin, end, frames, least, greatest))
+            rows.spell(switch, row)

@@ -130,8 +130,6 @@ def campaign_of(top: Section, path: Path) -> Campaign:
     top.end()
     if campaign.ask == "survey" and campaign.keep != "none":
         raise top.fail("keep needs ask = \"run\" or \"trace\": a survey puts nothing")
-    if campaign.ask != "run" and any(table.network for table in campaign.tables):
-        raise top.fail("of a [[network]] only ask = \"run\" is answered")
     return campaign
 
 
@@ -141,7 +139,7 @@ def tables_of(top: Section, folder: Path) -> tuple[Configured, ...]:
     tables: list[Configured] = []
     for section, network in found:
         name, file = section.take("name", str), folder / section.take("file", str)
-        unchecked = False if network else section.take("unchecked", bool, False)
+        unchecked = section.take("unchecked", bool, False)
         section.end()
         if not name or not set(name) <= NAME or name.startswith("."):
             raise section.fail("name has other signs than letters, digits, - _ and .")

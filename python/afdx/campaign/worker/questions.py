@@ -17,16 +17,15 @@ CSV = "--csv"
 
 def ask(task: Task, program: Program, scratch: Path) -> Said:
     """Answers the question of a task; outputs that are to be kept are put."""
-    table, folder = task.table.files[0], task.recording.folder
+    of_networks = ("network",) if task.table.switches else ()
+    files = (task.table.files[0], task.recording.folder)
     options = ("--unchecked",) if task.table.unchecked else ()
-    if task.table.switches:
-        return run(task, program, scratch, ("network", "run", table, folder), (CSV,))
     if task.ask == "run":
-        return run(task, program, scratch, ("run", table, folder), (*options, CSV))
-    said = program("survey", table, folder, *options, CSV)
+        return run(task, program, scratch, (*of_networks, "run", *files), (*options, CSV))
+    said = program(*of_networks, "survey", *files, *options, CSV)
     if task.ask == "survey" or said.status:
         return said
-    traced = run(task, program, scratch, ("trace", table, folder), options, polices(said.text))
+    traced = run(task, program, scratch, (*of_networks, "trace", *files), options, polices(said.text))
     return traced if traced.status else said
 
 
