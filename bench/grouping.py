@@ -5,13 +5,14 @@ The network is always the same: eight switches at the corners of a cube, a cable
 switches; fifteen end systems at each; all lines of 100 Mbit/s; links of one priority whose senders have 500 us of jitter. Each analysis
 finds its own jitters, in whole us, however large they become. All numbers are those of end_to_end/model.py, exact:
 
-- ours: lines to which a wire goes are groups, links are policed by bytes or by frames;
+- ours: lines to which a wire goes are groups, links are policed by bytes or by frames; with end systems' lines these are groups too, by
+  stamps that are rounded down by 999 ns at most;
 - network calculus: a link is a bucket of one frame of its greatest size in each gap, with its jitter, so that it is a link that is
   policed by frames; with grouping the lines of end systems are groups too, without it no line is.
 """
 import argparse
 import sys
-from collections.abc import Callable, Collection
+from collections.abc import Callable
 from dataclasses import dataclass
 from pathlib import Path
 from random import Random
@@ -31,7 +32,8 @@ MILLISECOND, MICROSECOND = 1_000_000, 1000
 LEAST = (64 + model.LINE_OVERHEAD) * TICK + LATENCY  # ns of a hop
 LIMIT = 10_000  # us of jitter that a table can have
 Port = tuple[int, int]  # a switch and one of its ports
-Lined = Callable[[model.Port], bool]  # which ingress ports are groups
+Lined = Callable[[model.Port], int | None]  # by how many ns stamps at an ingress port may be rounded down; None where it is no group
+ROUNDING = 999  # ns, of what end systems' ports captured
 
 
 @dataclass
@@ -98,9 +100,10 @@ class Analysis:
     def reckon(self) -> None:
         """The bounds of all ports, by the jitters that there are."""
         for switch, table in enumerate(self.tables):
-            lined: Collection[int] = {port.id for port in table.ports if self.lined(port)}
+            known = ((port.id, self.lined(port)) for port in table.ports)
+            lines = {number: rounding for number, rounding in known if rounding is not None}
             for port in table.ports:
-                _, low = model.bounds_of(table, port, *model.lesser_bursts(table, port, lined))
+                _, low = model.bounds_of(table, port, *model.lesser_bursts(table, port, lines))
                 if low is not None:
                     self.bounds[switch, port.id] = low
 
@@ -125,16 +128,20 @@ def solved(links: list[Link], police: str, lined: Lined) -> Analysis:
     return analysis
 
 
-def at_wires(port: model.Port) -> bool:
-    return port.id <= CABLES
+def at_wires(port: model.Port) -> int | None:
+    return 0 if port.id <= CABLES else None
 
 
-def everywhere(port: model.Port) -> bool:
-    return True
+def one_line(port: model.Port) -> int | None:
+    return 0 if port.id <= CABLES else ROUNDING
 
 
-def nowhere(port: model.Port) -> bool:
-    return False
+def everywhere(port: model.Port) -> int | None:
+    return 0
+
+
+def nowhere(port: model.Port) -> int | None:
+    return None
 
 
 def ratio(ours: list[int], theirs: list[int]) -> str:
@@ -160,13 +167,14 @@ def main() -> None:
     links = draw_links(parser.parse_args().links)
     print(said_of(links), flush=True)
     ours = {police: solved(links, police, at_wires) for police in model.POLICINGS}
+    ours |= {f"{police} with end systems' lines": solved(links, police, one_line) for police in model.POLICINGS}
     theirs = {"without grouping": solved(links, "frame", nowhere), "with grouping": solved(links, "frame", everywhere)}
     for name, other in theirs.items():
         print(f"ours over network calculus {name}: " +
               ", ".join(f"{police} {ratio(analysis.sums(), other.sums())}" for police, analysis in ours.items()), flush=True)
     without = {police: solved(links, police, nowhere) for police in model.POLICINGS}
     print("ours over ours without grouping: " +
-          ", ".join(f"{police} {ratio(analysis.sums(), without[police].sums())}" for police, analysis in ours.items()))
+          ", ".join(f"{name} {ratio(analysis.sums(), without[name.split()[0]].sums())}" for name, analysis in ours.items()))
     for name, analysis in [*ours.items(), *theirs.items()]:
         needs = [row.jitter // MICROSECOND for row, _ in analysis.rows]
         print(f"{name}: greatest sum {max(analysis.sums())} ns, greatest jitter {max(needs)} us, "

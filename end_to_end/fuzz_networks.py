@@ -45,6 +45,7 @@ EDGES: dict[str, list[Any]] = {
     "version": [0, 1, 2, "1", 1.0], "name": NAMES, "table": PATHS, "from": ENDS, "to": ENDS, "delay_ns": DELAYS,
     "least_latency_us": [-1, 0, 1, 10, 99, 100, 101, 2**63, 0.0, "1", True, []],
     "down": [True, True, True, False, 0, 1, "true", "", [], {}],
+    "one_line": [True, True, True, False, 0, 1, "true", "", [], {}],
     "switch": [[], {}, [1], "A"], "wire": [[], {}, [[]], 0]}
 STRANGE_KEYS = ["color", "delay", "Name", "id", "", "port", "link", "delay_us", "constant"]
 TERMS: list[tuple[str, list[Any]]] = [
@@ -128,6 +129,11 @@ def row_down(chance: Random, tree: Tree) -> None:
         row["down"] = drawn(chance, EDGES["down"])
 
 
+def over_one_line(chance: Random, tree: Tree) -> None:
+    """Says of end systems that each has one line, or that it is not so."""
+    tree["one_line"] = drawn(chance, EDGES["one_line"])
+
+
 def row_gone(chance: Random, tree: Tree) -> None:
     found = rows(tree, chance.choice(["switch", "wire"]))
     if found:
@@ -166,7 +172,7 @@ def many_switches(chance: Random, tree: Tree) -> None:
 
 OF_THE_NETWORK: Sequence[Mutation] = (
     to_an_edge, to_an_edge, wire_reversed, wire_to_itself, wire_elsewhere, wire_elsewhere, wire_back, row_again,
-    row_down, row_down, row_gone, rows_shuffled, other_tables, with_a_key, without_a_key, many_switches)
+    row_down, row_down, over_one_line, over_one_line, row_gone, rows_shuffled, other_tables, with_a_key, without_a_key, many_switches)
 
 
 # --- Mutations of a table ---
@@ -249,12 +255,12 @@ def net_of(sources: Sources) -> Any:
     Raises `model.Refused` with the first fault, and `Unknown`.
     """
     try:
-        switches, wires = network_model.layout_in(fuzz_tables.read(sources[NET]))
+        layout = network_model.layout_in(fuzz_tables.read(sources[NET]))
     except NoToml:
         network_model.refuse("G1 Toml")
-    found = {switch.name: got(sources, switch.path) for switch in switches}
+    found = {switch.name: got(sources, switch.path) for switch in layout.switches}
     tables = {name: network_model.of_switch(name, fuzz_tables.table_of, source) for name, source in found.items()}
-    return network_model.network_of(switches, wires, tables)
+    return network_model.network_of(layout, tables)
 
 
 def captures_in(net: Any, files: Files) -> Any:

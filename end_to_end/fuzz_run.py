@@ -35,7 +35,7 @@ CAPTURE = [
 LOAD = ["L(1 Rate|2 Buffer|3 HighDelay|4 LowDelay), port [0-9]+, need [0-9]+, limit [0-9]+"]
 TEXTS = [
     "G1 Toml", "G2 UnknownKey, (top|(switch|wire) [0-9]+)", "G2 MissingKey, (switch|wire) [0-9]+, (name|table|from|to)",
-    "G2 (Kind|Range), (top|(switch|wire) [0-9]+), (version|switch|wire|name|table|least_latency_us|from|to|delay_ns|down)",
+    "G2 (Kind|Range), (top|(switch|wire) [0-9]+), (version|one_line|switch|wire|name|table|least_latency_us|from|to|delay_ns|down)",
     "G3 TwiceSwitch, switch [0-9]+", f"G3 Latency, switch {NAME}", "G3 (NoSuchSwitch|TwiceFrom|TwiceTo|OwnPort|NoSuchPort), wire [0-9]+",
     "G4 (Constant|Speed), wire [0-9]+", "G(5 NoRow|6 From|7 Size|7 Bag|7 Police), wire [0-9]+, link [0-9]+",
     f"G8 NoSource, switch {NAME}, link [0-9]+", "G9 TwiceSource, link [0-9]+"]
@@ -48,7 +48,8 @@ def rows(rule: str, numbers: str) -> str:
 
 NETWORK = [
     rows("J1 Jitter", f"switch {NAME}, link [0-9]+, need [0-9]+, has [0-9]+"),
-    rows("J2 NoJitter", f"switch {NAME}, link [0-9]+, need [0-9]+")]
+    rows("J2 NoJitter", f"switch {NAME}, link [0-9]+, need [0-9]+"),
+    f"R2 Line, switch {NAME}, port [0-9]+, record [0-9]+"]
 DEVICE = ["(get|put) (?s:.+)", "read", "write"]
 
 

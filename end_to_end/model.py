@@ -12,7 +12,7 @@ import argparse
 import struct
 import sys
 import tomllib
-from collections.abc import Callable, Collection
+from collections.abc import Callable, Mapping
 from dataclasses import dataclass, field
 from itertools import takewhile
 from pathlib import Path
@@ -388,13 +388,14 @@ def load_of(table: Table, port: Port, scatter: int = 0) -> Load | None:
     return Load(rate_of(port, links), -(-need // byte), high_bound, low_bound, rules, bool(low))
 
 
-def brought(port: Port, line: Port | None, links: list[Link], spare: int) -> Callable[[int], int]:
+def brought(port: Port, line: Port, rounding: int | None, links: list[Link], spare: int) -> Callable[[int], int]:
     """What links that come in at one port bring, by the length of a window in ns: no more than they may send and, where frames
-    come one after the other over the line there, than its first frame, the window's length and these parts beside."""
+    come one after the other over the line there by stamps that are rounded down by at most so many ns, than its first frame, that,
+    the window's length and these parts beside."""
     burst, rate = burst_of(port, links), rate_of(port, links)
-    if line is None:
+    if rounding is None:
         return lambda window: burst + rate * window
-    first, worth = largest_of(line, links), LOAD_UNIT * port.tick // line.tick
+    first, worth = largest_of(line, links) + rounding, LOAD_UNIT * port.tick // line.tick
     return lambda window: min(burst + rate * window, worth * (first + window) + spare)
 
 
@@ -416,16 +417,16 @@ def later(group: Callable[[int], int], scatter: int) -> Callable[[int], int]:
     return lambda window: group(window + scatter)
 
 
-def lesser_bursts(table: Table, port: Port, lined: Collection[int], scatter: int = 0) -> tuple[int, int]:
+def lesser_bursts(table: Table, port: Port, lines: Mapping[int, int], scatter: int = 0) -> tuple[int, int]:
     """What all links of a port and its high ones ask for at once, where frames come one after the other over the lines of
-    the ports with these numbers, and latencies differ by so many ns."""
+    the ports with these numbers, by stamps that are rounded down by at most so many ns there, and latencies differ by so many ns."""
     links, high_links, _ = links_to(table, port)
     groups, high_groups = [], []
     for source in table.ports:
-        line = source if source.id in lined else None
-        high = [link for link in high_links if link.source == source.id]
-        groups.append(later(brought(port, line, [link for link in links if link.source == source.id], burst_of(port, high)), scatter))
-        high_groups.append(later(brought(port, line, high, 0), scatter))
+        rounding = lines.get(source.id)
+        group, high = ([link for link in some if link.source == source.id] for some in (links, high_links))
+        groups.append(later(brought(port, source, rounding, group, burst_of(port, high)), scatter))
+        high_groups.append(later(brought(port, source, rounding, high, 0), scatter))
     return least_burst(groups), least_burst(high_groups)
 
 

@@ -277,19 +277,25 @@ def lesser_bursts() -> None:
     low, other, third = LINK.format(10, 1, 2, "low"), LINK.format(11, 1, 2, "low"), LINK.format(11, 3, 2, "low")
     high, third_high = LINK.format(12, 1, 2, "high"), LINK.format(12, 3, 2, "high")
     framed = LINK.format(13, 1, 2, "low")
-    for name, text, lined, wanted in (
-        ("no line is known", ports + low + other, [3], (652_861_440_000_000, 0)),
-        ("one line", ports + low + other, [1], (251_985_920_000_000, 0)),
-        ("a slow line", with_port(ports + low + other, 1, mbit=10), [1], (251_985_920_000_000, 0)),
-        ("a fast line", with_port(ports + low + other, 1, mbit=1000), [1], (624_653_133_455_360, 0)),
-        ("two lines", ports + low + third, [1, 3], (592_531_463_249_920, 0)),
-        ("a high link on the line", ports + low + high, [1], (578_416_640_000_000, 251_985_920_000_000)),
-        ("both kinds, and a high link beside", by_frames(ports + low + third_high + framed), [1],
+    slow, fast = (with_port(ports + low + other, 1, mbit=mbit) for mbit in (10, 1000))
+    rows: list[tuple[str, str, dict[int, int], tuple[int, int]]] = [
+        ("no line is known", ports + low + other, {3: 0}, (652_861_440_000_000, 0)),
+        ("one line", ports + low + other, {1: 0}, (251_985_920_000_000, 0)),
+        ("a slow line", slow, {1: 0}, (251_985_920_000_000, 0)),
+        ("a fast line", fast, {1: 0}, (624_653_133_455_360, 0)),
+        ("two lines", ports + low + third, {1: 0, 3: 0}, (592_531_463_249_920, 0)),
+        ("a high link on the line", ports + low + high, {1: 0}, (578_416_640_000_000, 251_985_920_000_000)),
+        ("both kinds, and a high link beside", by_frames(ports + low + third_high + framed), {1: 0},
          (650_924_737_249_280, 326_430_720_000_000)),
-        ("no link", ports, [1, 3], (0, 0)),
-    ):
+        ("no link", ports, {1: 0, 3: 0}, (0, 0)),
+        ("a line of rounded stamps", ports + low + other, {1: 999}, (254_031_872_000_000, 0)),
+        ("a slow line of them", slow, {1: 999}, (252_190_515_200_000, 0)),
+        ("a fast line of them", fast, {1: 999}, (626_092_916_449_280, 0)),
+        ("a high link on a line of them", ports + low + high, {1: 999}, (580_462_592_000_000, 254_031_872_000_000)),
+    ]
+    for name, text, lines, wanted in rows:
         table = model.table_of(text)
-        same(f"lesser bursts: {name}", model.lesser_bursts(table, table.ports[1], lined), wanted)
+        same(f"lesser bursts: {name}", model.lesser_bursts(table, table.ports[1], lines), wanted)
 
 
 if __name__ == "__main__":

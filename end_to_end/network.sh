@@ -137,6 +137,26 @@ capture_refused() {
         ends 3 "afdx: capture P2 NoHeader, port 3, switch bay" /dev/null network run work/network.toml work/in out
 }
 
+# over_one_line: the example where each end system has one line, as they have.
+over_one_line() {
+    fresh && sed -i '1 i one_line = true' work/network.toml && as_modelled check && grep -qx 'premise one_line' lines.txt && as_modelled jitter &&
+        runs_as_modelled
+}
+
+# line_refused: the camera's 16th frame, of 458 bytes with its header, comes twice at one instant: one line cannot have brought the second
+# one so soon.
+line_refused() {
+    local capture=work/in/cabin/port-1.pcap line="afdx: network R2 Line, switch cabin, port 1, record 17"
+    rm -rf out && fresh && sed -i '1 i one_line = true' work/network.toml && mkdir -p out/cabin out/bay out/cockpit &&
+        { head -c 8053 "$capture" && tail -c +7596 "$capture"; } >twice.pcap && mv twice.pcap "$capture" &&
+        ends 4 "$line" /dev/null network run work/network.toml work/in out &&
+        ends 4 "$line" /dev/null network run work/network.toml work/in out --unchecked &&
+        ends 4 "$line" /dev/null network measure work/network.toml work/in &&
+        ends 4 "$line" /dev/null network survey work/network.toml work/in &&
+        ends 4 "$line" /dev/null network trace work/network.toml work/in out &&
+        [ -z "$(find out -type f)" ] && ! python3 "$model" run work/network.toml work/in wanted 2>line.txt && [ "$(cat line.txt)" = "$line" ]
+}
+
 # few_open_files: all new files and captures are open at once; where they may not be, a line names the first that was not opened, and
 # nothing is put.
 few_open_files() {
@@ -241,6 +261,9 @@ provoked 4 "afdx: network J1 Jitter, and 1 more"
 check "101 rows that fall short" many
 provoked 3 "afdx: capture P2 NoHeader, port 3, switch bay"
 check "afdx: capture P2 NoHeader, port 3, switch bay" capture_refused
+check "the example over one line from each end system" over_one_line
+provoked 4 "afdx: network R2 Line, switch cabin, port 1, record 17"
+check "afdx: network R2 Line, switch cabin, port 1, record 17" line_refused
 check "a ring in which 189 frames go round" ring_as_modelled 189
 check "one of 600 frames" ring_goes_on 189 600
 check "one of 3,000 frames" ring_goes_on 600 3000

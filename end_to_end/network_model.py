@@ -25,6 +25,7 @@ MOST_DELAY = 1_000_000
 MOST_JITTER_US = 10_000
 MOST_LATENCY_US = 100
 MOST_LINES = 100  # of rows that one rule refuses
+ROUNDING = 999  # ns; by so much the whole microseconds of a capture are below the instants at which frames came, at most
 
 Members = dict[str, Any]
 Answer = TypeVar("Answer")
@@ -57,6 +58,14 @@ class Switch:
     path: str  # of its table
     least: int = 0  # of its latencies; the table's is the most
     down: bool = False
+
+
+@dataclass
+class Layout:
+    """What a network file says."""
+    one_line: bool  # whether what an end system's port captured came over one line
+    switches: list[Switch]
+    wires: list[Wire]
 
 
 def refuse(rule: str, *parts: str) -> NoReturn:
@@ -138,8 +147,8 @@ def wire_of(place: str, members: Members, names: list[str], before: list[Wire]) 
     return Wire(place, start, end, delay, down)
 
 
-def layout_of(data: bytes) -> tuple[list[Switch], list[Wire]]:
-    """The switches and the wires that a network file's bytes name."""
+def layout_of(data: bytes) -> Layout:
+    """The layout of a network file's bytes."""
     try:
         top = tomllib.loads(data.decode("utf-8"))
     except ValueError:
@@ -147,11 +156,12 @@ def layout_of(data: bytes) -> tuple[list[Switch], list[Wire]]:
     return layout_in(top)
 
 
-def layout_in(top: Members) -> tuple[list[Switch], list[Wire]]:
+def layout_in(top: Members) -> Layout:
     """The same of the tree of its text."""
-    known("top", ["version", "switch", "wire"], top)
+    known("top", ["version", "one_line", "switch", "wire"], top)
     if "version" in top:
         number("top", "version", top, 1, 1)
+    one_line = flag("top", "one_line", top)
     of_switches, of_wires = tables("switch", top), tables("wire", top)
     if len(of_switches) > MOST_SWITCHES:
         refuse("G2 Range", "top", "switch")
@@ -162,7 +172,7 @@ def layout_in(top: Members) -> tuple[list[Switch], list[Wire]]:
     names = [switch.name for switch in switches]
     for place, members in enumerate(of_wires, 1):
         wires.append(wire_of(f"wire {place}", members, names, wires))
-    return switches, wires
+    return Layout(one_line, switches, wires)
 
 
 # --- A network and the rows of its tables ---
@@ -177,6 +187,7 @@ class Row:
 
 @dataclass
 class Network:
+    one_line: bool
     names: list[str]  # of the switches, in file order
     leasts: dict[str, int]  # of their latencies, by name
     down: set[str]  # the names of those that are down
@@ -185,17 +196,17 @@ class Network:
     rows: list[Row]  # of all tables, by switch and place
 
 
-def network_of(switches: list[Switch], wires: list[Wire], tables_of: dict[str, model.Table]) -> Network:
-    rows = [Row(switch.name, link) for switch in switches for link in tables_of[switch.name].links]
-    leasts = {switch.name: switch.least for switch in switches}
-    down = {switch.name for switch in switches if switch.down}
-    return Network([switch.name for switch in switches], leasts, down, tables_of, wires, rows)
+def network_of(layout: Layout, tables_of: dict[str, model.Table]) -> Network:
+    rows = [Row(switch.name, link) for switch in layout.switches for link in tables_of[switch.name].links]
+    leasts = {switch.name: switch.least for switch in layout.switches}
+    down = {switch.name for switch in layout.switches if switch.down}
+    return Network(layout.one_line, [switch.name for switch in layout.switches], leasts, down, tables_of, layout.wires, rows)
 
 
 def read(path: str | Path) -> Network:
     """The network of a file, and of the tables beside it."""
-    switches, wires = layout_of(Path(path).read_bytes())
-    return network_of(switches, wires, {switch.name: model.read(Path(path).parent / switch.path) for switch in switches})
+    layout = layout_of(Path(path).read_bytes())
+    return network_of(layout, {switch.name: model.read(Path(path).parent / switch.path) for switch in layout.switches})
 
 
 def port_of(net: Network, end: End) -> model.Port:
@@ -360,12 +371,18 @@ class Delays:
         return Delays(self.least + other.least, self.most + other.most)
 
 
+def lines_of(net: Network, name: str) -> dict[int, int]:
+    """The ports of a switch over whose lines frames come one after the other, and by how much their stamps may be rounded down: what comes
+    over a wire has exact ones; the others are those of end systems, if the network file says so of them."""
+    wired = {wire.end.port for wire in net.wires if wire.end.switch == name}
+    return {port.id: 0 if port.id in wired else ROUNDING for port in net.tables[name].ports if net.one_line or port.id in wired}
+
+
 def bound_of(net: Network, row: Row, number: int) -> int:
-    """The bound of the link's priority at a port of its switch, where what comes in over a wire comes one frame after the
-    other and latencies differ by the switch's scatter."""
+    """The bound of the link's priority at a port of its switch, where frames come one after the other over the lines that are known
+    and latencies differ by the switch's scatter."""
     table, port = net.tables[row.switch], port_of(net, End(row.switch, number))
-    lined = {wire.end.port for wire in net.wires if wire.end.switch == row.switch}
-    high, low = model.bounds_of(table, port, *model.lesser_bursts(table, port, lined, scatter_of(net, row.switch)))
+    high, low = model.bounds_of(table, port, *model.lesser_bursts(table, port, lines_of(net, row.switch), scatter_of(net, row.switch)))
     bound = high if row.link.priority == "high" else low
     assert bound is not None
     return bound
@@ -450,7 +467,7 @@ def is_lost(net: Network, row: Row) -> bool:
 def check(net: Network) -> str:
     """The lines of an accepted network."""
     accept(net)
-    lines = [f"switch {name} accepted" for name in net.names]
+    lines = [f"switch {name} accepted" for name in net.names] + ["premise one_line"] * net.one_line
     ends = [(row, port, *way_line(net, row, port)) for row, port in ends_of(net) if not is_lost(net, row)]
     lines += [line for _, _, line, _ in ends]
     lines += [f"link {row.link.id} to {End(row.switch, port)} none" for row, port in ends_of(net) if is_lost(net, row)]
@@ -567,6 +584,25 @@ def run_in_rounds(net: Network, given: dict[End, bytes], order: list[str]) -> di
             return outcomes
 
 
+def breach_of(port: model.Port, records: list[model.Record]) -> int | None:
+    """The number of the first record that did not come over this port's line one frame after the other, whatever of a microsecond the
+    stamps lack: the line times of it and of some just before it are more than the time since the record before them and that."""
+    for last, record in enumerate(records):
+        taken = 0
+        for first in range(last, 0, -1):
+            taken += (records[first].size + model.LINE_OVERHEAD) * port.tick
+            if records[first - 1].stamp + taken > record.stamp + ROUNDING:
+                return last + 1
+    return None
+
+
+def lines_are_kept(net: Network, given: dict[End, bytes]) -> None:
+    for end, text in given.items():
+        record = breach_of(port_of(net, end), model.records_of(text, end.port))
+        if record:
+            refuse("R2 Line", f"switch {end.switch}", f"port {end.port}", f"record {record}")
+
+
 def run(net: Network, given: dict[End, bytes]) -> dict[str, model.Outcome]:
     """What comes out of each switch, where these captures come in at the ports without a wire."""
     accept(net)
@@ -578,6 +614,8 @@ def run_unchecked(net: Network, given: dict[End, bytes]) -> dict[str, model.Outc
     coming = coming_in(net, given)
     for end, text in coming.items():
         of_switch(end.switch, model.records_of, text, end.port)
+    if net.one_line:
+        lines_are_kept(net, coming)
     return run_in_rounds(net, coming, order_of(net))
 
 

@@ -30,10 +30,11 @@ def table(*links: str, ports: int = 4, mbit: int | list[int] = 100, head: str = 
     return head + "".join(PORT.format(number, speed) for number, speed in enumerate(speeds, 1)) + "".join(links)
 
 
-def layout(names: Iterable[str], *wires: str, leasts: dict[str, int] | None = None, down: Iterable[str] = ()) -> str:
+def layout(names: Iterable[str], *wires: str, leasts: dict[str, int] | None = None, down: Iterable[str] = (),
+           one_line: bool = False) -> str:
     """The network file: wires are words, `A.3 B.1` or `A.3 B.1 25`; the least latencies are in µs, by name; down are switches, by name, and
     wires, by their start."""
-    text = "version = 1\n"
+    text = "version = 1\n" + "one_line = true\n" * one_line
     for name in names:
         text += f'[[switch]]\nname = "{name}"\ntable = "{name}.toml"\n'
         text += f"least_latency_us = {leasts[name]}\n" if leasts and name in leasts else ""
@@ -45,9 +46,10 @@ def layout(names: Iterable[str], *wires: str, leasts: dict[str, int] | None = No
     return text
 
 
-def network(tables: dict[str, str], *wires: str, leasts: dict[str, int] | None = None, down: Iterable[str] = ()) -> network_model.Network:
-    switches, read = network_model.layout_of(layout(tables, *wires, leasts=leasts, down=down).encode())
-    return network_model.network_of(switches, read, {name: model.table_of(text) for name, text in tables.items()})
+def network(tables: dict[str, str], *wires: str, leasts: dict[str, int] | None = None, down: Iterable[str] = (),
+            one_line: bool = False) -> network_model.Network:
+    read = network_model.layout_of(layout(tables, *wires, leasts=leasts, down=down, one_line=one_line).encode())
+    return network_model.network_of(read, {name: model.table_of(text) for name, text in tables.items()})
 
 
 # --- Captures ---
@@ -388,6 +390,9 @@ def file_refusals() -> None:
         ("no table", whole.replace('table = "B.toml"\n', ""), "G2 MissingKey, switch 2, table"),
         ("no end", whole.replace('to = "A.1"\n', ""), "G2 MissingKey, wire 2, to"),
         ("version as a text", whole.replace("version = 1", 'version = "1"'), "G2 Kind, top, version"),
+        ("one line as a number", "one_line = 1\nswitch = 3\n", "G2 Kind, top, one_line"),
+        ("version before one line", "one_line = 1\nversion = 2\n", "G2 Range, top, version"),
+        ("one line of a switch", whole.replace('table = "B.toml"', 'table = "B.toml"\none_line = true'), "G2 UnknownKey, switch 2"),
         ("one switch", "switch = 3\n", "G2 Kind, top, switch"),
         ("delay as a text", whole.replace("= 25", '= "25"'), "G2 Kind, wire 1, delay_ns"),
         ("a later version", whole.replace("version = 1", "version = 2"), "G2 Range, top, version"),
@@ -412,7 +417,7 @@ def file_refusals() -> None:
         refuses(name, f"afdx: network {fault}", 3, reads, name, text)
     names = ["A" * 16, "a-b_9"]
     greatest = layout(names, f"{names[0]}.24 {names[1]}.1 1000000", f"{names[1]}.9 {names[0]}.10 0")
-    same("greatest values", network_model.layout_of(greatest.encode())[1][0].delay, 1_000_000)
+    same("greatest values", network_model.layout_of(greatest.encode()).wires[0].delay, 1_000_000)
     same("no switch", network_model.check(network({})), "accepted\n")
 
 
@@ -523,6 +528,47 @@ def outages() -> None:
                 layout("AB", "A.1 B.1", down=["A.1"]).replace("= true", f"= {value}").encode())
 
 
+def one_line_each() -> None:
+    """Two links of 1518 bytes and three of 64 bytes at one end system. Over its line a frame comes at a time, and 999 ns of the next one:
+    without it 318,780 and 20,160 ns come at once. A frame whose stamp lacks 999 ns takes just that. What comes over the wire to B has exact
+    stamps."""
+    name, large = "one line each", {"A": table(link(1, 1, [2], size=1518), link(2, 1, [2], size=1518), ports=2)}
+    for one_line, most in ((False, 318_780), (True, 124_039)):
+        says(name, network(large, one_line=one_line), "switch A accepted", *["premise one_line"] * one_line,
+             *(f"link {number} from A.1 to A.2 ways A.2 least 6720 most {most} jitter 0" for number in (1, 2)),
+             f"greatest {most} link 1 to A.2", "accepted")
+    outcomes = run(network(large, one_line=True), A1=capture((1, 0, 1518), (2, 122_041, 1518)))
+    same(name, left(outcomes, "A", 2), [(1, 123_040), (2, 122_041 + 124_039)])
+    small = {"A": table(*(link(number, 1, [4]) for number in (1, 2, 3))),
+             "B": table(*(link(number, 1, [2], 1) for number in (1, 2, 3)), ports=2)}
+    says(name, network(small, "A.4 B.1", one_line=True), "switch A accepted", "switch B accepted", "premise one_line",
+         *(f"link {number} from A.1 to B.2 ways A.4 B.2 least 13440 most 14439 jitter 0 1" for number in (1, 2, 3)),
+         "greatest 14439 link 1 to B.2", "accepted")
+    refuses(name, short_lines("B", (1, 2, 3), 14, 1), 4, network_model.check, network(small, "A.4 B.1"))
+    needs(name, network(small, "A.4 B.1", one_line=True), *(f"switch {switch} link {number} jitter_us {us}"
+                                                            for switch, us in (("A", 0), ("B", 1)) for number in (1, 2, 3)))
+
+
+def lines_broken() -> None:
+    """A frame of 64 bytes takes 6,720 ns, one of 1518 bytes 123,040. Stamps may lack 999 of them, but not once more for each frame; frames
+    of no link count too. Faults of captures go first, and what comes to a switch that is down is not looked at."""
+    name, tables = "lines broken", {"A": table(link(1, 1, [4]), link(2, 2, [4]), link(3, 1, [4]))}
+    net = network(tables, one_line=True)
+    same(name, left(run(net, A1=capture((1, 0), (3, 5_721))), "A", 4), [(1, 6_720), (3, 13_440)])
+    run(net, A1=capture((1, 0), (9, 122_041, 1518), (1, 128_761)))
+    rows: list[tuple[int, list[tuple[int, ...]]]] = [
+        (2, [(1, 0), (3, 5_720)]), (3, [(1, 0), (3, 6_720), (9, 12_440)]), (3, [(1, 0), (3, 6_000), (9, 12_000)]), (2, [(9, 7), (9, 7)]),
+        (2, [(1, 0), (9, 122_040, 1518)]), (3, [(1, 0), (9, 122_041, 1518), (1, 128_760)])]
+    for number, sent in rows:
+        broken = capture(*sent)
+        refuses(name, f"afdx: network R2 Line, switch A, port 1, record {number}", 4, lambda: run(net, A1=broken))
+        run(network(tables), A1=broken)
+    twice = capture((1, 0), (1, 0))
+    refuses(name, "afdx: network R2 Line, switch A, port 1, record 2", 4, lambda: run(net, A1=twice, A2=twice))
+    refuses(name, "afdx: capture P2 NoHeader, port 2, switch A", 3, lambda: run(net, A1=twice, A2=b""))
+    run(network(tables, down=["A"], one_line=True), A1=twice)
+
+
 def captures_refused() -> None:
     name, net = "captures of a network", network(two_switches(14), "A.4 B.1")
     late = 4_294_967_295 * 10**9
@@ -534,7 +580,8 @@ def captures_refused() -> None:
 
 for part in (jitter_enough, three_in_a_row, ring, multicast, both_kinds_of_policing, gigabit_with_latency, latency_that_varies, overtaken,
              overtaken_by_all, wire_that_varies, least_latencies, rounded_once, bound_of_its_priority, speed_of_the_port_before, turns,
-             file_refusals, texts_refused, past_the_limit, short_at_two_switches, a_hundred_lines, outages, captures_refused):
+             file_refusals, texts_refused, past_the_limit, short_at_two_switches, a_hundred_lines, outages, one_line_each, lines_broken,
+             captures_refused):
     part()
 print("\n".join(differing) or "the model of networks gives every worked number")
 sys.exit(bool(differing))

@@ -6,7 +6,9 @@ of the model. Each third one is a ring in which frames come in, start and end on
 several ports and at several switches; what comes in begins in 1970 or in 2026. The tables have the jitters that `jitter` finds. Of each
 link the frames that its first account passes leave each of its end ports, in order, each between the least and the most that `check`
 prints for its size; no later account polices a frame. With less jitter in some rows the program names the same rows as the model. In an
-outage of a switch or of wires the ways that use nothing of these deliver as before, and nothing leaves at the ends of the others.
+outage of a switch or of wires the ways that use nothing of these deliver as before, and nothing leaves at the ends of the others. Each
+second network says that its end systems have one line each; what they send keeps to it, by stamps of ns or of whole us, and what keeps to
+no line is refused by the same record as by the model.
 """
 import argparse
 import copy
@@ -144,7 +146,7 @@ def draw_least(chance: Random, latency: int) -> int:
     return 1000 * chance.choice([latency // 1000, 0, chance.randint(0, latency // 1000)])
 
 
-def draw_network(chance: Random, drawn: Range) -> Network:
+def draw_network(chance: Random, drawn: Range, one_line: bool) -> Network:
     plan = draw_plan(chance, drawn)
     tables: dict[str, model.Table] = {}
     for name in plan.names:
@@ -153,13 +155,13 @@ def draw_network(chance: Random, drawn: Range) -> Network:
         tables[name] = model.Table(bytes.fromhex("03000000"), ports, [], latency)
     draw_links(chance, plan, tables)
     switches = [network_model.Switch(name, f"{name}.toml", draw_least(chance, tables[name].latency)) for name in plan.names]
-    return network_model.network_of(switches, plan.wires, tables)
+    return network_model.network_of(network_model.Layout(one_line, switches, plan.wires), tables)
 
 
-def accepted_network(chance: Random, drawn: Range) -> Network:
+def accepted_network(chance: Random, drawn: Range, one_line: bool) -> Network:
     """A network whose jitters a table can have."""
     while True:
-        net = draw_network(chance, drawn)
+        net = draw_network(chance, drawn, one_line)
         try:
             if network_model.jitter(net)[1] is None:
                 network_model.accept(net)
@@ -197,21 +199,32 @@ def on_the_grid(chance: Random, links: list[model.Link], at: int) -> Iterator[ba
                 yield at + number * link.bag + GRID * chance.randint(0, 8), 0, frame(link.id, size)
 
 
-def captures(chance: Random, net: Network, drawn: Range) -> dict[End, bytes]:
-    at = chance.choice(BEGINS)
+def over_one_line(port: model.Port, frames: list[babblers.Frame], unit: int) -> Iterator[babblers.Frame]:
+    """The frames as soon as the line can bring each, one after the other; their stamps are rounded down to whole units of so many ns."""
+    came: int | None = None
+    for stamp, lacking, data in sorted(frames, key=lambda frame: frame[0]):
+        time = (len(data) + model.CHECK_SEQUENCE + model.LINE_OVERHEAD) * port.tick
+        came = stamp if came is None else max(stamp, came + time)
+        yield came // unit * unit, lacking, data
+
+
+def captures(chance: Random, net: Network, drawn: Range, one_line: bool) -> dict[End, bytes]:
+    """What comes in at each port; over one line each, if that is so."""
+    at, unit = chance.choice(BEGINS), chance.choice([1, network_model.MICROSECOND])
     given: dict[End, bytes] = {}
     for end in network_model.open_ends(net):
         links = [row.link for row in net.rows if row.switch == end.switch and row.link.source == end.port]
-        frames = on_the_grid(chance, links, at) if drawn is TIED else bursts(chance, links, at)
-        given[end] = babblers.capture([(max(stamp, 0), lacking, data) for stamp, lacking, data in [*frames, *noise(chance, net, at)]])
+        sent = [*(on_the_grid(chance, links, at) if drawn is TIED else bursts(chance, links, at)), *noise(chance, net, at)]
+        frames = [(max(stamp, 0), lacking, data) for stamp, lacking, data in sent]
+        given[end] = babblers.capture(over_one_line(network_model.port_of(net, end), frames, unit) if one_line else frames)
     return given
 
 
 def drawn_network(number: int, chance: Random) -> tuple[Network, dict[End, bytes]]:
-    """A network, and what comes in; each third one is tied."""
-    drawn = FREE if number % 3 else TIED
-    net = accepted_network(chance, drawn)
-    return net, captures(chance, net, drawn)
+    """A network, and what comes in; each third one is tied, and each second one says that end systems have one line each."""
+    drawn, one_line = FREE if number % 3 else TIED, number % 2 == 0
+    net = accepted_network(chance, drawn, one_line)
+    return net, captures(chance, net, drawn, one_line)
 
 
 # --- What must be so ---
@@ -290,7 +303,7 @@ def table_text(table: model.Table) -> str:
 
 
 def network_text(net: Network) -> str:
-    lines = ["version = 1"]
+    lines = ["version = 1"] + ["one_line = true"] * net.one_line
     for name in net.names:
         lines += ["[[switch]]", f'name = "{name}"', f'table = "{name}.toml"']
         lines += [f"least_latency_us = {net.leasts[name] // 1000}"] if net.leasts[name] else []
@@ -353,6 +366,22 @@ def falls_short(afdx: str, chance: Random, room: Path, net: Network) -> Iterator
     lay_out(room, less, {})
     if answer(afdx, room, "check", "net.toml") != checked(less):
         yield "network check with less jitter"
+
+
+def broken(chance: Random, afdx: str | None, room: Path | None, net: Network) -> Iterator[str]:
+    """Where the program says something else than the model of frames that keep to no line, or either takes them."""
+    given = captures(chance, net, FREE, False)
+    try:
+        network_model.run(net, given)
+        wanted = "taken"
+    except model.Refused as refused:
+        wanted = refused.line + "\n"
+    if not wanted.startswith("afdx: network R2 Line, switch "):
+        yield f"frames that keep to no line: {wanted}"
+    if afdx and room:
+        lay_out(room, net, given)
+        if answer(afdx, room, "run", "net.toml", "in", "out") != (4, "", wanted) or any((room / "out").rglob("*.pcap")):
+            yield "network run of frames that keep to no line"
 
 
 def wrong_in(cut: Network, net: Network, given: dict[End, bytes], outcomes: dict[str, model.Outcome]) -> Iterator[str]:
@@ -456,6 +485,8 @@ def main() -> None:
         wrong += wrong_in(cut, net, sent, after)
         if given.afdx:
             wrong += differs(given.afdx, given.room / f"{number}-outage", cut, sent, after)
+        if net.one_line:
+            wrong += broken(chance, given.afdx, given.room and given.room / f"{number}-broken", net)
         for line in wrong:
             print(f"network {number}: {line}")
         faults += bool(wrong)

@@ -1,14 +1,14 @@
 -- Arrivals that keep to the lines of their ports are copies that do.
-use Rattle.std.proofs.Common.{◌≡◌, ℕ, suc, ◌+◌, ◌≤◌, Bool, true, false, cond, ◌&&◌, ◌||◌, nat_eq, List, [], ◌∷◌, ◌++◌, Option, Some, None, refl, ap, sym, ◌∙◌, subst, arith, ⊎_elim}
-use Rattle.std.specs.Prelude.{All, AllPairs, Contains, IfSome}
+use Rattle.std.proofs.Common.{◌≡◌, ℕ, ◌==◌, Bool, true, false, cond, ◌&&◌, ◌||◌, nat_eq, List, [], ◌∷◌, ◌++◌, map, Option, Some, None, refl, ap, sym, ◌∙◌, subst, arith, ⊎_elim}
+use Rattle.std.specs.Prelude.{All, Contains, IfSome, filter, option_map}
 use Rattle.std.specs.List.{list_any}
-use Rattle.std.proofs.lemmas.List.Elements.{All-nil, All-cons, All-head, All-tail, All-append, All-map, All-weaker, Contains-append_right}
-use Rattle.std.proofs.lemmas.List.Kept.{AllPairs-cons}
-use Rattle.std.proofs.lemmas.Bool.{cases_Bool, eqb-true}
+use Rattle.std.proofs.lemmas.List.Elements.{All-head, All-tail, All-map, All-weaker, Contains-append_right}
+use Rattle.std.proofs.lemmas.Bool.{both_ways, cases_Bool, eq-eqb, eqb-true}
 use Rattle.std.proofs.lemmas.Bool.Decides.{nat_tests}
 use Rattle.std.proofs.lemmas.Option.{same_Some}
-use Rattle.afdx_units.specs.declared.line.Speed.{Speed}
-use Rattle.afdx_units.specs.Line.{cost_of}
+use Rattle.afdx_account.specs.declared.frame.Frame.{Frame}
+use Rattle.afdx_serial.specs.Serial.{KnownLine, KeepsToLineWithin}
+use Rattle.afdx_serial.specs.Laws.{PartsKeepToTheLine}
 use Rattle.afdx_table.specs.declared.rows.PortRow.{PortRow}
 use Rattle.afdx_table.specs.Link.{Link}
 use Rattle.afdx_table.specs.Content.{Content, link_row}
@@ -18,25 +18,17 @@ use Rattle.afdx_load.specs.Accepted.{IsAccepted}
 use Rattle.afdx_filter.specs.Inner.Clean.{CleanFramesHaveALink}
 use Rattle.afdx_port.specs.declared.Item.{Item}
 use Rattle.afdx_port.specs.Admission.{admitted}
-use Rattle.afdx_isolation.specs.Inner.Lines.{Line, ComeApart as ItemsComeApart, KeepToLines}
+use Rattle.afdx_isolation.specs.Arrivals.{frame_of_item}
+use Rattle.afdx_isolation.specs.Inner.Lines.{Line, frames_over, KeepToLines}
 use Rattle.afdx_isolation.specs.Inner.LineTable.{line_at, lines_of, AreLesser, IsInLesserBound, AcceptedLinesKeepBounds}
 use Rattle.afdx_isolation.specs.Inner.Table.{ArriveAt, OffersWhatThePolicingPasses}
 use Rattle.afdx_isolation.specs.Table.{settings_of}
 use Rattle.afdx_core.specs.declared.step.Row.{Row}
-use Rattle.afdx_core.specs.Rows.{named, copy_of, each_after}
+use Rattle.afdx_core.specs.Rows.{frame_of_row, named, copy_of, each_after}
 use Rattle.afdx_core.specs.State.{Run, port_in, sent_in}
 use Rattle.afdx_core.specs.Isolation.{IsOfAnArrival, IsRun, copy_by, clean_copies}
-use Rattle.afdx_core.specs.Lined.{ComeApart, RowsKeepToLines}
+use Rattle.afdx_core.specs.Lined.{frames_in, RowsKeepToLines}
 use Rattle.afdx_core.proofs.Isolating.{named_by, offered_is, in_order, all_clean}
-
-pairs_head : {X : Type 0} (R : X → X → Type 0) (x : X) (xs : List X) → AllPairs R (x ∷ xs) → All (R x) xs
-pairs_head R x xs h k d lt = h 0 (suc k) d (omega arith) (omega (arith, lt))
-
-pairs_tail : {X : Type 0} (R : X → X → Type 0) (x : X) (xs : List X) → AllPairs R (x ∷ xs) → AllPairs R xs
-pairs_tail R x xs h i j d lt within = h (suc i) (suc j) d (omega (arith, lt)) (omega (arith, within))
-
-no_pairs : {X : Type 0} (R : X → X → Type 0) → AllPairs R []
-no_pairs R i j d lt within = absurd (omega (arith, within))
 
 found : {X : Type 0} (p : X → Bool) (xs : List X) → list_any p xs ≡ true → (x : X) × Contains xs x × (p x ≡ true)
 found p [] h = (cc)
@@ -57,9 +49,9 @@ both_equal a b c d h = (eqb-true a b (first (nat_eq a b) (nat_eq c d) h), eqb-tr
   second : (a b : Bool) → (a && b) ≡ true → b ≡ true
   second a b h = grind (arith, nat_tests)
 
-module _ (links : LinksAreFound) (have_link : CleanFramesHaveALink) (t : Content) (well : IsWellFormed t) (q : PortRow) (lined : ℕ → Bool) where
+module _ (links : LinksAreFound) (have_link : CleanFramesHaveALink) (t : Content) (well : IsWellFormed t) (q : PortRow) (rounding_at : ℕ → Option ℕ) where
   abbrev line : Line
-  line = line_at t.links lined q
+  line = line_at t.links rounding_at q
 
   abbrev copy : List Row → Row → List Item
   copy before row = copy_by (named t row.verdict) before row
@@ -75,58 +67,70 @@ module _ (links : LinksAreFound) (have_link : CleanFramesHaveALink) (t : Content
       let two : m.0 ≡ l = same_Some m.0 l (sym (links.found t well m.0 m.1) ∙ ap (link_row t) e.0 ∙ names.1) in
       ap (λ (r : Row). r.in_port) arrival.2 ∙ sym h.from_port ∙ ap (λ (x : Link). x.from) (one ∙ sym two) ∙ e.1
 
-  -- all that is made of later rows
-  all_copies : (P : Row → Type 0) (Q : Item → Type 0) → ((before : List Row) (row : Row) (l : Link) → named t row.verdict ≡ Some l → P row → Q (copy_of l before row))
-      → (before rows : List Row) → All P rows → All Q (each_after copy before rows)
-  all_copies P Q step before [] h = All-nil Q
-  all_copies P Q step before (row ∷ rows) h =
-      All-append Q (copy before row) (each_after copy (before ++ row ∷ []) rows) (by (named t row.verdict) refl) (all_copies P Q step (before ++ row ∷ []) rows (All-tail P row rows h)) where
-        by : (o : Option Link) → named t row.verdict ≡ o → All Q (copy_by o before row)
-        by None is = All-nil Q
-        by (Some l) is = All-cons Q (copy_of l before row) [] (step before row l is (All-head P row rows h)) (All-nil Q)
+  -- ---- the rows of which the line has a copy
 
-  -- two clean arrivals at the port
-  apart : (speed : Option Speed) → (lined q.id ≡ true → speed ≡ Some q.speed) → (lined q.id ≡ false → speed ≡ None) → (a b : Row) → (lined q.id ≡ true → a.stamp + cost_of q.speed b.size ≤ b.stamp)
-      → IfSome speed (λ there. a.stamp + cost_of there b.size ≤ b.stamp)
-  apart speed on off a b h = ⊎_elim
-      (λ (is : lined q.id ≡ true). subst (λ (o : Option Speed). IfSome o (λ there. a.stamp + cost_of there b.size ≤ b.stamp)) (sym (on is)) (h is))
-      (λ (is : lined q.id ≡ false). subst (λ (o : Option Speed). IfSome o (λ there. a.stamp + cost_of there b.size ≤ b.stamp)) (sym (off is)) tt)
-      (cases_Bool (lined q.id))
+  abbrev has_copy : Option Link → Bool
+  has_copy None = false
+  has_copy (Some l) = line.has l.id
 
-  pairs_after : (before rows : List Row) → All (IsOfAnArrival t) rows → (lined q.id ≡ true → AllPairs (ComeApart q) rows) → AllPairs (ItemsComeApart line) (each_after copy before rows)
-  pairs_after before [] arrivals pairs = no_pairs (ItemsComeApart line)
-  pairs_after before (row ∷ rows) arrivals pairs =
-      let here = All-head (IsOfAnArrival t) row rows arrivals in
-      let others = All-tail (IsOfAnArrival t) row rows arrivals in
-      let ih = pairs_after (before ++ row ∷ []) rows others (λ is. pairs_tail (ComeApart q) row rows (pairs is)) in
-      let P = λ (later : Row). IsOfAnArrival t later × (lined q.id ≡ true → ComeApart q row later) in
-      let all : All P rows = λ k d lt. (others k d lt, λ is. pairs_head (ComeApart q) row rows (pairs is) k d lt) in
-      by here ih all (named t row.verdict) refl where
-        by : IsOfAnArrival t row → AllPairs (ItemsComeApart line) (each_after copy (before ++ row ∷ []) rows)
-            → All (λ (later : Row). IsOfAnArrival t later × (lined q.id ≡ true → ComeApart q row later)) rows
-            → (o : Option Link) → named t row.verdict ≡ o → AllPairs (ItemsComeApart line) (copy_by o before row ++ each_after copy (before ++ row ∷ []) rows)
-        by here ih all None is = ih
-        by here ih all (Some l) is =
-            AllPairs-cons (ItemsComeApart line) (copy_of l before row) (each_after copy (before ++ row ∷ []) rows)
-            (all_copies (λ (later : Row). IsOfAnArrival t later × (lined q.id ≡ true → ComeApart q row later)) (ItemsComeApart line (copy_of l before row))
-            (λ earlier later m is' h has has'.
-            apart line.speed (λ on. ap (λ b. cond b (Some q.speed) None) on) (λ off. ap (λ b. cond b (Some q.speed) None) off) row later
-            (λ on. h.1 on (came_in row here l is has) (came_in later h.0 m is' has')))
-            (before ++ row ∷ []) rows all) ih
+  abbrev counts : Row → Bool
+  counts row = has_copy (named t row.verdict)
 
-  pub copies_apart : (rows : List Row) → All (IsOfAnArrival t) rows → (lined q.id ≡ true → AllPairs (ComeApart q) rows) → AllPairs (ItemsComeApart line) (clean_copies t rows)
+  abbrev is_here : Row → Bool
+  is_here row = row.in_port == q.id
+
+  copies_over : (before rows : List Row) → frames_over line (each_after copy before rows) ≡ map frame_of_row (filter counts rows)
+  copies_over before [] = refl
+  copies_over before (row ∷ rows) = by (named t row.verdict) (copies_over (before ++ row ∷ []) rows) where
+    by : (o : Option Link) → frames_over line (each_after copy (before ++ row ∷ []) rows) ≡ map frame_of_row (filter counts rows)
+        → frames_over line (copy_by o before row ++ each_after copy (before ++ row ∷ []) rows) ≡ map frame_of_row (cond (has_copy o) (row ∷ filter counts rows) (filter counts rows))
+    by None ih = ih
+    by (Some l) ih = over (line.has l.id) where
+      over : (b : Bool) → map frame_of_item (cond b (copy_of l before row ∷ filter (λ (x : Item). line.has x.link) (each_after copy (before ++ row ∷ []) rows))
+          (filter (λ (x : Item). line.has x.link) (each_after copy (before ++ row ∷ []) rows)))
+          ≡ map frame_of_row (cond b (row ∷ filter counts rows) (filter counts rows))
+      over true = ap (λ (fs : List Frame). frame_of_row row ∷ fs) ih
+      over false = ih
+
+  counted_here : (row : Row) → IsOfAnArrival t row → counts row ≡ true → is_here row ≡ true
+  counted_here row arrival has = by (named t row.verdict) refl where
+    by : (o : Option Link) → named t row.verdict ≡ o → is_here row ≡ true
+    by None is = absurd (both_ways false refl (sym (ap has_copy is) ∙ has))
+    by (Some l) is = eq-eqb row.in_port q.id (came_in row arrival l is (sym (ap has_copy is) ∙ has))
+
+  all_here : (rows : List Row) → All (IsOfAnArrival t) rows → filter counts rows ≡ filter counts (filter is_here rows)
+  all_here [] arrivals = refl
+  all_here (row ∷ rows) arrivals =
+      by (is_here row) (counts row) refl refl (all_here rows (All-tail (IsOfAnArrival t) row rows arrivals)) (counted_here row (All-head (IsOfAnArrival t) row rows arrivals)) where
+        by : (h c : Bool) → is_here row ≡ h → counts row ≡ c → filter counts rows ≡ filter counts (filter is_here rows) → (counts row ≡ true → is_here row ≡ true)
+            → cond c (row ∷ filter counts rows) (filter counts rows) ≡ filter counts (cond h (row ∷ filter is_here rows) (filter is_here rows))
+        by true c is cis ih here =
+            ap (λ (rs : List Row). cond c (row ∷ rs) rs) ih
+            ∙ ap (λ (b : Bool). cond b (row ∷ filter counts (filter is_here rows)) (filter counts (filter is_here rows))) (sym cis)
+        by false true is cis ih here = absurd (both_ways (is_here row) is (here cis))
+        by false false is cis ih here = ih
+
+  pub copies_keep : PartsKeepToTheLine Row → (rows : List Row) → All (IsOfAnArrival t) rows → IfSome (rounding_at q.id) (λ rounding. KeepsToLineWithin rounding q.speed (frames_in q.id rows))
+      → IfSome line.known (λ there. KeepsToLineWithin there.rounding there.speed (frames_over line (clean_copies t rows)))
   unfolding clean_copies
-  copies_apart rows arrivals pairs = pairs_after [] rows arrivals pairs
+  copies_keep parts rows arrivals keeps = by (rounding_at q.id) keeps where
+    by : (o : Option ℕ) → IfSome o (λ rounding. KeepsToLineWithin rounding q.speed (frames_in q.id rows))
+        → IfSome (option_map (λ rounding. let there : KnownLine = record { speed = q.speed; rounding = rounding } in there) o)
+        (λ there. KeepsToLineWithin there.rounding there.speed (frames_over line (each_after copy [] rows)))
+    by None keeps = tt
+    by (Some rounding) keeps =
+        subst (KeepsToLineWithin rounding q.speed) (sym (copies_over [] rows ∙ ap (map frame_of_row) (all_here rows arrivals))) (parts frame_of_row rounding q.speed counts (filter is_here rows) keeps)
 
-pub lined_keep_bounds : LinksAreFound → CleanFramesHaveALink → OffersWhatThePolicingPasses → AcceptedLinesKeepBounds → (r : Run) → IsRun r → IsWellFormed r.table → IsAccepted r.table
-    → (lined : ℕ → Bool) → RowsKeepToLines r.table lined r.rows → (p : PortRow) → Contains r.table.ports p → (burst high_burst : ℕ) → AreLesser r.table p lined burst high_burst
+pub lined_keep_bounds : LinksAreFound → CleanFramesHaveALink → OffersWhatThePolicingPasses → AcceptedLinesKeepBounds → PartsKeepToTheLine Row → (r : Run) → IsRun r → IsWellFormed r.table → IsAccepted r.table
+    → (rounding_at : ℕ → Option ℕ) → RowsKeepToLines r.table rounding_at r.rows → (p : PortRow) → Contains r.table.ports p → (burst high_burst : ℕ) → AreLesser r.table p rounding_at burst high_burst
     → All (IsInLesserBound r.table p burst high_burst) (sent_in r (Some p))
-lined_keep_bounds links have_link offers keeps r run well accepted lined rows p among burst high_burst less =
+lined_keep_bounds links have_link offers keeps parts r run well accepted rounding_at rows p among burst high_burst less =
     let t = r.table in
     let arrivals = clean_copies t r.rows in
     let arrive : ArriveAt t arrivals = record { well_formed = well; accepted = accepted; stamps = in_order links t r.rows run.stamps; clean = all_clean links t well have_link r.rows run.arrivals } in
-    let apart' : KeepToLines (lines_of t lined) arrivals =
-    All-map (λ (line : Line). AllPairs (ItemsComeApart line) arrivals) (line_at t.links lined) t.ports
-    (All-weaker (λ (q : PortRow). lined q.id ≡ true → AllPairs (ComeApart q) r.rows) (λ (q : PortRow). AllPairs (ItemsComeApart (line_at t.links lined q)) arrivals)
-    (λ q h. copies_apart links have_link t well q lined r.rows run.arrivals h) t.ports rows) in
-    keeps t arrivals arrive p among lined apart' burst high_burst less (port_in r p) refl (ap (admitted (settings_of t.latency p)) (offered_is links t well offers p r.rows))
+    let kept : KeepToLines (lines_of t rounding_at) arrivals =
+    All-map (λ (line : Line). IfSome line.known (λ there. KeepsToLineWithin there.rounding there.speed (frames_over line arrivals))) (line_at t.links rounding_at) t.ports
+    (All-weaker (λ (q : PortRow). IfSome (rounding_at q.id) (λ rounding. KeepsToLineWithin rounding q.speed (frames_in q.id r.rows)))
+    (λ (q : PortRow). let line = line_at t.links rounding_at q in IfSome line.known (λ there. KeepsToLineWithin there.rounding there.speed (frames_over line arrivals)))
+    (λ q h. copies_keep links have_link t well q rounding_at parts r.rows run.arrivals h) t.ports rows) in
+    keeps t arrivals arrive p among rounding_at kept burst high_burst less (port_in r p) refl (ap (admitted (settings_of t.latency p)) (offered_is links t well offers p r.rows))

@@ -9,7 +9,7 @@ use Rattle.std.proofs.lemmas.List.Sums.{sum_by-cons}
 use Rattle.std.proofs.lemmas.Option.{same_Some}
 use Rattle.afdx_account.specs.Policing.{parts}
 use Rattle.afdx_serial.specs.Curves.{Straight, Curve, lesser_at, curve_at, BurstsAreEnough}
-use Rattle.afdx_units.specs.declared.line.Speed.{Speed}
+use Rattle.afdx_serial.specs.Serial.{KnownLine}
 use Rattle.afdx_table.specs.declared.rows.PortRow.{PortRow}
 use Rattle.afdx_table.specs.Content.{Content}
 use Rattle.afdx_table.specs.WellFormed.{IsWellFormed}
@@ -67,14 +67,14 @@ sooner_all load burst most high high_most all highs = record {
 through : (a b c : ℕ) → a ≤ b → b ≤ c → a ≤ c
 through a b c h k = omega (arith, h, k)
 
-pub bounds_no_more : (scatter : ℕ) (t : Content) (lined : ℕ → Bool) (to : PortRow) → IsWellFormed t
-    → AreNoMore (lesser_load scatter lined t to) (scattered scatter (load_of t.latency to.speed to.id t.links))
-bounds_no_more scatter t lined to formed =
-    let once = paid_once scatter t lined to formed in
+pub bounds_no_more : (scatter : ℕ) (t : Content) (rounding_at : ℕ → Option ℕ) (to : PortRow) → IsWellFormed t
+    → AreNoMore (lesser_load scatter rounding_at t to) (scattered scatter (load_of t.latency to.speed to.id t.links))
+bounds_no_more scatter t rounding_at to formed =
+    let once = paid_once scatter t rounding_at to formed in
     let load : Load = load_of t.latency to.speed to.id t.links in
     sooner_all load _ (load.burst + load.rate * scatter) _ (load.high_burst + load.high_rate * scatter)
-    (through _ _ _ (none_more parts (all_curves scatter t lined to)) once.burst)
-    (through _ _ _ (none_more parts (high_curves scatter t lined to)) once.high_burst)
+    (through _ _ _ (none_more parts (all_curves scatter t rounding_at to)) once.burst)
+    (through _ _ _ (none_more parts (high_curves scatter t rounding_at to)) once.high_burst)
 
 -- ---- less scatter
 
@@ -94,41 +94,41 @@ all_below : (d e : ℕ) → d ≤ e → (f : PortRow → Curve) (ports : List Po
 all_below d e le f [] = tt
 all_below d e le f (q ∷ ports) = (later_below d e le (f q), all_below d e le f ports)
 
-pub less_scatter : BurstsAreEnough → (scatter more : ℕ) (t : Content) (lined : ℕ → Bool) (to : PortRow) → IsWellFormed t → scatter ≤ more
-    → (load_of t.latency to.speed to.id t.links).rate ≤ parts → AreNoMore (lesser_load scatter lined t to) (lesser_load more lined t to)
-less_scatter paid scatter more t lined to formed le rate =
-    let here = paid_once scatter t lined to formed in
-    let there = paid_once more t lined to formed in
+pub less_scatter : BurstsAreEnough → (scatter more : ℕ) (t : Content) (rounding_at : ℕ → Option ℕ) (to : PortRow) → IsWellFormed t → scatter ≤ more
+    → (load_of t.latency to.speed to.id t.links).rate ≤ parts → AreNoMore (lesser_load scatter rounding_at t to) (lesser_load more rounding_at t to)
+less_scatter paid scatter more t rounding_at to formed le rate =
+    let here = paid_once scatter t rounding_at to formed in
+    let there = paid_once more t rounding_at to formed in
     sooner_all (load_of t.latency to.speed to.id t.links) _ _ _ _
-    (curves_need_less paid parts (all_curves scatter t lined to) (all_curves more t lined to) (through _ _ _ here.rate rate) (through _ _ _ there.rate rate)
-    (all_below scatter more le (λ q. all_curve to.speed (line_at lined q) (group_at t.links q.id to)) t.ports))
-    (curves_need_less paid parts (high_curves scatter t lined to) (high_curves more t lined to) (through _ _ _ here.high_rate rate) (through _ _ _ there.high_rate rate)
-    (all_below scatter more le (λ q. high_curve to.speed (line_at lined q) (group_at t.links q.id to)) t.ports))
+    (curves_need_less paid parts (all_curves scatter t rounding_at to) (all_curves more t rounding_at to) (through _ _ _ here.rate rate) (through _ _ _ there.rate rate)
+    (all_below scatter more le (λ q. all_curve to.speed (line_at rounding_at q) (group_at t.links q.id to)) t.ports))
+    (curves_need_less paid parts (high_curves scatter t rounding_at to) (high_curves more t rounding_at to) (through _ _ _ here.high_rate rate) (through _ _ _ there.high_rate rate)
+    (all_below scatter more le (λ q. high_curve to.speed (line_at rounding_at q) (group_at t.links q.id to)) t.ports))
 
 -- ---- the ports that count
 
 -- what is made of a port by what is said of its line
-each_line : {X : Type 0} (f : PortRow → Option Speed → X) (lined other : ℕ → Bool) (ports : List PortRow) → All (λ p. lined p.id ≡ other p.id) ports
-    → map (λ q. f q (line_at lined q)) ports ≡ map (λ q. f q (line_at other q)) ports
-each_line f lined other [] same = refl
-each_line f lined other (q ∷ ports) same =
-    let here : line_at lined q ≡ line_at other q = ap (λ b. cond b (Some q.speed) None) (All-head (λ p. lined p.id ≡ other p.id) q ports same) in
-    let rest = each_line f lined other ports (All-tail (λ p. lined p.id ≡ other p.id) q ports same) in
-    ap (λ line. f q line ∷ map (λ r. f r (line_at lined r)) ports) here ∙ ap (λ more. f q (line_at other q) ∷ more) rest
+each_line : {X : Type 0} (f : PortRow → Option KnownLine → X) (rounding_at other : ℕ → Option ℕ) (ports : List PortRow) → All (λ p. rounding_at p.id ≡ other p.id) ports
+    → map (λ q. f q (line_at rounding_at q)) ports ≡ map (λ q. f q (line_at other q)) ports
+each_line f rounding_at other [] same = refl
+each_line f rounding_at other (q ∷ ports) same =
+    let here : line_at rounding_at q ≡ line_at other q = ap (option_map (λ (rounding : ℕ). let line : KnownLine = record { speed = q.speed; rounding = rounding } in line)) (All-head (λ p. rounding_at p.id ≡ other p.id) q ports same) in
+    let rest = each_line f rounding_at other ports (All-tail (λ p. rounding_at p.id ≡ other p.id) q ports same) in
+    ap (λ line. f q line ∷ map (λ r. f r (line_at rounding_at r)) ports) here ∙ ap (λ more. f q (line_at other q) ∷ more) rest
 
 abbrev bounded : Content → PortRow → List Curve → List Curve → Bounds
 bounded t to all high =
     let load : Load = record (load_of t.latency to.speed to.id t.links) { burst = least_burst parts all; high_burst = least_burst parts high } in
     bounds_of load
 
-pub only_ports : (scatter : ℕ) (t : Content) (lined other : ℕ → Bool) → All (λ p. lined p.id ≡ other p.id) t.ports → lesser_bounds scatter lined t ≡ lesser_bounds scatter other t
-only_ports scatter t lined other same = each t.ports where
-  at : (to : PortRow) → bounds_of (lesser_load scatter lined t to) ≡ bounds_of (lesser_load scatter other t to)
+pub only_ports : (scatter : ℕ) (t : Content) (rounding_at other : ℕ → Option ℕ) → All (λ p. rounding_at p.id ≡ other p.id) t.ports → lesser_bounds scatter rounding_at t ≡ lesser_bounds scatter other t
+only_ports scatter t rounding_at other same = each t.ports where
+  at : (to : PortRow) → bounds_of (lesser_load scatter rounding_at t to) ≡ bounds_of (lesser_load scatter other t to)
   at to =
-      ap (λ all. bounded t to all (high_curves scatter t lined to)) (each_line (λ q line. later scatter (all_curve to.speed line (group_at t.links q.id to))) lined other t.ports same)
-      ∙ ap (λ high. bounded t to (all_curves scatter t other to) high) (each_line (λ q line. later scatter (high_curve to.speed line (group_at t.links q.id to))) lined other t.ports same)
+      ap (λ all. bounded t to all (high_curves scatter t rounding_at to)) (each_line (λ q line. later scatter (all_curve to.speed line (group_at t.links q.id to))) rounding_at other t.ports same)
+      ∙ ap (λ high. bounded t to (all_curves scatter t other to) high) (each_line (λ q line. later scatter (high_curve to.speed line (group_at t.links q.id to))) rounding_at other t.ports same)
 
-  each : (ports : List PortRow) → map (λ to. bounds_of (lesser_load scatter lined t to)) ports ≡ map (λ to. bounds_of (lesser_load scatter other t to)) ports
+  each : (ports : List PortRow) → map (λ to. bounds_of (lesser_load scatter rounding_at t to)) ports ≡ map (λ to. bounds_of (lesser_load scatter other t to)) ports
   each [] = refl
   each (to ∷ ports) =
-      ap (λ bounds. bounds ∷ map (λ to. bounds_of (lesser_load scatter lined t to)) ports) (at to) ∙ ap (λ more. bounds_of (lesser_load scatter other t to) ∷ more) (each ports)
+      ap (λ bounds. bounds ∷ map (λ to. bounds_of (lesser_load scatter rounding_at t to)) ports) (at to) ∙ ap (λ more. bounds_of (lesser_load scatter other t to) ∷ more) (each ports)

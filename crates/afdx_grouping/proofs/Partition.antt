@@ -1,5 +1,5 @@
 -- The groups of a port's links have no more than all of them: each link comes in at one port.
-use Rattle.std.proofs.Common.{◌≡◌, ℕ, ◌+◌, ◌*◌, ◌<◌, ◌≤◌, ◌==◌, ◌&&◌, Bool, true, false, cond, List, [], ◌∷◌, map, refl, sym, ap, ◌∙◌, ⊎_elim, arith}
+use Rattle.std.proofs.Common.{◌≡◌, ℕ, ◌+◌, ◌*◌, ◌<◌, ◌≤◌, ◌==◌, ◌&&◌, Bool, true, false, cond, Option, List, [], ◌∷◌, map, refl, sym, ap, ◌∙◌, ⊎_elim, arith}
 use Rattle.std.specs.Prelude.{filter, sum_by}
 use Rattle.std.specs.List.{AllByRecursion}
 use Rattle.std.proofs.lemmas.Bool.{cases_Bool}
@@ -154,11 +154,11 @@ scattered_sum d f g ports b r fb gr = omega (arith, both_sums f (λ q. g q * d) 
     adds : (xs ys sa sb a : ℕ) → sa ≡ a * d + xs → sb ≡ a + ys → xs ≡ ys * d → sa ≡ sb * d
     adds xs ys sa sb a p q h = rw q (omega (arith, p, h))
 
-pub paid_once : (scatter : ℕ) (t : Content) (lined : ℕ → Bool) (to : PortRow) → IsWellFormed t → ArePaidForOnce scatter t lined to
+pub paid_once : (scatter : ℕ) (t : Content) (rounding_at : ℕ → Option ℕ) (to : PortRow) → IsWellFormed t → ArePaidForOnce scatter t rounding_at to
 unfolding links_load
-paid_once scatter t lined to formed =
-    let all = λ (q : PortRow). later scatter (all_curve to.speed (line_at lined q) (group_at t.links q.id to)) in
-    let high = λ (q : PortRow). later scatter (high_curve to.speed (line_at lined q) (group_at t.links q.id to)) in
+paid_once scatter t rounding_at to formed =
+    let all = λ (q : PortRow). later scatter (all_curve to.speed (line_at rounding_at q) (group_at t.links q.id to)) in
+    let high = λ (q : PortRow). later scatter (high_curve to.speed (line_at rounding_at q) (group_at t.links q.id to)) in
     let all_rate = groups_within to.id (rate_of to.speed) t.ports formed.ports_rise t.links in
     let high_rate = high_within to.id (rate_of to.speed) t.ports formed.ports_rise t.links in
     let all_burst = groups_within to.id (burst_of to.speed) t.ports formed.ports_rise t.links in

@@ -1,10 +1,11 @@
 -- The groups of a port's links by the ports at which they come in, what each of them can bring, and the lesser load that follows
 -- (network calculus: grouping; profile).
-use Rattle.std.specs.Prelude.{ℕ, ◌+◌, ◌*◌, ◌/◌, ◌==◌, ◌&&◌, Bool, Option, Some, None, option_map, if◌then◌else◌, List, map, filter, sum_by}
+use Rattle.std.specs.Prelude.{ℕ, ◌+◌, ◌*◌, ◌/◌, ◌==◌, ◌&&◌, Bool, Option, option_map, List, map, filter, sum_by}
 use Rattle.afdx_units.specs.declared.line.Speed.{Speed}
 use Rattle.afdx_units.specs.Line.{tick_of, cost_of}
 use Rattle.afdx_account.specs.Policing.{parts}
 use Rattle.afdx_serial.specs.Curves.{Straight, Curve}
+use Rattle.afdx_serial.specs.Serial.{KnownLine}
 use Rattle.afdx_table.specs.declared.rows.PortRow.{PortRow}
 use Rattle.afdx_table.specs.Link.{Link, leads_to}
 use Rattle.afdx_table.specs.Content.{Content}
@@ -52,40 +53,43 @@ line_weight here there = parts * tick_of here / tick_of there
 abbrev pub paid_by : Asked → Straight
 paid_by a = record { burst = a.burst; rate = a.rate }
 
--- what a line there brings: the largest frame at once and a nanosecond in each; and so many parts beside
-abbrev pub brought_by : (here : Speed) → (spare : ℕ) → Asked → (there : Speed) → Straight
-brought_by here spare a there = record { burst = line_weight here there * cost_of there a.largest + spare; rate = line_weight here there }
+-- what a line brings: the largest frame and what stamps may lack at once, and a nanosecond in each; and so many parts beside
+abbrev pub brought_by : (here : Speed) → (spare : ℕ) → Asked → KnownLine → Straight
+brought_by here spare a line = record {
+  burst = line_weight here line.speed * (cost_of line.speed a.largest + line.rounding) + spare;
+  rate = line_weight here line.speed;
+}
 
-abbrev pub curve_of : (here : Speed) → (line : Option Speed) → (spare : ℕ) → Asked → Curve
+abbrev pub curve_of : (here : Speed) → Option KnownLine → (spare : ℕ) → Asked → Curve
 curve_of here line spare a = record { paid = paid_by a; brought = option_map (brought_by here spare a) line }
 
 -- profile: a low frame waits for high ones that come after it, so that beside what the line brings the high links' burst is counted
-abbrev pub all_curve : Speed → Option Speed → Group → Curve
+abbrev pub all_curve : Speed → Option KnownLine → Group → Curve
 all_curve here line g = curve_of here line g.high.burst g.all
 
-abbrev pub high_curve : Speed → Option Speed → Group → Curve
+abbrev pub high_curve : Speed → Option KnownLine → Group → Curve
 high_curve here line g = curve_of here line 0 g.high
 
 -- ---- the load of a port
 
--- the speed of the line at a port, where frames are known to come over it one after the other
-abbrev pub line_at : (ℕ → Bool) → PortRow → Option Speed
-line_at lined from = if lined from.id then Some from.speed else None
+-- the line at a port, where frames are known to come over it one after the other, to within so many nanoseconds
+abbrev pub line_at : (rounding_at : ℕ → Option ℕ) → PortRow → Option KnownLine
+line_at rounding_at from = option_map (λ rounding. record { speed = from.speed; rounding = rounding }) (rounding_at from.id)
 
 -- where latencies differ by at most so many nanoseconds
-abbrev pub all_curves : (scatter : ℕ) → Content → (ℕ → Bool) → PortRow → List Curve
-all_curves scatter t lined to = map (λ from. later scatter (all_curve to.speed (line_at lined from) (group_at t.links from.id to))) t.ports
+abbrev pub all_curves : (scatter : ℕ) → Content → (ℕ → Option ℕ) → PortRow → List Curve
+all_curves scatter t rounding_at to = map (λ from. later scatter (all_curve to.speed (line_at rounding_at from) (group_at t.links from.id to))) t.ports
 
-abbrev pub high_curves : (scatter : ℕ) → Content → (ℕ → Bool) → PortRow → List Curve
-high_curves scatter t lined to = map (λ from. later scatter (high_curve to.speed (line_at lined from) (group_at t.links from.id to))) t.ports
+abbrev pub high_curves : (scatter : ℕ) → Content → (ℕ → Option ℕ) → PortRow → List Curve
+high_curves scatter t rounding_at to = map (λ from. later scatter (high_curve to.speed (line_at rounding_at from) (group_at t.links from.id to))) t.ports
 
 -- profile: its load, of which all links and the high ones ask for no more at once than the least bursts that are enough for their groups
-abbrev pub lesser_load : (scatter : ℕ) → (ℕ → Bool) → Content → PortRow → Load
-lesser_load scatter lined t to = record (load_of t.latency to.speed to.id t.links) {
-  burst = least_burst parts (all_curves scatter t lined to);
-  high_burst = least_burst parts (high_curves scatter t lined to);
+abbrev pub lesser_load : (scatter : ℕ) → (ℕ → Option ℕ) → Content → PortRow → Load
+lesser_load scatter rounding_at t to = record (load_of t.latency to.speed to.id t.links) {
+  burst = least_burst parts (all_curves scatter t rounding_at to);
+  high_burst = least_burst parts (high_curves scatter t rounding_at to);
 }
 
 -- the bounds of all ports
-abbrev pub lesser_bounds : (scatter : ℕ) → (ℕ → Bool) → Content → List Bounds
-lesser_bounds scatter lined t = map (λ to. bounds_of (lesser_load scatter lined t to)) t.ports
+abbrev pub lesser_bounds : (scatter : ℕ) → (ℕ → Option ℕ) → Content → List Bounds
+lesser_bounds scatter rounding_at t = map (λ to. bounds_of (lesser_load scatter rounding_at t to)) t.ports

@@ -1,5 +1,5 @@
 -- Laws over least bursts.
-use Rattle.std.specs.Prelude.{◌≡◌, ℕ, ◌≤◌, Bool, Option, Some, List, All}
+use Rattle.std.specs.Prelude.{◌≡◌, ℕ, ◌≤◌, Option, Some, List, All}
 use Rattle.std.specs.List.{AllZip}
 use Rattle.afdx_serial.specs.Curves.{Curve, curve_at}
 use Rattle.afdx_table.specs.declared.rows.PortRow.{PortRow}
@@ -21,14 +21,14 @@ NoneIsMoreThanPaidFor = (n : ℕ) (curves : List Curve) → least_burst n curves
 
 -- the groups of a port are paid for no more than its links are where latencies differ as much: in the long run, and at once, all and the
 -- high ones
-pub record ArePaidForOnce (scatter : ℕ) (t : Content) (lined : ℕ → Bool) (to : PortRow) : Type 0 where
-  pub rate : paid_rate (all_curves scatter t lined to) ≤ (load_of t.latency to.speed to.id t.links).rate
-  pub high_rate : paid_rate (high_curves scatter t lined to) ≤ (load_of t.latency to.speed to.id t.links).rate
-  pub burst : paid_burst (all_curves scatter t lined to) ≤ (scattered scatter (load_of t.latency to.speed to.id t.links)).burst
-  pub high_burst : paid_burst (high_curves scatter t lined to) ≤ (scattered scatter (load_of t.latency to.speed to.id t.links)).high_burst
+pub record ArePaidForOnce (scatter : ℕ) (t : Content) (rounding_at : ℕ → Option ℕ) (to : PortRow) : Type 0 where
+  pub rate : paid_rate (all_curves scatter t rounding_at to) ≤ (load_of t.latency to.speed to.id t.links).rate
+  pub high_rate : paid_rate (high_curves scatter t rounding_at to) ≤ (load_of t.latency to.speed to.id t.links).rate
+  pub burst : paid_burst (all_curves scatter t rounding_at to) ≤ (scattered scatter (load_of t.latency to.speed to.id t.links)).burst
+  pub high_burst : paid_burst (high_curves scatter t rounding_at to) ≤ (scattered scatter (load_of t.latency to.speed to.id t.links)).high_burst
 
 abbrev pub NoMoreIsPaidFor : Type 0
-NoMoreIsPaidFor = (scatter : ℕ) (t : Content) (lined : ℕ → Bool) (to : PortRow) → IsWellFormed t → ArePaidForOnce scatter t lined to
+NoMoreIsPaidFor = (scatter : ℕ) (t : Content) (rounding_at : ℕ → Option ℕ) (to : PortRow) → IsWellFormed t → ArePaidForOnce scatter t rounding_at to
 
 -- a curve brings no more than another one in any window
 abbrev pub IsBelow : Curve → Curve → Type 0
@@ -48,15 +48,15 @@ pub record AreNoMore (lesser load : Load) : Type 0 where
   pub low : IsNoMore (low_bound lesser) (low_bound load)
 
 abbrev pub BoundsAreNoMore : Type 0
-BoundsAreNoMore = (scatter : ℕ) (t : Content) (lined : ℕ → Bool) (to : PortRow) → IsWellFormed t
-    → AreNoMore (lesser_load scatter lined t to) (scattered scatter (load_of t.latency to.speed to.id t.links))
+BoundsAreNoMore = (scatter : ℕ) (t : Content) (rounding_at : ℕ → Option ℕ) (to : PortRow) → IsWellFormed t
+    → AreNoMore (lesser_load scatter rounding_at t to) (scattered scatter (load_of t.latency to.speed to.id t.links))
 
 -- and where latencies differ by less, they are no greater
 abbrev pub LessScatterBoundsNoMore : Type 0
-LessScatterBoundsNoMore = (scatter more : ℕ) (t : Content) (lined : ℕ → Bool) (to : PortRow) → IsWellFormed t → scatter ≤ more
-    → (load_of t.latency to.speed to.id t.links).rate ≤ parts → AreNoMore (lesser_load scatter lined t to) (lesser_load more lined t to)
+LessScatterBoundsNoMore = (scatter more : ℕ) (t : Content) (rounding_at : ℕ → Option ℕ) (to : PortRow) → IsWellFormed t → scatter ≤ more
+    → (load_of t.latency to.speed to.id t.links).rate ≤ parts → AreNoMore (lesser_load scatter rounding_at t to) (lesser_load more rounding_at t to)
 
 -- what is said of other ports than the table's is nothing to its bounds
 abbrev pub OnlyPortsCount : Type 0
-OnlyPortsCount = (scatter : ℕ) (t : Content) (lined other : ℕ → Bool) → All (λ p. lined p.id ≡ other p.id) t.ports
-    → lesser_bounds scatter lined t ≡ lesser_bounds scatter other t
+OnlyPortsCount = (scatter : ℕ) (t : Content) (rounding_at other : ℕ → Option ℕ) → All (λ p. rounding_at p.id ≡ other p.id) t.ports
+    → lesser_bounds scatter rounding_at t ≡ lesser_bounds scatter other t

@@ -1,5 +1,5 @@
--- The ports over whose lines frames are known to come one after the other, as the code has them: in the places of their numbers.
-use Rattle.std.specs.Prelude.{ℕ, Bool, false, List, slice_index_or}
+-- To within how many nanoseconds frames are known to come one after the other at ports, as the code has it: in the places of their numbers.
+use Rattle.std.specs.Prelude.{ℕ, Option, None, List, slice_index_or}
 
-abbrev pub is_lined : List Bool → ℕ → Bool
-is_lined lined port = slice_index_or lined port false
+abbrev pub rounding_in : List (Option ℕ) → ℕ → Option ℕ
+rounding_in roundings port = slice_index_or roundings port None

@@ -56,6 +56,24 @@ impl Model for Group {
     ghost inverse = { λ g. record { all = g.all; high = g.high } };
 }
 
+/// A line over which frames are known to come one after the other: its speed, and by how many nanoseconds their stamps may be rounded
+/// down.
+#[derive(Clone, Copy)]
+pub(crate) struct KnownLine {
+    pub(crate) speed: Speed,
+    pub(crate) rounding: u16,
+}
+
+impl Model for KnownLine {
+    ghost use Rattle.afdx_serial.specs.Serial.{KnownLine as Seen};
+
+    ghost Value = { Seen };
+
+    ghost view = { λ l. record { speed = l.speed; rounding = l.rounding } };
+
+    ghost inverse = { λ l. record { speed = l.speed; rounding = l.rounding } };
+}
+
 /// Parts of a nanosecond of line time here that a nanosecond of a line there brings.
 fn line_weight(here: Speed, there: Speed) -> u64
     ensures weight { result ≡ line_weight here there }
@@ -112,10 +130,10 @@ impl Asked {
 
     /// What the links are paid for, and what the line there brings of them, with so many parts beside, where it is kept to; in a
     /// window that is longer by so many nanoseconds.
-    fn curve(self, here: Speed, line: Option<Speed>, spare: u128, scatter: u64) -> Curve
+    fn curve(self, here: Speed, line: &Option<KnownLine>, spare: u128, scatter: u64) -> Curve
         requires spare { spare ≤ 2 ^ 72 }
         requires scatter { scatter ≤ 100000 }
-        ensures { result ≡ later scatter (curve_of here line spare self) }
+        ensures { result ≡ later scatter (curve_of here line.now spare self) }
     {
         let scatter = u128::from(scatter);
         let paid = Straight {
@@ -123,9 +141,9 @@ impl Asked {
             rate: self.rate,
         };
         let brought = match line {
-            Some(there) => {
-                let weight = line_weight(here, there);
-                let first = u128::from(cost(there, self.largest));
+            Some(line) => {
+                let weight = line_weight(here, line.speed);
+                let first = u128::from(cost(line.speed, self.largest)) + u128::from(line.rounding);
                 Some(Straight {
                     burst: u128::from(weight) * first + spare + u128::from(weight) * scatter,
                     rate: weight,
@@ -177,18 +195,18 @@ impl Group {
         }
     }
 
-    /// What all its links can bring, over a line of this speed where it is kept to, if latencies differ by so many nanoseconds.
-    pub(crate) fn all_curve(self, here: Speed, line: Option<Speed>, scatter: u64) -> Curve
+    /// What all its links can bring, over this line where it is kept to, if latencies differ by so many nanoseconds.
+    pub(crate) fn all_curve(self, here: Speed, line: &Option<KnownLine>, scatter: u64) -> Curve
         requires { scatter ≤ 100000 }
-        ensures { result ≡ later scatter (all_curve here line self) }
+        ensures { result ≡ later scatter (all_curve here line.now self) }
     {
         self.all.curve(here, line, self.high.burst, scatter)
     }
 
     /// What its high links can bring.
-    pub(crate) fn high_curve(self, here: Speed, line: Option<Speed>, scatter: u64) -> Curve
+    pub(crate) fn high_curve(self, here: Speed, line: &Option<KnownLine>, scatter: u64) -> Curve
         requires { scatter ≤ 100000 }
-        ensures { result ≡ later scatter (high_curve here line self) }
+        ensures { result ≡ later scatter (high_curve here line.now self) }
     {
         self.high.curve(here, line, 0, scatter)
     }

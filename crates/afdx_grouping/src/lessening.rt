@@ -1,22 +1,21 @@
 //! The lesser bursts of a port, and its bounds by them.
 
-ghost use Rattle.std.specs.Prelude.{◌≡◌, ◌<◌, ◌≤◌, ◌^◌, Some, IfOk};
+ghost use Rattle.std.specs.Prelude.{◌≡◌, ◌<◌, ◌≤◌, ◌^◌, Some, option_map, IfOk};
 ghost use Rattle.afdx_account.specs.Policing.{parts};
 ghost use Rattle.afdx_table.specs.Content.{port_row};
 ghost use Rattle.afdx_table.specs.WellFormed.{IsWellFormed};
 ghost use Rattle.afdx_load.specs.Load.{load_of};
 ghost use Rattle.afdx_grouping.specs.Burst.{least_burst, IsLeastBurst};
 ghost use Rattle.afdx_grouping.specs.Groups.{line_at, all_curves, high_curves, lesser_bounds};
-ghost use Rattle.afdx_grouping.specs.Lined.{is_lined};
+ghost use Rattle.afdx_grouping.specs.Lined.{rounding_in};
 ghost use Rattle.afdx_grouping.specs.Scatter.{scattered};
 
 use crate::curve::{Curve, least_burst};
-use crate::group::group_at;
+use crate::group::{KnownLine, group_at};
 use crate::laws::no_more_is_paid_for;
 use afdx_load::{Bounds, Bursts, Load, Loads, PARTS, bounds_with, loads};
 use afdx_table::laws::ports_are_found;
 use afdx_table::{PortRow, Table};
-use afdx_units::Speed;
 use arrayvec::ArrayVec;
 use std::alloc::{AllocError, Global};
 
@@ -30,57 +29,68 @@ struct Curves {
     high: ArrayVec<Curve, 24>,
 }
 
-/// The speed of the line at a port, where frames are known to come over it one after the other.
-fn line_at(lined: &[bool; PLACES], from: &PortRow) -> Option<Speed>
+/// The line at a port, where frames are known to come over it one after the other.
+fn line_at(roundings: &[Option<u16>; PLACES], from: &PortRow) -> Option<KnownLine>
     requires { from.now.id < 25 }
-    ensures { result ≡ line_at (is_lined lined.now) from.now }
+    ensures { result ≡ line_at (rounding_in roundings.now) from.now }
 {
-    if lined[usize::from(from.id)] {
-        Some(from.speed)
-    } else {
-        None
-    }
+    let rounding = roundings[usize::from(from.id)]?;
+    Some(KnownLine {
+        speed: from.speed,
+        rounding,
+    })
 }
 
 /// The curves of the groups of a port, one for each port of the table, if latencies differ by so many nanoseconds.
-fn group_curves(table: &Table, lined: &[bool; PLACES], scatter: u64, to: &PortRow) -> Curves
+fn group_curves(
+    table: &Table,
+    roundings: &[Option<u16>; PLACES],
+    scatter: u64,
+    to: &PortRow,
+) -> Curves
     requires { scatter ≤ 100000 }
-    ensures all { result.all.items ≡ all_curves scatter table.now (is_lined lined.now) to.now }
-    ensures high { result.high.items ≡ high_curves scatter table.now (is_lined lined.now) to.now }
+    ensures all { result.all.items ≡ all_curves scatter table.now (rounding_in roundings.now) to.now }
+    ensures high { result.high.items ≡ high_curves scatter table.now (rounding_in roundings.now) to.now }
     ensures well_formed { IsWellFormed table.now }
 {
     let mut all = ArrayVec::new();
     let mut high = ArrayVec::new();
     for from in table.ports() {
-        let line = line_at(lined, from);
+        let line = line_at(roundings, from);
         let group = group_at(table, from.id, to);
-        all.push(group.all_curve(to.speed, line, scatter));
-        high.push(group.high_curve(to.speed, line, scatter));
+        all.push(group.all_curve(to.speed, &line, scatter));
+        high.push(group.high_curve(to.speed, &line, scatter));
     }
     Curves { all, high }
 }
 
 /// Finds the least bursts of a port at which links come in over lines: enough for the groups of those that come in at one port,
-/// where `lined` says, in the places of the ports' numbers, over which lines frames come one after the other (network calculus:
-/// grouping), and latencies differ by `scatter` nanoseconds, at most 100,000. Neither burst is more than the links ask for at once
-/// then. Where the links ask for more than the line, nothing is enough, and the bursts are only no more than that.
+/// where `roundings` says, in the places of the ports' numbers, over which lines frames come one after the other (network calculus:
+/// grouping), and by how many nanoseconds their stamps there may be rounded down, and latencies differ by `scatter` nanoseconds, at most
+/// 100,000. Neither burst is more than the links ask for at once then. Where the links ask for more than the line, nothing is enough, and
+/// the bursts are only no more than that.
 ///
 /// O(p n + p^2) for p ports and n links. It takes no memory.
-pub fn lesser_bursts(table: &Table, lined: &[bool; PLACES], scatter: u64, to: &PortRow) -> Bursts
+pub fn lesser_bursts(
+    table: &Table,
+    roundings: &[Option<u16>; PLACES],
+    scatter: u64,
+    to: &PortRow,
+) -> Bursts
     requires { scatter ≤ 100000 }
-    ensures all { result.all ≡ least_burst parts (all_curves scatter table.now (is_lined lined.now) to.now) }
-    ensures high { result.high ≡ least_burst parts (high_curves scatter table.now (is_lined lined.now) to.now) }
+    ensures all { result.all ≡ least_burst parts (all_curves scatter table.now (rounding_in roundings.now) to.now) }
+    ensures high { result.high ≡ least_burst parts (high_curves scatter table.now (rounding_in roundings.now) to.now) }
     ensures least { (load_of table.now.latency to.now.speed to.now.id table.now.links).rate ≤ parts
-        → IsLeastBurst parts result.all (all_curves scatter table.now (is_lined lined.now) to.now) }
+        → IsLeastBurst parts result.all (all_curves scatter table.now (rounding_in roundings.now) to.now) }
     ensures high_least { (load_of table.now.latency to.now.speed to.now.id table.now.links).rate ≤ parts
-        → IsLeastBurst parts result.high (high_curves scatter table.now (is_lined lined.now) to.now) }
+        → IsLeastBurst parts result.high (high_curves scatter table.now (rounding_in roundings.now) to.now) }
     ensures no_more { let load = scattered scatter (load_of table.now.latency to.now.speed to.now.id table.now.links) in
         (result.all ≤ load.burst) × (result.high ≤ load.high_burst) }
     ensures all_small { result.all ≤ 2 ^ 82 }
     ensures high_small { result.high ≤ 2 ^ 82 }
 {
     no_more_is_paid_for();
-    let curves = group_curves(table, lined, scatter, to);
+    let curves = group_curves(table, roundings, scatter, to);
     Bursts {
         all: least_burst(PARTS, curves.all.as_slice()),
         high: least_burst(PARTS, curves.high.as_slice()),
@@ -102,18 +112,18 @@ pub(crate) fn load_at(loads: &Loads<'_>, to: &PortRow) -> Load
 pub fn lesser_bounds(
     alloc: Global,
     table: &Table,
-    lined: &[bool; PLACES],
+    roundings: &[Option<u16>; PLACES],
     scatter: u64,
 ) -> Result<Vec<Bounds>, AllocError>
     requires { scatter ≤ 100000 }
-    ensures bounds { IfOk result (λ bounds. bounds.items ≡ lesser_bounds scatter (is_lined lined.now) table.now) }
+    ensures bounds { IfOk result (λ bounds. bounds.items ≡ lesser_bounds scatter (rounding_in roundings.now) table.now) }
     ensures well_formed { IsWellFormed table.now }
 {
     ports_are_found();
     let loads = loads(table);
     let mut bounds = Vec::new(alloc);
     for to in table.ports() {
-        let bursts = lesser_bursts(table, lined, scatter, to);
+        let bursts = lesser_bursts(table, roundings, scatter, to);
         bounds.push(bounds_with(&load_at(&loads, to), bursts))?;
     }
     Ok(bounds)

@@ -6,11 +6,11 @@
 //! From `crates/afdx_rule_tests/src/bursts.rt`:
 //!
 //! ```
-//! let mut lined = [false; PLACES];
-//! lined[1] = first;
-//! lined[3] = third;
+//! let mut roundings = [None; PLACES];
+//! roundings[1] = first;
+//! roundings[3] = third;
 //! let row = table.port(2)?;
-//! let bursts = lesser_bursts(table, &lined, scatter, row);
+//! let bursts = lesser_bursts(table, &roundings, scatter, row);
 //! Some((bursts.all, bursts.high))
 //! ```
 #![tactic(auto)]

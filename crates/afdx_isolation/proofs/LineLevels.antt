@@ -8,6 +8,7 @@ use Rattle.std.proofs.Math.Nat.{mul-le-mul_left}
 use Rattle.afdx_units.specs.declared.line.Speed.{Speed}
 use Rattle.afdx_units.specs.declared.line.Speed.TheVariants.{Ten, Hundred, Thousand}
 use Rattle.afdx_units.specs.Line.{cost_of, is_high}
+use Rattle.afdx_serial.specs.Serial.{KnownLine}
 use Rattle.afdx_port.specs.declared.Settings.{Settings}
 use Rattle.afdx_port.specs.declared.Item.{Item}
 use Rattle.afdx_port.specs.Inner.Work.{item_cost}
@@ -42,11 +43,11 @@ sums_pay f f' c (x ∷ xs) one h (suc k, lt, is) pay =
 -- ---- one line
 
 -- no more is at hand by the same instant
-limited_later : (speed : Option Speed) (here : Speed) (level level' spare window window' accounts accounts' : ℕ) → accounts' ≤ accounts → level' + window' ≤ level + window
-    → limited speed here level' spare window' accounts' ≤ limited speed here level spare window accounts
+limited_later : (known : Option KnownLine) (here : Speed) (level level' spare window window' accounts accounts' : ℕ) → accounts' ≤ accounts → level' + window' ≤ level + window
+    → limited known here level' spare window' accounts' ≤ limited known here level spare window accounts
 limited_later None here level level' spare window window' accounts accounts' less still = less
 limited_later (Some there) here level level' spare window window' accounts accounts' less still =
-    let brings = mul-le-mul_left (line_weight here there) still in
+    let brings = mul-le-mul_left (line_weight here there.speed) still in
     omega (arith, brings, less)
 
 -- a nanosecond of line time there is so many parts of one here
@@ -61,15 +62,15 @@ weighs Thousand Ten size = omega arith
 weighs Thousand Hundred size = omega arith
 weighs Thousand Thousand size = omega arith
 
-limited_pays : (speed : Option Speed) (here : Speed) (size level level' spare window accounts accounts' : ℕ) → parts * cost_of here size + accounts' ≤ accounts
-    → IfSome speed (λ there. cost_of there size + level' ≤ level)
-    → parts * cost_of here size + limited speed here level' spare window accounts' ≤ limited speed here level spare window accounts
+limited_pays : (known : Option KnownLine) (here : Speed) (size level level' spare window accounts accounts' : ℕ) → parts * cost_of here size + accounts' ≤ accounts
+    → IfSome known (λ there. cost_of there.speed size + level' ≤ level)
+    → parts * cost_of here size + limited known here level' spare window accounts' ≤ limited known here level spare window accounts
 limited_pays None here size level level' spare window accounts accounts' pay charged = pay
 limited_pays (Some there) here size level level' spare window accounts accounts' pay charged =
-    let w = line_weight here there in
-    let some : w * (cost_of there size + level' + window) ≤ w * (level + window) = let le : cost_of there size + level' + window ≤ level + window = omega (arith, charged) in mul-le-mul_left w le in
-    let split : w * (cost_of there size + level' + window) ≡ w * cost_of there size + w * (level' + window) = spread w (cost_of there size) level' window in
-    omega (arith, some, split, weighs here there size, pay) where
+    let w = line_weight here there.speed in
+    let some : w * (cost_of there.speed size + level' + window) ≤ w * (level + window) = let le : cost_of there.speed size + level' + window ≤ level + window = omega (arith, charged) in mul-le-mul_left w le in
+    let split : w * (cost_of there.speed size + level' + window) ≡ w * cost_of there.speed size + w * (level' + window) = spread w (cost_of there.speed size) level' window in
+    omega (arith, some, split, weighs here there.speed size, pay) where
       spread : (w a b c : ℕ) → w * (a + b + c) ≡ w * a + w * (b + c)
       spread w a b c = omega arith
 
@@ -102,7 +103,7 @@ module _ (s : Settings) (flows : List Flow) (lines : List Line) where
         let window : (to - now) + (v - to) ≡ v - now = omega (arith, le, later) in
         let accounts : paid_in after on (v - to) ≤ paid_in level on (v - now)
         = subst (λ w. paid_in after on (v - to) ≤ paid_in level on w) window (paid_later on level after (to - now) (v - to) (on_grow line (to - now) level after grow)) in
-        limited_later line.speed s.speed (hand line) (hand' line) (bursts (high_flows on)) (v - now) (v - to) (paid_in level on (v - now)) (paid_in after on (v - to)) accounts
+        limited_later line.known s.speed (hand line) (hand' line) (bursts (high_flows on)) (v - now) (v - to) (paid_in level on (v - now)) (paid_in after on (v - to)) accounts
         (omega (arith, more.1, window))) lines credited)
 
     high_fall : (hand hand' : Line → ℕ) (v : ℕ) → to ≤ v → AreCredited lines (high_at_hand flows) (to - now) hand hand'
@@ -116,7 +117,7 @@ module _ (s : Settings) (flows : List Flow) (lines : List Line) where
         let accounts : paid_in after on (v - to) ≤ paid_in level on (v - now)
         = subst (λ w. paid_in after on (v - to) ≤ paid_in level on w) window
         (paid_later on level after (to - now) (v - to) (high_grow (flows_on line flows) (to - now) level after (on_grow line (to - now) level after grow))) in
-        limited_later line.speed s.speed (hand line) (hand' line) 0 (v - now) (v - to) (paid_in level on (v - now)) (paid_in after on (v - to)) accounts
+        limited_later line.known s.speed (hand line) (hand' line) 0 (v - now) (v - to) (paid_in level on (v - now)) (paid_in after on (v - to)) accounts
         (omega (arith, more.1, window))) lines credited)
 
   -- ---- within the caps
@@ -129,7 +130,7 @@ module _ (s : Settings) (flows : List Flow) (lines : List Line) where
         (λ line fits.
         let on = flows_on line flows in
         let most = capped on after (All-filter (λ flow. line.has flow.id) (λ flow. after flow ≤ flow.terms.cap) flows caps) in
-        limited_later line.speed s.speed (all_at_hand flows line) (hand line) (bursts (high_flows on)) (v - to) (v - to) (paid_in full on (v - to)) (paid_in after on (v - to)) (omega (arith, most))
+        limited_later line.known s.speed (all_at_hand flows line) (hand line) (bursts (high_flows on)) (v - to) (v - to) (paid_in full on (v - to)) (paid_in after on (v - to)) (omega (arith, most))
         (omega (arith, fits))) lines small) in
         let fits = enough.all (v - to) in
         let split : parts * to + parts * (v - to) ≡ parts * v = omega (arith, later) in
@@ -144,7 +145,7 @@ module _ (s : Settings) (flows : List Flow) (lines : List Line) where
         let on = high_flows (flows_on line flows) in
         let most = capped on after (All-filter (λ flow. is_high flow.priority) (λ flow. after flow ≤ flow.terms.cap) (flows_on line flows)
         (All-filter (λ flow. line.has flow.id) (λ flow. after flow ≤ flow.terms.cap) flows caps)) in
-        limited_later line.speed s.speed (high_at_hand flows line) (hand line) 0 (v - to) (v - to) (paid_in full on (v - to)) (paid_in after on (v - to)) (omega (arith, most))
+        limited_later line.known s.speed (high_at_hand flows line) (hand line) 0 (v - to) (v - to) (paid_in full on (v - to)) (paid_in after on (v - to)) (omega (arith, most))
         (omega (arith, fits))) lines small) in
         let fits = enough.high (v - to) in
         let split : parts * to + parts * (v - to) ≡ parts * v = omega (arith, later) in
@@ -194,44 +195,44 @@ module _ (s : Settings) (flows : List Flow) (lines : List Line) where
     all_pay now v hand hand' charged =
         let one = own_line.0 in
         let on = flows_on one flows in
-        let here = All-contains (λ line. (hand' line ≤ hand line) × (true ≡ true → line.has x.link ≡ true → IfSome line.speed (λ there. cost_of there x.size + hand' line ≤ hand line))) lines one charged own_line.1 in
+        let here = All-contains (λ line. (hand' line ≤ hand line) × (true ≡ true → line.has x.link ≡ true → IfSome line.known (λ there. cost_of there.speed x.size + hand' line ≤ hand line))) lines one charged own_line.1 in
         let gives = pays on x r.flow on_own r.same level after (on_debits one) in
         sums_pay (all_in s flows level hand (v - now)) (all_in s flows after hand' (v - now)) cost lines one
-        (All-weaker (λ (line : Line). (hand' line ≤ hand line) × (true ≡ true → line.has x.link ≡ true → IfSome line.speed (λ there. cost_of there x.size + hand' line ≤ hand line)))
+        (All-weaker (λ (line : Line). (hand' line ≤ hand line) × (true ≡ true → line.has x.link ≡ true → IfSome line.known (λ there. cost_of there.speed x.size + hand' line ≤ hand line)))
         (λ line. all_in s flows after hand' (v - now) line ≤ all_in s flows level hand (v - now) line)
         (λ line less.
         let most = falls (flows_on line flows) x level after (on_debits line) in
-        limited_later line.speed s.speed (hand line) (hand' line) (bursts (high_flows (flows_on line flows))) (v - now) (v - now) (paid_in level (flows_on line flows) (v - now))
+        limited_later line.known s.speed (hand line) (hand' line) (bursts (high_flows (flows_on line flows))) (v - now) (v - now) (paid_in level (flows_on line flows) (v - now))
         (paid_in after (flows_on line flows) (v - now)) (omega (arith, most)) (omega (arith, less.0))) lines charged)
         own_line.1
-        (limited_pays one.speed s.speed x.size (hand one) (hand' one) (bursts (high_flows on)) (v - now) (paid_in level on (v - now)) (paid_in after on (v - now)) (omega (arith, gives, price)) (here.1 refl own_has))
+        (limited_pays one.known s.speed x.size (hand one) (hand' one) (bursts (high_flows on)) (v - now) (paid_in level on (v - now)) (paid_in after on (v - now)) (omega (arith, gives, price)) (here.1 refl own_has))
 
     pub high_pay : is_high x.priority ≡ true → (now v : ℕ) (hand hand' : Line → ℕ) → AreCharged lines x true hand hand'
         → cost + sum_by (high_in s flows after hand' (v - now)) lines ≤ sum_by (high_in s flows level hand (v - now)) lines
     high_pay is now v hand hand' charged =
         let one = own_line.0 in
         let on = high_flows (flows_on one flows) in
-        let here = All-contains (λ line. (hand' line ≤ hand line) × (true ≡ true → line.has x.link ≡ true → IfSome line.speed (λ there. cost_of there x.size + hand' line ≤ hand line))) lines one charged own_line.1 in
+        let here = All-contains (λ line. (hand' line ≤ hand line) × (true ≡ true → line.has x.link ≡ true → IfSome line.known (λ there. cost_of there.speed x.size + hand' line ≤ hand line))) lines one charged own_line.1 in
         let gives = pays on x r.flow (among_filter (λ flow. is_high flow.priority) (flows_on one flows) r.flow on_own (ap is_high r.priority ∙ is)) r.same level after (high_debits (flows_on one flows) (on_debits one)) in
         sums_pay (high_in s flows level hand (v - now)) (high_in s flows after hand' (v - now)) cost lines one
-        (All-weaker (λ (line : Line). (hand' line ≤ hand line) × (true ≡ true → line.has x.link ≡ true → IfSome line.speed (λ there. cost_of there x.size + hand' line ≤ hand line)))
+        (All-weaker (λ (line : Line). (hand' line ≤ hand line) × (true ≡ true → line.has x.link ≡ true → IfSome line.known (λ there. cost_of there.speed x.size + hand' line ≤ hand line)))
         (λ line. high_in s flows after hand' (v - now) line ≤ high_in s flows level hand (v - now) line)
         (λ line less.
         let most = falls (high_flows (flows_on line flows)) x level after (high_debits (flows_on line flows) (on_debits line)) in
-        limited_later line.speed s.speed (hand line) (hand' line) 0 (v - now) (v - now) (paid_in level (high_flows (flows_on line flows)) (v - now))
+        limited_later line.known s.speed (hand line) (hand' line) 0 (v - now) (v - now) (paid_in level (high_flows (flows_on line flows)) (v - now))
         (paid_in after (high_flows (flows_on line flows)) (v - now)) (omega (arith, most)) (omega (arith, less.0))) lines charged)
         own_line.1
-        (limited_pays one.speed s.speed x.size (hand one) (hand' one) 0 (v - now) (paid_in level on (v - now)) (paid_in after on (v - now)) (omega (arith, gives, price)) (here.1 refl own_has))
+        (limited_pays one.known s.speed x.size (hand one) (hand' one) 0 (v - now) (paid_in level on (v - now)) (paid_in after on (v - now)) (omega (arith, gives, price)) (here.1 refl own_has))
 
     pub high_less : (counts : Bool) (now v : ℕ) (hand hand' : Line → ℕ) → AreCharged lines x counts hand hand'
         → sum_by (high_in s flows after hand' (v - now)) lines ≤ sum_by (high_in s flows level hand (v - now)) lines
     high_less counts now v hand hand' charged =
         sums_fall (high_in s flows level hand (v - now)) (high_in s flows after hand' (v - now)) lines
-        (All-weaker (λ (line : Line). (hand' line ≤ hand line) × (counts ≡ true → line.has x.link ≡ true → IfSome line.speed (λ there. cost_of there x.size + hand' line ≤ hand line)))
+        (All-weaker (λ (line : Line). (hand' line ≤ hand line) × (counts ≡ true → line.has x.link ≡ true → IfSome line.known (λ there. cost_of there.speed x.size + hand' line ≤ hand line)))
         (λ line. high_in s flows after hand' (v - now) line ≤ high_in s flows level hand (v - now) line)
         (λ line less.
         let most = falls (high_flows (flows_on line flows)) x level after (high_debits (flows_on line flows) (on_debits line)) in
-        limited_later line.speed s.speed (hand line) (hand' line) 0 (v - now) (v - now) (paid_in level (high_flows (flows_on line flows)) (v - now))
+        limited_later line.known s.speed (hand line) (hand' line) 0 (v - now) (v - now) (paid_in level (high_flows (flows_on line flows)) (v - now))
         (paid_in after (high_flows (flows_on line flows)) (v - now)) (omega (arith, most)) (omega (arith, less.0))) lines charged)
 
   -- what the high accounts hold is within what may come at once
@@ -277,7 +278,7 @@ module _ (s : Settings) (flows : List Flow) (lines : List Line) where
             omega (arith, h, front)
 
   -- no less may come over a line than a number within both
-  limited_most : (speed : Option Speed) (here : Speed) (level spare window accounts low : ℕ) → low ≤ accounts → low ≤ spare → low ≤ limited speed here level spare window accounts
+  limited_most : (known : Option KnownLine) (here : Speed) (level spare window accounts low : ℕ) → low ≤ accounts → low ≤ spare → low ≤ limited known here level spare window accounts
   limited_most None here level spare window accounts low paid' spared = paid'
   limited_most (Some there) here level spare window accounts low paid' spared = omega (arith, paid', spared)
 
@@ -299,7 +300,7 @@ module _ (s : Settings) (flows : List Flow) (lines : List Line) where
         let line = get_or lines i d in
         let on = flows_on line flows in
         let most = capped (high_flows on) after (All-filter (λ flow. is_high flow.priority) (λ flow. after flow ≤ flow.terms.cap) on (All-filter (λ flow. line.has flow.id) (λ flow. after flow ≤ flow.terms.cap) flows caps)) in
-        limited_most line.speed s.speed (all_hand' line) (bursts (high_flows on)) (now - now) (paid_in after on (now - now)) (high_held after line flows)
+        limited_most line.known s.speed (all_hand' line) (bursts (high_flows on)) (now - now) (paid_in after on (now - now)) (high_held after line flows)
         (omega (arith, high_part (λ flow. flow.weight * after flow) on)) (omega (arith, most))) in
         omega (arith, held', more);
   }

@@ -67,17 +67,17 @@ equal m n h = grind (arith, nat_tests)
 
 -- ---- a port of a table
 
-module _ (t : Content) (row : PortRow) (well : IsWellFormed t) (lined : ℕ → Bool) where
+module _ (t : Content) (row : PortRow) (well : IsWellFormed t) (rounding_at : ℕ → Option ℕ) where
   abbrev flows : List Flow
   flows = flows_at t row
 
-  link_on : (l : Link) → Contains t.links l → (line : Line) × Contains (lines_of t lined) line × (line.has l.id ≡ true)
+  link_on : (l : Link) → Contains t.links l → (line : Line) × Contains (lines_of t rounding_at) line × (line.has l.id ≡ true)
   link_on l among =
       let is = All-contains (IsLink t.ports) t.links l (All-from_recursion (IsLink t.ports) t.links well.links) among in
       let q = found (λ (p : PortRow). p.id == l.from) t.ports is.from_port in
-      let there : Contains (lines_of t lined) (line_at t.links lined q.0) = let inside = q.1 in grind (arith, common_steps, inside) in
+      let there : Contains (lines_of t rounding_at) (line_at t.links rounding_at q.0) = let inside = q.1 in grind (arith, common_steps, inside) in
       let both : (nat_eq l.id l.id && nat_eq l.from q.0.id) ≡ true = same l.id l.from q.0.id q.2 in (
-        line_at t.links lined q.0,
+        line_at t.links rounding_at q.0,
         there,
         All-contains (λ k. (nat_eq k.id l.id && nat_eq k.from q.0.id) ≡ true → list_any (λ m. nat_eq m.id l.id && nat_eq m.from q.0.id) t.links ≡ true) t.links l
             (shown (λ (m : Link). nat_eq m.id l.id && nat_eq m.from q.0.id) t.links) among both,
@@ -85,12 +85,12 @@ module _ (t : Content) (row : PortRow) (well : IsWellFormed t) (lined : ℕ → 
         same : (i a b : ℕ) → (b == a) ≡ true → (nat_eq i i && nat_eq a b) ≡ true
         same i a b h = grind (arith, nat_tests)
 
-  on_lines : AreOnLines (lines_of t lined) flows
-  on_lines = All-map (λ flow. (line : Line) × Contains (lines_of t lined) line × (line.has flow.id ≡ true)) (flow_of row.speed) (routed row.id t.links)
-      (All-filter (leads_to row.id) (λ l. (line : Line) × Contains (lines_of t lined) line × (line.has l.id ≡ true)) t.links
-      (All-weaker (Contains t.links) (λ l. (line : Line) × Contains (lines_of t lined) line × (line.has l.id ≡ true)) link_on t.links (All-contains_itself t.links)))
+  on_lines : AreOnLines (lines_of t rounding_at) flows
+  on_lines = All-map (λ flow. (line : Line) × Contains (lines_of t rounding_at) line × (line.has flow.id ≡ true)) (flow_of row.speed) (routed row.id t.links)
+      (All-filter (leads_to row.id) (λ l. (line : Line) × Contains (lines_of t rounding_at) line × (line.has l.id ≡ true)) t.links
+      (All-weaker (Contains t.links) (λ l. (line : Line) × Contains (lines_of t rounding_at) line × (line.has l.id ≡ true)) link_on t.links (All-contains_itself t.links)))
 
-  module _ (asks : AsksWhatItsAccountGives) (burst high_burst : ℕ) (less : AreLesser t row lined burst high_burst) where
+  module _ (asks : AsksWhatItsAccountGives) (burst high_burst : ℕ) (less : AreLesser t row rounding_at burst high_burst) where
     abbrev links : List Link
     links = routed row.id t.links
 
@@ -126,7 +126,7 @@ module _ (t : Content) (row : PortRow) (well : IsWellFormed t) (lined : ℕ → 
     leaves bounds = All-weaker (λ (flow : Flow). flow.priority ≡ Low → 0 < (links_load row.speed links).lows) (λ (flow : Flow). flow.priority ≡ Low → (demand_of s flows).high_rate < parts)
         (λ flow some is. let part = (bounds.1 (some is)).0 in omega (arith, part, same.high_rate)) flows (some_low t.latency row asks links)
 
-    lines_carry : CarriesFlows s flows → KeepsBounds t.latency row asks links → CarriesLines s flows (lines_of t lined) burst high_burst
+    lines_carry : CarriesFlows s flows → KeepsBounds t.latency row asks links → CarriesLines s flows (lines_of t rounding_at) burst high_burst
     lines_carry h bounds = record {
       rate = h.rate;
       on_lines = on_lines;
@@ -171,7 +171,7 @@ done_in_bound g s demand items c settings admits timely =
     (all_in_bound c.settings demand (done c) (carried_out g c.settings demand c.admitted here c.finished (reach c.settings c.horizon)))
 
 pub lines_keep_bounds : Ground → PricesPay → AsksWhatItsAccountGives → EachLinkAsks → AcceptedKeepsBounds → IsolatesSoFar → LinesIsolate → AcceptedLinesKeepBounds
-lines_keep_bounds g pays asks some keeps isolates lines t arrivals h row among lined apart burst high_burst less c settings is =
+lines_keep_bounds g pays asks some keeps isolates lines t arrivals h row among rounding_at apart burst high_burst less c settings is =
     let s = settings_of t.latency row in
     let links = routed row.id t.links in
     let flows = flows_at t row in
@@ -188,7 +188,7 @@ lines_keep_bounds g pays asks some keeps isolates lines t arrivals h row among l
     let carried : CarriesFlows s flows = carries t.latency row asks links accepted bounds in
     let all : IsIsolatedSoFar flows arrivals c = isolates c flows arrivals (subst (λ s. Arrive s flows arrivals) (sym settings) arrive) (subst (λ s. CarriesFlows s flows) (sym settings) carried)
     (subst (λ s. c.admitted ≡ admitted s (feed_of flows arrivals)) (sym settings) is) in
-    let by = lines s flows (lines_of t lined) burst high_burst arrivals arrive apart (lines_carry t row h.well_formed lined asks burst high_burst less carried bounds) in
+    let by = lines s flows (lines_of t rounding_at) burst high_burst arrivals arrive apart (lines_carry t row h.well_formed rounding_at asks burst high_burst less carried bounds) in
     let in_bound = done_in_bound g s demand' (admitted s (feed_of flows arrivals)) c settings is by.timely in
     λ k d lt.
     let x = get_or (sent_of (done c)) k d in
@@ -196,7 +196,7 @@ lines_keep_bounds g pays asks some keeps isolates lines t arrivals h row among l
     let within = in_bound k d lt in
     record {
       bound = bound demand' x.item.priority;
-      bound_is = lesser_some t row h.well_formed lined asks burst high_burst less bounds of.flow of.among x.item.priority of.priority;
+      bound_is = lesser_some t row h.well_formed rounding_at asks burst high_burst less bounds of.flow of.among x.item.priority of.priority;
       least = within.least;
       most = within.most;
     }

@@ -84,6 +84,7 @@ network_code (network.Table refusal name) = table_code refusal
 network_code (network.Capture port fault name) = capture_code fault
 network_code (network.Rows jitter.Jitter shorts names) = codes "J1"
 network_code (network.Rows jitter.NoJitter shorts names) = codes "J2"
+network_code (network.Line port number name) = codes "R2"
 
 -- what has no line has no code
 abbrev pub code_of : Failure → Option (List ℕ)

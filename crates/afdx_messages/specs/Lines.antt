@@ -175,6 +175,11 @@ rest_line rule (suc n) = as_line (network_rule (jitter_rule rule) ++ codes ", an
 abbrev pub rows_lines : JitterRule → List (List ℕ) → List Short → List ℕ
 rows_lines rule names shorts = flat_map (row_line rule names) (take 100 shorts) ++ rest_line rule (length shorts - 100)
 
+-- ---- of a line of an end system
+
+abbrev pub line_line : (port number : ℕ) → (name : List ℕ) → List ℕ
+line_line port number name = as_line (network_rule (codes "R2 Line") ++ switch_part (Some name) ++ codes ", port " ++ decimal port ++ codes ", record " ++ decimal number)
+
 -- ---- of a failure
 
 abbrev pub network_failure_line : NetworkFailure → List ℕ
@@ -182,6 +187,7 @@ network_failure_line (network.Refused fault name) = as_line (network_text (optio
 network_failure_line (network.Table refusal name) = as_line (table_text refusal ++ switch_part (Some (string_bytes name)))
 network_failure_line (network.Capture port fault name) = as_line (capture_text (Some port) fault ++ switch_part (Some (string_bytes name)))
 network_failure_line (network.Rows rule shorts names) = rows_lines rule (map string_bytes names.items) shorts.items
+network_failure_line (network.Line port number name) = line_line port number (string_bytes name)
 
 abbrev pub fault_status : NetworkFault → ℕ
 fault_status net.Memory = 5
@@ -193,4 +199,5 @@ fault_status _ = 3
 abbrev pub network_status : NetworkFailure → ℕ
 network_status (network.Refused fault name) = fault_status fault
 network_status (network.Rows rule shorts names) = 4
+network_status (network.Line port number name) = 4
 network_status _ = 3

@@ -104,6 +104,7 @@ fn network_code(failure: &NetworkFailure) -> &'static str
         NetworkFailure::Capture(_, fault, _) => capture_code(*fault),
         NetworkFailure::Rows(JitterRule::Jitter, _, _) => "J1",
         NetworkFailure::Rows(JitterRule::NoJitter, _, _) => "J2",
+        NetworkFailure::Line(_, _, _) => "R2",
     }
 }
 

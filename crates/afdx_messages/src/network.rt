@@ -4,7 +4,7 @@ ghost use Rattle.std.specs.Prelude.{◌≡◌, ◌++◌, codes, map, flat_map, s
 ghost use Rattle.std.specs.Fmt.{decimal};
 ghost use Rattle.afdx_wiring.specs.Lines.{as_line};
 ghost use Rattle.afdx_wiring.specs.Names.{key_text, place_text};
-ghost use Rattle.afdx_messages.specs.Lines.{load_fault_text, network_rule, switch_part, link_part, short_text, network_text, row_fault, jitter_rule, row_line, rest_line, rows_lines, network_failure_line, network_status};
+ghost use Rattle.afdx_messages.specs.Lines.{load_fault_text, network_rule, switch_part, link_part, short_text, network_text, row_fault, jitter_rule, row_line, rest_line, rows_lines, line_line, network_failure_line, network_status};
 
 use crate::capture::capture_text;
 use crate::load::load_fault_text;
@@ -253,6 +253,16 @@ fn rows_lines(
     Ok(lines)
 }
 
+/// The message of a record that came too soon for the line of its port.
+fn line_line(alloc: Global, port: u8, number: u64, name: &str) -> Result<String, AllocError>
+    ensures { IfOk result (λ line. string_bytes line ≡ line_line port number name.now) }
+{
+    let mut text = String::from_str(alloc, "afdx: network R2 Line")?;
+    put_switch(&mut text, Some(name))?;
+    write!(text, ", port {port}, record {number}")?;
+    lined(text)
+}
+
 /// The line of a failure, with the name of its switch where it is of one; of rows one line each, for at most 100, and then how many
 /// more there are.
 ///
@@ -276,6 +286,7 @@ pub fn network_failure_line(alloc: Global, failure: &NetworkFailure) -> Result<S
             lined(text)
         }
         NetworkFailure::Rows(rule, shorts, names) => rows_lines(alloc, *rule, names, shorts),
+        NetworkFailure::Line(port, number, name) => line_line(alloc, *port, *number, name.as_str()),
     }
 }
 
@@ -290,7 +301,7 @@ pub fn network_status(failure: &NetworkFailure) -> u8
             NetworkFault::Load(_, _) | NetworkFault::Jitter(_) | NetworkFault::NoJitter(_) => 4,
             _ => 3,
         },
-        NetworkFailure::Rows(_, _, _) => 4,
+        NetworkFailure::Rows(_, _, _) | NetworkFailure::Line(_, _, _) => 4,
         NetworkFailure::Table(_, _) | NetworkFailure::Capture(_, _, _) => 3,
     }
 }

@@ -24,4 +24,6 @@ pub enum NetworkFailure {
     Capture(u8, PcapFault, String),
     /// These rows, by switch and in the order of its table, are refused by the rule. The names are those of all switches, in file order.
     Rows(JitterRule, Vec<Short>, Vec<String>),
+    /// R2: what was given for this port of this switch did not come over one line; this record, from 1, is the first that came too soon.
+    Line(u8, u64, String),
 }

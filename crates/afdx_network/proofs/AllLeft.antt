@@ -24,7 +24,7 @@ use Rattle.afdx_wiring.specs.declared.layout.End.{End}
 use Rattle.afdx_wiring.specs.declared.layout.Wire.{Wire}
 use Rattle.afdx_wiring.specs.Net.{Network, wire_to}
 use Rattle.afdx_network.specs.Way.{delayed}
-use Rattle.afdx_network.specs.Runs.{Given, Brings, BringsNothing, IsGiven, AreOutcomes, IsUncheckedRunOf}
+use Rattle.afdx_network.specs.Runs.{Given, Brings, BringsNothing, IsGiven, KeepTheirLines, AreOutcomes, IsUncheckedRunOf}
 use Rattle.afdx_network.specs.Inner.Sites.{Site, left_texts, lane_there, AtPorts, IsCame, IsSite, HasSent, IsCarried, AreCarried, HasLed}
 use Rattle.afdx_network.proofs.Carried.{AreWritten}
 use Rattle.afdx_network.proofs.Carrying.{carried_up, carried_down, rises_front}
@@ -365,12 +365,13 @@ EndedEach net given sites left came = (k : ℕ) (s : Site) → slice_get sites k
     → (texts : List Text) × (slice_get came k ≡ Some texts) × ((r : Results) × (slice_get left k ≡ Some r) × Ended net given k s r texts)
 
 pub is_unchecked_run : OutGoesOn → OutIsInOrder → AreWritten → (net : Network) (given : Given) (sites : List Site) (left : List Results) → AreCarried net given sites
-    → All (λ w. wire_to net w.to ≡ Some w) net.layout.wires → All (HasSent None) sites → AllZip HasLed sites left
+    → KeepTheirLines net given → All (λ w. wire_to net w.to ≡ Some w) net.layout.wires → All (HasSent None) sites → AllZip HasLed sites left
     → (came : List (List Text)) × IsUncheckedRunOf net given came left × EndedEach net given sites left came × (length came ≡ length sites)
-is_unchecked_run on order written net given sites left are one sent led = (
+is_unchecked_run on order written net given sites left are lines one sent led = (
   all.xs,
   record {
     outcomes = outcomes;
+    lines = lines;
     fed = record {
       wires = brings on order written net given sites left all.xs are one all.each all.long;
       down = brings_nothing on order written net given sites left all.xs are one all.each all.long;

@@ -22,14 +22,14 @@ use Rattle.afdx_network.specs.declared.intake.Intake.{Intake}
 use Rattle.afdx_network.specs.Runs.{Given, IsUncheckedRunOf}
 use Rattle.afdx_network.specs.Given.{open_ends, AreGivenBy}
 use Rattle.afdx_network.specs.Written.{captures_in, AreWritten as ArePut}
-use Rattle.afdx_network.specs.Inner.Intake.{same_clock, HasTakenAll, AreGivenSoFar}
+use Rattle.afdx_network.specs.Inner.Intake.{same_clock, HasTakenAll, AreGivenSoFar, AreOverLines}
 use Rattle.afdx_network.specs.Inner.Outputs.{HaveGone}
 use Rattle.afdx_network.specs.Inner.Sites.{Site, HasLed, counts_at, texts_of}
 use Rattle.afdx_network.specs.Inner.Windows.{HasRunThrough, IsRunOver}
 use Rattle.afdx_network.proofs.AllLeft.{is_unchecked_run, are_formed}
 use Rattle.afdx_network.proofs.Carried.{AreWritten}
 use Rattle.afdx_network.proofs.Feeding.{Unique}
-use Rattle.afdx_network.proofs.Whole.{whole, regiven}
+use Rattle.afdx_network.proofs.Whole.{AreOfTheirPlaces, whole, lines_kept, regiven}
 
 -- what a switch from which all has left has led to
 abbrev pub led_of : Site → Results
@@ -64,6 +64,7 @@ pub run_over : {R F : Type 0} → Unique → (remaining : R → Option (List ℕ
 run_over unique remaining contents net first now i old new sites h all = record {
   given = all_given.0;
   given_by = all_given.1;
+  lines = lines_kept unique net all_given.0 h.through.came all_given.3 over;
   carried = regiven unique net h.through.given all_given.0 h.through.came sites h.through.given_is all_given.2 h.through.carried;
   sent = h.through.sent;
   one_each = h.one_each;
@@ -76,7 +77,10 @@ run_over unique remaining contents net first now i old new sites h all = record 
       subst (AreMerged remaining (map (λ (e : End). same_clock) (open_ends net)) first)
       (ap (λ (more : List Arrival). h.through.came ++ more) (all.none h.through.none) ∙ append-nil h.through.came) all.merged
 
-  all_given : (given : Given) × AreGivenBy remaining net first given × AreGivenSoFar net h.through.came given
+  over : AreOverLines net h.through.came
+  over = subst (AreOverLines net) (ap (λ (more : List Arrival). h.through.came ++ more) (all.none h.through.none) ∙ append-nil h.through.came) all.lines
+
+  all_given : (given : Given) × AreGivenBy remaining net first given × AreGivenSoFar net h.through.came given × AreOfTheirPlaces net h.through.came given
   all_given = whole remaining net first h.through.came merged (recursion_from_All IsWellFormed net.tables (are_formed net h.through.given sites h.through.carried))
 
 -- a run of the network over all that the readers give
@@ -93,7 +97,7 @@ pub answered : {R F : Type 0} → OutGoesOn → OutIsInOrder → AreWritten → 
     (sites : List Site) (counts : List Tally) → IsRunOver remaining contents net first old now sites → counts ≡ counts_at sites → HaveGone contents old new (texts_of sites)
     → IsAnswered remaining contents net first old new counts
 answered on order written remaining contents net first old now new sites counts h counted gone =
-    let run = is_unchecked_run on order written net h.given sites (map led_of sites) h.carried h.one_each h.sent (all_led sites) in
+    let run = is_unchecked_run on order written net h.given sites (map led_of sites) h.carried h.lines h.one_each h.sent (all_led sites) in
     record {
       given = h.given;
       came = run.0;

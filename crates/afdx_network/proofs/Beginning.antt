@@ -1,9 +1,9 @@
 -- The switches at the begin of a run.
-use Rattle.std.proofs.Common.{Bool, ◌≡◌, ◌+◌, ◌≤◌, ℕ, List, [], ◌∷◌, ◌++◌, length, map, slice_get, Some, Ok, refl, ap, sym, ◌∙◌, arith, subst}
+use Rattle.std.proofs.Common.{Bool, ◌≡◌, ◌+◌, ◌≤◌, ℕ, List, [], ◌∷◌, length, map, slice_get, Some, Ok, refl, ap, sym, ◌∙◌, arith, subst}
 use Rattle.std.specs.Prelude.{All}
 use Rattle.std.specs.List.{AllByRecursion, AllZip}
 use Rattle.std.proofs.lemmas.List.{length-append, length-map}
-use Rattle.std.proofs.lemmas.List.Elements.{All-from_recursion, All-nil}
+use Rattle.std.proofs.lemmas.List.Elements.{All-nil}
 use Rattle.afdx_pcap.specs.Record.{Record, IsWithinLimit}
 use Rattle.afdx_pcap.specs.Text.{AreReadable}
 use Rattle.afdx_table.specs.declared.rows.PortRow.{PortRow}

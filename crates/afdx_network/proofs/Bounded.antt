@@ -1,5 +1,5 @@
 -- A port of an accepted table has a bound for each link that leads to it.
-use Rattle.std.proofs.Common.{◌≡◌, ℕ, ◌+◌, ◌-◌, ◌*◌, ◌/◌, ◌<◌, ◌≤◌, nat_lt, Bool, true, not, cond, List}
+use Rattle.std.proofs.Common.{Option, ◌≡◌, ℕ, ◌+◌, ◌-◌, ◌*◌, ◌/◌, ◌<◌, ◌≤◌, nat_lt, Bool, true, not, cond, List}
 use Rattle.std.proofs.Common.{count_by, filter, Some, None, refl, ap, arith}
 use Rattle.std.specs.Prelude.{Contains}
 use Rattle.std.proofs.lemmas.Bool.{and_from, lt-ltb}
@@ -56,19 +56,19 @@ a_part_is_left keeps t p formed accepted among there =
     × (0 < s.lows → (s.high_rate < parts) × (s.burst / (parts - s.high_rate) + t.latency ≤ row.max_delay))) t.ports p (keeps t formed accepted) among in
     (bounds.1 there).0
 
-pub has_bound : AcceptedKeepsBounds → (d : ℕ) (lined : ℕ → Bool) (t : Content) (p : PortRow) (l : Link) → IsWellFormed t → IsAccepted t → Contains t.ports p → Contains t.links l
+pub has_bound : AcceptedKeepsBounds → (d : ℕ) (roundings : ℕ → Option ℕ) (t : Content) (p : PortRow) (l : Link) → IsWellFormed t → IsAccepted t → Contains t.ports p → Contains t.links l
     → leads_to p.id l ≡ true
-    → (bound : ℕ) × (bound_of (lesser_load d lined t p) l.priority ≡ Some bound)
-has_bound keeps d lined t p l formed accepted among known leads = by l.priority refl where
+    → (bound : ℕ) × (bound_of (lesser_load d roundings t p) l.priority ≡ Some bound)
+has_bound keeps d roundings t p l formed accepted among known leads = by l.priority refl where
   here : Contains (routed p.id t.links) l
   here = of_all (λ m. leads_to p.id m ≡ true → Contains (routed p.id t.links) m) t.links l
       (all_tested _ (leads_to p.id) t.links (all_by (Contains (routed p.id t.links)) (routed p.id t.links) (λ m h. h))) known leads
 
-  by : (priority : Priority) → l.priority ≡ priority → (bound : ℕ) × (bound_of (lesser_load d lined t p) priority ≡ Some bound)
-  by High is = some_high (lesser_load d lined t p) (highs t.latency t p l here (ap is_high is))
+  by : (priority : Priority) → l.priority ≡ priority → (bound : ℕ) × (bound_of (lesser_load d roundings t p) priority ≡ Some bound)
+  by High is = some_high (lesser_load d roundings t p) (highs t.latency t p l here (ap is_high is))
   by Low is =
       let there = lows t.latency t p l here (ap (λ priority. not (is_high priority)) is) in
-      some_low (lesser_load d lined t p) there (a_part_is_left keeps t p formed accepted among there)
+      some_low (lesser_load d roundings t p) there (a_part_is_left keeps t p formed accepted among there)
 
 -- its links ask for no more than its line
 pub rate_within : (t : Content) (p : PortRow) (l : Link) → IsAccepted t → Contains t.ports p → Contains t.links l → leads_to p.id l ≡ true → (load_at t p).rate ≤ parts

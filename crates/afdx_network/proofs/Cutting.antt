@@ -2,7 +2,7 @@
 use Rattle.std.proofs.Common.{◌≡◌, ℕ, zero, suc, ◌+◌, ◌≤◌, Bool, true, false, List, [], ◌∷◌, ◌++◌, length, take, drop, Option, Some, None, Ok, Err, refl, sym, ap, ◌∙◌, arith, nat_lt, cond, subst}
 use Rattle.std.proofs.Common.{append_assoc}
 use Rattle.std.proofs.lemmas.Bool.{le-ltb, ltb-false}
-use Rattle.std.proofs.lemmas.List.{append-nil, length-drop, length-append, length-take-le, take-append-le, drop-append-le, drop_all}
+use Rattle.std.proofs.lemmas.List.{length-drop, length-append, length-take-le, take-append-le, drop-append-le, drop_all}
 use Rattle.byteorder.specs.Numbers.{big_from-append, little_from-append}
 use Rattle.afdx_pcap.specs.declared.format.Endian.{Endian}
 use Rattle.afdx_pcap.specs.declared.format.Endian.TheVariants.{Big, Little}

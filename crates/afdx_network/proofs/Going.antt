@@ -317,6 +317,7 @@ stops remaining net first now i came fault.Memory taken wired never = record { c
 stops remaining net first now i came (fault.Read place) taken wired never = absurd wired
 stops remaining net first now i came (fault.Capture switch port why) taken wired never = record { came = came; taken = taken; wired = wired; never = never }
 stops remaining net first now i came fault.WrongWires taken wired never = absurd wired
+stops remaining net first now i came (fault.Line switch port number) taken wired never = absurd wired
 
 -- ---- what is still to be read comes before the last second
 

@@ -11,6 +11,7 @@ use Rattle.afdx_units.specs.declared.line.Speed.{Speed}
 use Rattle.afdx_units.specs.Line.{cost_of, is_high}
 use Rattle.afdx_account.specs.Policing.{parts}
 use Rattle.afdx_serial.specs.Curves.{Straight, Curve, IsEnough}
+use Rattle.afdx_serial.specs.Serial.{KnownLine}
 use Rattle.afdx_table.specs.declared.rows.PortRow.{PortRow}
 use Rattle.afdx_table.specs.Link.{Link, leads_to}
 use Rattle.afdx_table.specs.Content.{Content, link_row}
@@ -111,73 +112,73 @@ largest_flows : (speed : Speed) (ls : List Link) → largest_of (map (flow_of sp
 largest_flows speed [] = refl
 largest_flows speed (l ∷ ls) = ap (max l.max_size) (largest_flows speed ls)
 
-module _ (laws : Grouping) (t : Content) (formed : IsWellFormed t) (lined : ℕ → Bool) (p : PortRow) where
+module _ (laws : Grouping) (t : Content) (formed : IsWellFormed t) (roundings : ℕ → Option ℕ) (p : PortRow) where
   bursts_same : (ls : List Link) → bursts (map (flow_of p.speed) ls) ≡ sum_by (burst_of p.speed) ls
   bursts_same ls = sum_flows p.speed (λ f. f.weight * f.terms.cap) (burst_of p.speed) (λ l. sym (laws.asks p.speed l).1) ls
 
   rates_same : (ls : List Link) → rates (map (flow_of p.speed) ls) ≡ sum_by (rate_of p.speed) ls
   rates_same ls = sum_flows p.speed (λ f. f.weight * f.terms.rate) (rate_of p.speed) (λ l. sym (laws.asks p.speed l).0) ls
 
-  on_line : (q : PortRow) → flows_on (line_at t.links lined q) (flows_at t p) ≡ map (flow_of p.speed) (filter (goes_over q.id p.id) t.links)
+  on_line : (q : PortRow) → flows_on (line_at t.links roundings q) (flows_at t p) ≡ map (flow_of p.speed) (filter (goes_over q.id p.id) t.links)
   on_line q = kept_flows (comes_in t.links q.id) p.speed q.id p.id t.links (λ l among. comes_in_there laws.links t q.id l formed among)
 
   -- ---- the curves
 
-  made : Option Speed → (burst rate largest spare : ℕ) → Curve
+  made : Option KnownLine → (burst rate largest spare : ℕ) → Curve
   made None burst rate largest spare = record { paid = record { burst = burst; rate = rate }; brought = None }
   made (Some there) burst rate largest spare = record {
     paid = record { burst = burst; rate = rate };
-    brought = Some (record { burst = line_weight p.speed there * cost_of there largest + spare; rate = line_weight p.speed there });
+    brought = Some (record { burst = line_weight p.speed there.speed * (cost_of there.speed largest + there.rounding) + spare; rate = line_weight p.speed there.speed });
   }
 
-  same_made : (line : Option Speed) (a a' b b' c c' d d' : ℕ) → a ≡ a' → b ≡ b' → c ≡ c' → d ≡ d' → made line a b c d ≡ made line a' b' c' d'
+  same_made : (line : Option KnownLine) (a a' b b' c c' d d' : ℕ) → a ≡ a' → b ≡ b' → c ≡ c' → d ≡ d' → made line a b c d ≡ made line a' b' c' d'
   same_made line a a' b b' c c' d d' one two three four = cc
 
-  all_made : (has : ℕ → Bool) (line : Option Speed) → all_curve (settings_of t.latency p) (flows_at t p) (record { has = has; speed = line })
-      ≡ made line (bursts (flows_on (record { has = has; speed = line }) (flows_at t p))) (rates (flows_on (record { has = has; speed = line }) (flows_at t p)))
-      (largest_of (flows_on (record { has = has; speed = line }) (flows_at t p))) (bursts (high_flows (flows_on (record { has = has; speed = line }) (flows_at t p))))
+  all_made : (has : ℕ → Bool) (line : Option KnownLine) → all_curve (settings_of t.latency p) (flows_at t p) (record { has = has; known = line })
+      ≡ made line (bursts (flows_on (record { has = has; known = line }) (flows_at t p))) (rates (flows_on (record { has = has; known = line }) (flows_at t p)))
+      (largest_of (flows_on (record { has = has; known = line }) (flows_at t p))) (bursts (high_flows (flows_on (record { has = has; known = line }) (flows_at t p))))
   unfolding made
   all_made has None = refl
   all_made has (Some there) = refl
 
-  high_made : (has : ℕ → Bool) (line : Option Speed) → high_curve (settings_of t.latency p) (flows_at t p) (record { has = has; speed = line })
-      ≡ made line (bursts (high_flows (flows_on (record { has = has; speed = line }) (flows_at t p)))) (rates (high_flows (flows_on (record { has = has; speed = line }) (flows_at t p))))
-      (largest_of (high_flows (flows_on (record { has = has; speed = line }) (flows_at t p)))) 0
+  high_made : (has : ℕ → Bool) (line : Option KnownLine) → high_curve (settings_of t.latency p) (flows_at t p) (record { has = has; known = line })
+      ≡ made line (bursts (high_flows (flows_on (record { has = has; known = line }) (flows_at t p)))) (rates (high_flows (flows_on (record { has = has; known = line }) (flows_at t p))))
+      (largest_of (high_flows (flows_on (record { has = has; known = line }) (flows_at t p)))) 0
   unfolding made
   high_made has None = refl
   high_made has (Some there) = refl
 
-  group_made : (line : Option Speed) (spare : ℕ) (ls : List Link) → made line (sum_by (burst_of p.speed) ls) (sum_by (rate_of p.speed) ls) (greatest (λ l. l.max_size) ls) spare
+  group_made : (line : Option KnownLine) (spare : ℕ) (ls : List Link) → made line (sum_by (burst_of p.speed) ls) (sum_by (rate_of p.speed) ls) (greatest (λ l. l.max_size) ls) spare
       ≡ group.curve_of p.speed line spare (group.asked_by p.speed ls)
   unfolding made
   group_made None spare ls = refl
   group_made (Some there) spare ls = refl
 
-  all_same : (q : PortRow) → all_curve (settings_of t.latency p) (flows_at t p) (line_at t.links lined q) ≡ group.all_curve p.speed (group.line_at lined q) (group_at t.links q.id p)
+  all_same : (q : PortRow) → all_curve (settings_of t.latency p) (flows_at t p) (line_at t.links roundings q) ≡ group.all_curve p.speed (group.line_at roundings q) (group_at t.links q.id p)
   all_same q =
       let on = on_line q in
-      all_made (comes_in t.links q.id) (cond (lined q.id) (Some q.speed) None)
-      ∙ same_made (cond (lined q.id) (Some q.speed) None) _ _ _ _ _ _ _ _
+      all_made (comes_in t.links q.id) (group.line_at roundings q)
+      ∙ same_made (group.line_at roundings q) _ _ _ _ _ _ _ _
       (ap bursts on ∙ bursts_same (filter (goes_over q.id p.id) t.links)) (ap rates on ∙ rates_same (filter (goes_over q.id p.id) t.links))
       (ap largest_of on ∙ largest_flows p.speed (filter (goes_over q.id p.id) t.links))
       (ap (λ (fs : List Flow). bursts (high_flows fs)) on ∙ ap bursts (high_kept p.speed (filter (goes_over q.id p.id) t.links))
       ∙ bursts_same (filter is_high_link (filter (goes_over q.id p.id) t.links)))
-      ∙ group_made (cond (lined q.id) (Some q.speed) None) (sum_by (burst_of p.speed) (filter is_high_link (filter (goes_over q.id p.id) t.links))) (filter (goes_over q.id p.id) t.links)
+      ∙ group_made (group.line_at roundings q) (sum_by (burst_of p.speed) (filter is_high_link (filter (goes_over q.id p.id) t.links))) (filter (goes_over q.id p.id) t.links)
 
-  high_same : (q : PortRow) → high_curve (settings_of t.latency p) (flows_at t p) (line_at t.links lined q) ≡ group.high_curve p.speed (group.line_at lined q) (group_at t.links q.id p)
+  high_same : (q : PortRow) → high_curve (settings_of t.latency p) (flows_at t p) (line_at t.links roundings q) ≡ group.high_curve p.speed (group.line_at roundings q) (group_at t.links q.id p)
   high_same q =
-      let on : high_flows (flows_on (line_at t.links lined q) (flows_at t p)) ≡ map (flow_of p.speed) (filter is_high_link (filter (goes_over q.id p.id) t.links))
+      let on : high_flows (flows_on (line_at t.links roundings q) (flows_at t p)) ≡ map (flow_of p.speed) (filter is_high_link (filter (goes_over q.id p.id) t.links))
       = ap high_flows (on_line q) ∙ high_kept p.speed (filter (goes_over q.id p.id) t.links) in
-      high_made (comes_in t.links q.id) (cond (lined q.id) (Some q.speed) None)
-      ∙ same_made (cond (lined q.id) (Some q.speed) None) _ _ _ _ _ _ 0 0
+      high_made (comes_in t.links q.id) (group.line_at roundings q)
+      ∙ same_made (group.line_at roundings q) _ _ _ _ _ _ 0 0
       (ap bursts on ∙ bursts_same (filter is_high_link (filter (goes_over q.id p.id) t.links))) (ap rates on ∙ rates_same (filter is_high_link (filter (goes_over q.id p.id) t.links)))
       (ap largest_of on ∙ largest_flows p.speed (filter is_high_link (filter (goes_over q.id p.id) t.links))) refl
-      ∙ group_made (cond (lined q.id) (Some q.speed) None) 0 (filter is_high_link (filter (goes_over q.id p.id) t.links))
+      ∙ group_made (group.line_at roundings q) 0 (filter is_high_link (filter (goes_over q.id p.id) t.links))
 
-  each_same : (f : Line → Curve) (g : PortRow → Curve) → ((q : PortRow) → f (line_at t.links lined q) ≡ g q) → (ports : List PortRow)
-      → map f (map (line_at t.links lined) ports) ≡ map g ports
+  each_same : (f : Line → Curve) (g : PortRow → Curve) → ((q : PortRow) → f (line_at t.links roundings q) ≡ g q) → (ports : List PortRow)
+      → map f (map (line_at t.links roundings) ports) ≡ map g ports
   each_same f g same [] = refl
-  each_same f g same (q ∷ ports) = ap (λ (c : Curve). c ∷ map f (map (line_at t.links lined) ports)) (same q) ∙ ap (λ (cs : List Curve). g q ∷ cs) (each_same f g same ports)
+  each_same f g same (q ∷ ports) = ap (λ (c : Curve). c ∷ map f (map (line_at t.links roundings) ports)) (same q) ∙ ap (λ (cs : List Curve). g q ∷ cs) (each_same f g same ports)
 
   -- ---- the bursts
 
@@ -197,19 +198,19 @@ module _ (laws : Grouping) (t : Content) (formed : IsWellFormed t) (lined : ℕ 
   no_more : (a b rate : ℕ) → a ≤ b + rate * 0 → a ≤ b
   no_more a b rate h = omega (arith, h)
 
-  pub grouped : (load_of t.latency p.speed p.id t.links).rate ≤ parts → AreLesser t p lined (lesser_load 0 lined t p).burst (lesser_load 0 lined t p).high_burst
+  pub grouped : (load_of t.latency p.speed p.id t.links).rate ≤ parts → AreLesser t p roundings (lesser_load 0 roundings t p).burst (lesser_load 0 roundings t p).high_burst
   grouped rate =
-      let once = laws.once 0 t lined p formed in
-      let all = (laws.least parts (all_curves 0 t lined p) (through _ _ _ once.rate rate)).enough in
-      let high = (laws.least parts (high_curves 0 t lined p) (through _ _ _ once.high_rate rate)).enough in
+      let once = laws.once 0 t roundings p formed in
+      let all = (laws.least parts (all_curves 0 t roundings p) (through _ _ _ once.rate rate)).enough in
+      let high = (laws.least parts (high_curves 0 t roundings p) (through _ _ _ once.high_rate rate)).enough in
       record {
-        enough = laws.curves (settings_of t.latency p) (flows_at t p) (lines_of t lined) (lesser_load 0 lined t p).burst (lesser_load 0 lined t p).high_burst
-            (subst (IsEnough parts (lesser_load 0 lined t p).burst)
-            (sym (each_same (all_curve (settings_of t.latency p) (flows_at t p)) (λ q. later 0 (group.all_curve p.speed (group.line_at lined q) (group_at t.links q.id p)))
-            (λ q. all_same q ∙ sym (not_later (group.all_curve p.speed (group.line_at lined q) (group_at t.links q.id p)))) t.ports)) all)
-            (subst (IsEnough parts (lesser_load 0 lined t p).high_burst)
-            (sym (each_same (high_curve (settings_of t.latency p) (flows_at t p)) (λ q. later 0 (group.high_curve p.speed (group.line_at lined q) (group_at t.links q.id p)))
-            (λ q. high_same q ∙ sym (not_later (group.high_curve p.speed (group.line_at lined q) (group_at t.links q.id p)))) t.ports)) high);
-        all_less = no_more _ _ (load_of t.latency p.speed p.id t.links).rate (through _ _ _ (laws.none_more parts (all_curves 0 t lined p)) once.burst);
-        high_less = no_more _ _ (load_of t.latency p.speed p.id t.links).high_rate (through _ _ _ (laws.none_more parts (high_curves 0 t lined p)) once.high_burst);
+        enough = laws.curves (settings_of t.latency p) (flows_at t p) (lines_of t roundings) (lesser_load 0 roundings t p).burst (lesser_load 0 roundings t p).high_burst
+            (subst (IsEnough parts (lesser_load 0 roundings t p).burst)
+            (sym (each_same (all_curve (settings_of t.latency p) (flows_at t p)) (λ q. later 0 (group.all_curve p.speed (group.line_at roundings q) (group_at t.links q.id p)))
+            (λ q. all_same q ∙ sym (not_later (group.all_curve p.speed (group.line_at roundings q) (group_at t.links q.id p)))) t.ports)) all)
+            (subst (IsEnough parts (lesser_load 0 roundings t p).high_burst)
+            (sym (each_same (high_curve (settings_of t.latency p) (flows_at t p)) (λ q. later 0 (group.high_curve p.speed (group.line_at roundings q) (group_at t.links q.id p)))
+            (λ q. high_same q ∙ sym (not_later (group.high_curve p.speed (group.line_at roundings q) (group_at t.links q.id p)))) t.ports)) high);
+        all_less = no_more _ _ (load_of t.latency p.speed p.id t.links).rate (through _ _ _ (laws.none_more parts (all_curves 0 t roundings p)) once.burst);
+        high_less = no_more _ _ (load_of t.latency p.speed p.id t.links).high_rate (through _ _ _ (laws.none_more parts (high_curves 0 t roundings p)) once.high_burst);
       }

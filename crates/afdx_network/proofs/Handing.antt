@@ -184,12 +184,14 @@ late_wired net w frame (fault.Capture switch port why) wired late =
       end_by : ℕ → ℕ → End
       end_by n p = record { switch = n; port = p }
 late_wired net w frame fault.WrongWires wired late = absurd late
+late_wired net w frame (fault.Line switch port number) wired late = absurd late
 
 pub late_never : (w : Wire) (frame : Record) (why : NetworkRunFault) → frame.stamp + w.delay < last_second → IsLateFault w frame why → why ≡ fault.Memory
 late_never w frame fault.Memory soon late = refl
 late_never w frame (fault.Read place) soon late = absurd late
 late_never w frame (fault.Capture switch port why) soon late = let past = late.2 in absurd (omega (arith, soon, past))
 late_never w frame fault.WrongWires soon late = absurd late
+late_never w frame (fault.Line switch port number) soon late = absurd late
 
 -- ---- where no frame can be late
 

@@ -4,19 +4,19 @@ use Rattle.afdx_table.specs.Link.{Link}
 use Rattle.afdx_table.specs.Content.{Content}
 use Rattle.afdx_load.specs.Bounds.{bounds_of}
 use Rattle.afdx_load.specs.Inner.Laws.{AcceptedKeepsBounds}
-use Rattle.afdx_wiring.specs.Net.{least_at, scatter_at, load_at, Network, Row, is_wired, bound_in}
+use Rattle.afdx_wiring.specs.Net.{least_at, scatter_at, load_at, Network, Row, rounding_at, bound_in}
 use Rattle.afdx_network.specs.Way.{Node, Stage, IsStage, Leg, IsLegFrom, IsWay, WaysDeliver}
 use Rattle.afdx_network.specs.Runs.{SwitchRun, Given}
 use Rattle.afdx_network.specs.Ways.{IsStageAt, GoesOver}
 use Rattle.afdx_network.specs.Laws.{IsFittingRun}
-use Rattle.afdx_network.specs.LinedWay.{node_after, LinedStages, WiresKeepToLines}
+use Rattle.afdx_network.specs.LinedWay.{node_after, LinedStages}
+use Rattle.afdx_network.specs.LinedRun.{PortsKeepToLines}
 use Rattle.afdx_network.specs.LesserWays.{IsLesserStageAt, IsLesserWayFrom, LesserWaysDeliver}
 use Rattle.afdx_network.proofs.Rows.{same_bound}
 use Rattle.afdx_network.proofs.Agreement.{Ground, stage_by, node_same, table_at, formed_at, accepted_at, follows}
 use Rattle.afdx_network.proofs.Bounded.{has_bound}
-use Rattle.afdx_network.proofs.LinedRun.{wired_ports_keep}
 
-module _ (g : Ground) (keeps : AcceptedKeepsBounds) (wires : WiresKeepToLines) (stages : LinedStages) (net : Network) (given : Given) (runs : List SwitchRun) (acc : IsFittingRun net given runs) where
+module _ (g : Ground) (keeps : AcceptedKeepsBounds) (ports : PortsKeepToLines) (stages : LinedStages) (net : Network) (given : Given) (runs : List SwitchRun) (acc : IsFittingRun net given runs) where
   -- ---- a stage
 
   module _ (r : Row) (x : Stage) (h : IsLesserStageAt net runs r x) where
@@ -26,14 +26,14 @@ module _ (g : Ground) (keeps : AcceptedKeepsBounds) (wires : WiresKeepToLines) (
         = ap (λ (n : ℕ). stage_by x.port n x.bound x.node x.link) h.least_is ∙ ap (λ (n : Node). stage_by x.port h.run.table.latency x.bound n x.link) (h.node ∙ node_same h.run)
         ∙ ap (λ (l : Link). stage_by x.port h.run.table.latency x.bound (node_after h.run.table h.run.outcome.read) l) h.link in
         let is = stages h.run.table h.run.texts h.run.results (formed_at g net given runs acc r.switch h.run h.run_is) (accepted_at g net given runs acc r.switch h.run h.run_is) h.run.outcome
-        (is_wired net r.switch) (wired_ports_keep g wires net given runs acc r.switch h.run h.run_is) x.port h.has h.burst h.high_burst h.enough r.link h.known h.leads x.bound h.bound_is in
+        (rounding_at net r.switch) (ports net given runs acc r.switch h.run h.run_is) x.port h.has h.burst h.high_burst h.enough r.link h.known h.leads x.bound h.bound_is in
         subst IsStage (sym same) is
 
     -- the same row and port with the bound of the least bursts
     least_bound : (bound : ℕ) × IsStageAt net runs r (stage_by x.port (least_at net r.switch h.run.table) bound x.node x.link)
     least_bound =
         let table = table_at g net given runs acc r.switch h.run h.run_is in
-        let b = has_bound keeps (scatter_at net r.switch h.run.table) (is_wired net r.switch) h.run.table x.port r.link (formed_at g net given runs acc r.switch h.run h.run_is)
+        let b = has_bound keeps (scatter_at net r.switch h.run.table) (rounding_at net r.switch) h.run.table x.port r.link (formed_at g net given runs acc r.switch h.run h.run_is)
         (accepted_at g net given runs acc r.switch h.run h.run_is) h.has h.known h.leads in (
           b.0,
           record {
@@ -71,5 +71,5 @@ module _ (g : Ground) (keeps : AcceptedKeepsBounds) (wires : WiresKeepToLines) (
   is_way r x (s ∷ legs) way =
       (is_stage r x way.0, is_leg r way.1 x s way.0 (first_at way.1 s.stage legs way.3) way.2, is_way way.1 s.stage legs way.3)
 
-pub lesser_ways : Ground → AcceptedKeepsBounds → WiresKeepToLines → LinedStages → WaysDeliver → LesserWaysDeliver
-lesser_ways g keeps wires stages deliver net given runs acc x legs way enough = deliver x legs (is_way g keeps wires stages net given runs acc way.0 x legs way.2) enough
+pub lesser_ways : Ground → AcceptedKeepsBounds → PortsKeepToLines → LinedStages → WaysDeliver → LesserWaysDeliver
+lesser_ways g keeps ports stages deliver net given runs acc x legs way enough = deliver x legs (is_way g keeps ports stages net given runs acc way.0 x legs way.2) enough

@@ -33,12 +33,12 @@ by_lesser t p l burst high_burst bound bound_is (c ∷ came) (f ∷ left) zip = 
 )
 
 pub lined_stages : OutcomesIsolate → LinedOutcomesKeepBounds → LinedStages
-lined_stages isolates keeps t texts results formed accepted outcome lined lines p at burst high_burst less l among leads bound bound_is = record {
+lined_stages isolates keeps t texts results formed accepted outcome roundings lines p at burst high_burst less l among leads bound bound_is = record {
   node = record { well_formed = formed; passed = λ q here. (isolates t texts results formed accepted outcome q here).passed };
   known = among;
   has = at;
   leads = leads;
-  bounded = by_lesser t p l burst high_burst bound bound_is _ _ (keeps t texts results formed accepted outcome lined lines p at burst high_burst less l among leads);
+  bounded = by_lesser t p l burst high_burst bound bound_is _ _ (keeps t texts results formed accepted outcome roundings lines p at burst high_burst less l among leads);
 }
 
 -- ---- wires

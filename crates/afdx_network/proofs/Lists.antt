@@ -82,3 +82,9 @@ zip_back P [] (z ∷ ys) zip k y is = absurd zip
 zip_back P (x ∷ xs) [] zip k y is = absurd zip
 zip_back P (x ∷ xs) (z ∷ ys) zip zero y is = (x, refl, subst (P x) (same_Some z y is) zip.0)
 zip_back P (x ∷ xs) (z ∷ ys) zip (suc k) y is = zip_back P xs ys zip.1 k y is
+
+pub zip_append : {X Y : Type 0} (P : X → Y → Type 0) (xs more : List X) (ys further : List Y) → AllZip P xs ys → AllZip P more further → AllZip P (xs ++ more) (ys ++ further)
+zip_append P [] more [] further zip rest = rest
+zip_append P [] more (y ∷ ys) further zip rest = absurd zip
+zip_append P (x ∷ xs) more [] further zip rest = absurd zip
+zip_append P (x ∷ xs) more (y ∷ ys) further zip rest = (zip.0, zip_append P xs more ys further zip.1 rest)

@@ -1,5 +1,5 @@
 -- Why there is no run.
-use Rattle.std.proofs.Common.{◌≡◌, ℕ, zero, suc, ◌+◌, ◌<◌, ◌≤◌, List, [], ◌∷◌, ◌++◌, length, slice_get, take, Option, Some, ap, sym, ◌∙◌, inl, inr, subst, Result, Ok, Err}
+use Rattle.std.proofs.Common.{◌≡◌, ℕ, zero, suc, ◌+◌, ◌≤◌, List, [], ◌∷◌, ◌++◌, length, slice_get, take, Option, Some, ap, sym, ◌∙◌, inl, inr, subst, Result, Ok, Err}
 use Rattle.std.specs.Prelude.{All, IfErr}
 use Rattle.std.proofs.lemmas.List.{take_more, take_all}
 use Rattle.std.proofs.lemmas.Option.{slice_get_within, get_or_from_slice_get}
@@ -12,7 +12,7 @@ use Rattle.afdx_session.specs.Reading.{IsSound, IsFirstFault}
 use Rattle.afdx_wiring.specs.Net.{Network}
 use Rattle.afdx_network.specs.declared.fault.NetworkRunFault.{NetworkRunFault}
 use Rattle.afdx_network.specs.declared.fault.NetworkRunFault.TheVariants as fault
-use Rattle.afdx_network.specs.Runs.{Given}
+use Rattle.afdx_network.specs.Runs.{Given, KeepTheirLines}
 use Rattle.afdx_network.specs.Given.{AreGiven, AreSound, IsRefusalUnless, IsRefusal, IsUncheckedRefusal, IsFaultOver}
 use Rattle.afdx_network.specs.Inner.Windows.{IsRunFault}
 
@@ -37,22 +37,24 @@ first_fault (x ∷ texts) (suc k) text why at sound broken =
     inr (All-head IsSound x (take k texts) sound, first_fault texts k text why at (All-tail IsSound x (take k texts) sound) broken)
 
 -- what stops a run on its way, or before, refuses it
-pub refused_run : (none_late : Type 0) (net : Network) (given : Given) (why : NetworkRunFault) → AreGiven net given → AreSound given → IsRunFault net why → (none_late → why ≡ fault.Memory)
+pub refused_run : (none_late : Type 0) (net : Network) (given : Given) (why : NetworkRunFault) → AreGiven net given → AreSound given → KeepTheirLines net given → IsRunFault net why → (none_late → why ≡ fault.Memory)
     → IsRefusalUnless none_late net given why
-refused_run none_late net given fault.Memory are sound broken soon = tt
-refused_run none_late net given (fault.Read place) are sound broken soon = absurd broken
-refused_run none_late net given (fault.Capture switch port why) are sound broken soon = (are, inr (sound, broken, λ none. absurd (no_memory (soon none)))) where
+refused_run none_late net given fault.Memory are sound lines broken soon = tt
+refused_run none_late net given (fault.Read place) are sound lines broken soon = absurd broken
+refused_run none_late net given (fault.Capture switch port why) are sound lines broken soon = (are, inr (sound, lines, broken, λ none. absurd (no_memory (soon none)))) where
   no_memory : fault.Capture switch port why ≡ fault.Memory → ⊥
   no_memory is = cc
-refused_run none_late net given fault.WrongWires are sound broken soon = (are, sound, broken)
+refused_run none_late net given fault.WrongWires are sound lines broken soon = (are, sound, lines, broken)
+refused_run none_late net given (fault.Line switch port number) are sound lines broken soon = absurd broken
 
 -- where the loads are accepted
 accepted_refusal : (net : Network) (given : Given) (why : NetworkRunFault) → All IsAccepted net.tables → IsUncheckedRefusal net given why → IsRefusal net given why
 accepted_refusal net given fault.Memory accepted is = is
 accepted_refusal net given (fault.Read place) accepted is = is
 accepted_refusal net given (fault.Capture switch port why) accepted (are, inl broken) = (are, inl broken)
-accepted_refusal net given (fault.Capture switch port why) accepted (are, inr late) = (are, inr (late.0, late.1, λ none. late.2 (none, accepted)))
+accepted_refusal net given (fault.Capture switch port why) accepted (are, inr late) = (are, inr (late.0, late.1, late.2, λ none. late.3 (none, accepted)))
 accepted_refusal net given fault.WrongWires accepted is = is
+accepted_refusal net given (fault.Line switch port number) accepted is = is
 
 accepted_fault : {R : Type 0} (remaining : R → Option (List ℕ)) (net : Network) (readers : List R) (why : NetworkRunFault) → All IsAccepted net.tables
     → IsFaultOver remaining net readers (IsUncheckedRefusal net) why → IsFaultOver remaining net readers (IsRefusal net) why
@@ -60,6 +62,7 @@ accepted_fault remaining net readers fault.Memory accepted is = is
 accepted_fault remaining net readers (fault.Read place) accepted is = is
 accepted_fault remaining net readers (fault.Capture switch port why) accepted is = (is.0, is.1, accepted_refusal net is.0 (fault.Capture switch port why) accepted is.2)
 accepted_fault remaining net readers fault.WrongWires accepted is = (is.0, is.1, accepted_refusal net is.0 fault.WrongWires accepted is.2)
+accepted_fault remaining net readers (fault.Line switch port number) accepted is = (is.0, is.1, accepted_refusal net is.0 (fault.Line switch port number) accepted is.2)
 
 pub accepted_refuses : {R V : Type 0} (r : Result V NetworkRunFault) (remaining : R → Option (List ℕ)) (net : Network) (readers : List R) → All IsAccepted net.tables
     → IfErr r (IsFaultOver remaining net readers (IsUncheckedRefusal net)) → IfErr r (IsFaultOver remaining net readers (IsRefusal net))

@@ -9,7 +9,7 @@ use Rattle.afdx_session.specs.Texts.{Text}
 use Rattle.afdx_session.specs.Outcome.{Results}
 use Rattle.afdx_session.specs.Lined.{PlainHeadlines}
 use Rattle.afdx_wiring.specs.Net.{Network}
-use Rattle.afdx_network.specs.Runs.{SwitchRun, Given, IsFedBy, AreRuns, AreOutcomes, IsRunOf, IsUncheckedRunOf}
+use Rattle.afdx_network.specs.Runs.{SwitchRun, Given, IsFedBy, KeepTheirLines, AreRuns, AreOutcomes, IsRunOf, IsUncheckedRunOf}
 
 record IsList (tables : List Content) (came : List (List Text)) (left : List Results) : Type 0 where
   pub runs : List SwitchRun
@@ -32,8 +32,9 @@ one_list (t ∷ tables) (texts ∷ came) (r ∷ left) are =
       left_is = ap (λ (others : List Results). r ∷ others) rest.left_is;
     }
 
-one_run : (net : Network) (given : Given) (came : List (List Text)) (left : List Results) → AreRuns net.tables came left → IsFedBy net given left came → IsRunOf net given came left
-one_run net given came left are fed =
+one_run : (net : Network) (given : Given) (came : List (List Text)) (left : List Results) → AreRuns net.tables came left → KeepTheirLines net given → IsFedBy net given left came
+    → IsRunOf net given came left
+one_run net given came left are lines fed =
     let all = one_list net.tables came left are in
     let fed_so : IsFedBy net given left (map (λ (run : SwitchRun). run.texts) all.runs) = subst (IsFedBy net given left) (sym all.came_is) fed in
     record {
@@ -42,6 +43,7 @@ one_run net given came left are fed =
       left_is = all.left_is;
       run = record {
         tables = all.tables_are;
+        lines = lines;
         fed = subst (λ (results : List Results). IsFedBy net given results (map (λ (run : SwitchRun). run.texts) all.runs)) (sym all.left_is) fed_so;
       };
     }
@@ -61,7 +63,7 @@ isolated_runs plain (t ∷ tables) (texts ∷ came) (r ∷ left) formed accepted
 accepted_run : PlainHeadlines → (net : Network) (given : Given) (came : List (List Text)) (left : List Results) → All IsWellFormed net.tables → All IsAccepted net.tables
     → IsUncheckedRunOf net given came left → IsRunOf net given came left
 accepted_run plain net given came left formed accepted is =
-    one_run net given came left (isolated_runs plain net.tables came left formed accepted is.outcomes) is.fed
+    one_run net given came left (isolated_runs plain net.tables came left formed accepted is.outcomes) is.lines is.fed
 
 -- and so has what is answered
 pub isolates : {V F : Type 0} (r : Result V F) (By : Given → Type 0) (Put : List Results → V → Type 0) → PlainHeadlines → (net : Network) → All IsAccepted net.tables
@@ -80,5 +82,6 @@ outcomes_of (run ∷ runs) = (run.outcome, outcomes_of runs)
 pub runs_are_unchecked : (net : Network) (given : Given) (came : List (List Text)) (left : List Results) → IsRunOf net given came left → IsUncheckedRunOf net given came left
 runs_are_unchecked net given came left is = record {
   outcomes = rw (is.run.tables, is.came_is, is.left_is) at (outcomes_of is.runs);
+  lines = is.run.lines;
   fed = rw (is.came_is, is.left_is) at is.run.fed;
 }

@@ -1,8 +1,8 @@
 -- Why there is no run over what readers give.
 use Rattle.std.proofs.Common.{◌≡◌, ◌<◌, ◌≤◌, ◌+◌, ◌-◌, ◌*◌, ℕ, zero, suc, List, [], ◌∷◌, ◌++◌, length, map, filter, take, slice_get, Option, Some, refl, ap, sym, ◌∙◌, arith, inl, inr, subst}
-use Rattle.std.specs.Prelude.{All, Contains, flat_map, ◌⊎◌}
+use Rattle.std.specs.Prelude.{All, Contains, flat_map}
 use Rattle.std.specs.Option.{option_map}
-use Rattle.std.specs.List.{AllByRecursion, AllZip}
+use Rattle.std.specs.List.{AllByRecursion}
 use Rattle.std.proofs.lemmas.Bool.{cases_lt}
 use Rattle.std.proofs.lemmas.List.{length-map}
 use Rattle.std.proofs.lemmas.List.Elements.{All-nil, All-cons, All-from_recursion, recursion_from_All}
@@ -15,7 +15,7 @@ use Rattle.afdx_pcap.specs.Fault.{IsFault}
 use Rattle.afdx_table.specs.declared.rows.PortRow.{PortRow}
 use Rattle.afdx_table.specs.Content.{Content}
 use Rattle.afdx_load.specs.Accepted.{IsAccepted}
-use Rattle.afdx_merging.specs.Merge.{Arrival, arrival_at, at_place, numbered_from}
+use Rattle.afdx_merging.specs.Merge.{Arrival, arrival_at, numbered_from}
 use Rattle.afdx_merging.specs.Read.{AreMerged}
 use Rattle.afdx_session.specs.Texts.{Text}
 use Rattle.afdx_session.specs.Reading.{IsSound, IsFirstFault}
@@ -26,19 +26,21 @@ use Rattle.afdx_network.specs.declared.intake.Intake.{Intake}
 use Rattle.afdx_network.specs.declared.fault.NetworkRunFault.{NetworkRunFault}
 use Rattle.afdx_network.specs.declared.fault.NetworkRunFault.TheVariants as fault
 use Rattle.afdx_network.specs.Runs.{Given}
-use Rattle.afdx_network.specs.Given.{is_open, ends_from, open_ends, AreOpen, AreGivenBy, AreSound, HasOrder, NoneComesLate, NoneIsLateAnywhere, IsFirstUnsound, IsRefusalUnless, IsUncheckedRefusal}
+use Rattle.afdx_network.specs.Given.{is_open, ends_from, open_ends, AreOpen, AreGiven, AreGivenBy, AreSound, HasOrder, NoneComesLate, NoneIsLateAnywhere, IsUncheckedRefusal}
 use Rattle.afdx_network.specs.Given.{IsFaultOver}
-use Rattle.afdx_network.specs.Inner.Intake.{same_clock, HasTakenAll, IsIntakeFault, NoneCameLate}
+use Rattle.afdx_network.specs.Inner.Intake.{same_clock, records_at, AreOverLines, BreaksALine, HasTakenAll, IsIntakeFault, NoneCameLate}
 use Rattle.afdx_network.specs.Inner.Sites.{end_at}
 use Rattle.afdx_network.specs.Inner.Windows.{IsRunFault, StopsOnWay}
 use Rattle.afdx_network.proofs.Answering.{all_places}
 use Rattle.afdx_network.proofs.Found.{all_by, contains_head, contains_tail}
+use Rattle.afdx_network.proofs.Breaking.{first_breach}
+use Rattle.afdx_network.proofs.Feeding.{Unique}
 use Rattle.afdx_network.proofs.Going.{soon_before}
 use Rattle.afdx_network.proofs.Handed.{took, front_is, rest_is}
 use Rattle.afdx_network.proofs.Refusing.{first_fault, refused_run}
 use Rattle.afdx_network.proofs.SoFar.{there_at}
 use Rattle.afdx_network.proofs.Taking.{of_each_place}
-use Rattle.afdx_network.proofs.Whole.{IsSplit, zip_places, split, split_given, split_read}
+use Rattle.afdx_network.proofs.Whole.{IsSplit, IsOfItsPlace, AreOfTheirPlaces, zip_places, split, split_given, split_read, all_split, all_given_by, of_places, lines_kept}
 
 -- ---- the ports of what is given, and its texts
 
@@ -138,41 +140,7 @@ cut n (own ∷ given) place switch port why at bad good = elim (cases_lt place (
   back : (k : ℕ) → (length own + k) - length own ≡ k
   back k = omega arith
 
-abbrev Anything : End → List ℕ → Type 0
-Anything e text = Unit {0}
-
-pub intake_refuses : {R : Type 0} (remaining : R → Option (List ℕ)) (net : Network) (readers : List R) (why : NetworkRunFault) → length readers ≡ length (open_ends net)
-    → IsIntakeFault remaining net readers why
-    → IsFaultOver remaining net readers (IsUncheckedRefusal net) why
-intake_refuses remaining net readers fault.Memory same is = tt
-intake_refuses remaining net readers (fault.Read place) same is = is
-intake_refuses remaining net readers fault.WrongWires same is = absurd is
-intake_refuses remaining net readers (fault.Capture switch port why) same is = (
-  s.given,
-  split_read Anything remaining net readers is.2.texts s is.2.read,
-  (
-    split_given Anything net is.2.texts s,
-    inl (record {
-      texts = found.texts;
-      texts_is = ap (slice_get s.given) number ∙ found.texts_is;
-      before = subst (λ n. All (All IsSound) (take n s.given)) (sym number) found.before;
-      first = found.first;
-    }),
-  ),
-) where
-  s : IsSplit Anything net 0 net.tables is.2.texts
-  s = split Anything net 0 net.tables is.2.texts (zip_places Anything (open_ends net) is.2.texts (is.2.read.many ∙ same) (λ k e text at there. tt))
-
-  found : IsCut 0 s.given switch port why
-  found = cut 0 s.given is.0 switch port why
-      (ap (λ (es : List End). slice_get es is.0) (sym (same_ends (λ k own. (text : Text) → Contains own text → Anything (end_at (0 + k) text.0) text.1) net 0 net.tables s.given s.long s.each)) ∙ is.1)
-      (λ text there. is.2.here text (ap (λ (texts : List (List ℕ)). slice_get texts is.0) (sym s.flat) ∙ there))
-      (λ k text lt there. is.2.before k text lt (ap (λ (texts : List (List ℕ)). slice_get texts k) (sym s.flat) ∙ there))
-
-  number : switch ≡ found.place
-  number = let is = found.switch_is in omega (arith, is)
-
--- ---- the run stopped, and all was read
+-- ---- all was read
 
 record IsAmongGiven (given : Given) (text : List ℕ) : Type 0 where
   pub own : List Text
@@ -201,36 +169,34 @@ arrive_soon : (k n : ℕ) (rs : List Record) → AllByRecursion IsSoon rs → Al
 arrive_soon k n [] soon = tt
 arrive_soon k n (r ∷ rs) soon = let first = soon.0 in (omega (arith, first), arrive_soon k (n + 1) rs soon.1)
 
-abbrev IsReadable : End → List ℕ → Type 0
-IsReadable e text = (rs : List Record) × IsCapture text rs
-
-module _ {R : Type 0} (remaining : R → Option (List ℕ)) (net : Network) (first : List R) (start : Intake) (came : List Arrival) (all : HasTakenAll remaining net first start came) where
-  merged : AreMerged remaining (map (λ (e : End). same_clock) (open_ends net)) first (came ++ all.more)
-  merged = all.merged
-
+-- all readers gave captures
+module _ {R : Type 0} (remaining : R → Option (List ℕ)) (net : Network) (first : List R) (came : List Arrival) (merged : AreMerged remaining (map (λ (e : End). same_clock) (open_ends net)) first came) where
   count : length (map (λ (e : End). same_clock) (open_ends net)) ≡ length (open_ends net)
   count = length-map (open_ends net) (λ (e : End). same_clock)
 
   many : length merged.texts ≡ length (open_ends net)
   many = let captures = merged.merge.many in let same = merged.are.many in sym same ∙ captures ∙ count
 
-  zip : AllZip IsReadable (open_ends net) merged.texts
-  zip = zip_places IsReadable (open_ends net) merged.texts many (λ k e text at there.
-      let rs = there_at merged.captures k (let lt = slice_get_within merged.texts k text there in let same = merged.are.many in omega (arith, lt, same)) in
-      (rs.0, merged.are.each k text rs.0 there rs.1))
+  s : IsSplit (IsOfItsPlace net came) net 0 net.tables merged.texts
+  s = all_split remaining net first came merged
 
-  s : IsSplit IsReadable net 0 net.tables merged.texts
-  s = split IsReadable net 0 net.tables merged.texts zip
+  are : AreGiven net s.given
+  are = split_given (IsOfItsPlace net came) net merged.texts s
+
+  given_by : AreGivenBy remaining net first s.given
+  unfolding s
+  given_by = all_given_by remaining net first came merged
+
+  of : AreOfTheirPlaces net came s.given
+  unfolding s
+  of = of_places remaining net first came merged
 
   sound : AreSound s.given
   sound = all_places (All IsSound) s.given (λ n own at.
-      let t = there_at net.tables n (let lt = slice_get_within s.given n own at in let long = s.long in omega (arith, lt, long)) in
-      let there = s.each n t.0 t.1 in
-      let texts : All IsSound there.0 = All-from_recursion IsSound there.0 (all_by IsSound there.0 there.3) in
-      subst (All IsSound) (same_Some there.0 own (sym there.1 ∙ at)) texts)
+      All-from_recursion IsSound own (all_by IsSound own (λ text among. let there = of n own text at among in (records_at there.0 came, there.2))))
 
-  came_soon : NoneComesLate s.given → NoneCameLate (came ++ all.more)
-  came_soon none = of_each_place (λ (a : Arrival). IsSoon a.head.frame) (length (map (λ (e : End). same_clock) (open_ends net))) (came ++ all.more) merged.merge.within (λ k lt.
+  came_soon : NoneComesLate s.given → NoneCameLate came
+  came_soon none = of_each_place (λ (a : Arrival). IsSoon a.head.frame) (length (map (λ (e : End). same_clock) (open_ends net))) came merged.merge.within (λ k lt.
       let e = there_at (open_ends net) k (omega (arith, lt, count)) in
       let text = there_at merged.texts k (omega (arith, lt, count, many)) in
       let rs = there_at merged.captures k (let same = merged.are.many in omega (arith, lt, count, many, same)) in
@@ -240,23 +206,66 @@ module _ {R : Type 0} (remaining : R → Option (List ℕ)) (net : Network) (fir
       (sym (merged.merge.each k same_clock rs.0 (slice_get-map (λ (x : End). same_clock) (open_ends net) k ∙ ap (option_map (λ (x : End). same_clock)) e.1) rs.1))
       (arrive_soon k 1 rs.0 (recursion_from_All IsSoon rs.0 soon)))
 
-  refused : (why : NetworkRunFault) → IsRunFault net why
+  -- and one did not come over its line
+  pub line_refuses : Unique → (switch port number : ℕ) → BreaksALine net came switch port number → IsFaultOver remaining net first (IsUncheckedRefusal net) (fault.Line switch port number)
+  line_refuses unique switch port number b = (s.given, given_by, (are, sound, first_breach unique net s.given came are of switch port number b))
+
+  -- or something stopped the run, though all did
+  refused : Unique → AreOverLines net came → (why : NetworkRunFault) → IsRunFault net why
       → ((order : HasOrder net) → All (λ (w : Wire). w.delay ≤ 1000000) net.layout.wires → All IsAccepted net.tables → NoneCameLate came → why ≡ fault.Memory) → IsUncheckedRefusal net s.given why
-  refused why wired never =
-      refused_run (NoneIsLateAnywhere net s.given × All IsAccepted net.tables) net s.given why (split_given IsReadable net merged.texts s) sound wired
-      (λ none. never none.0.order none.0.delays none.1 (soon_before came all.more (came_soon none.0.early)))
+  refused unique over why wired never =
+      refused_run (NoneIsLateAnywhere net s.given × All IsAccepted net.tables) net s.given why are sound (lines_kept unique net s.given came of over) wired
+      (λ none. never none.0.order none.0.delays none.1 (came_soon none.0.early))
 
-  given_by : AreGivenBy remaining net first s.given
-  given_by = split_read IsReadable remaining net first merged.texts s merged.read
-
-  pub run_refuses : (why : NetworkRunFault) → IsRunFault net why
+  pub run_refuses : Unique → AreOverLines net came → (why : NetworkRunFault) → IsRunFault net why
       → ((order : HasOrder net) → All (λ (w : Wire). w.delay ≤ 1000000) net.layout.wires → All IsAccepted net.tables → NoneCameLate came → why ≡ fault.Memory)
       → IsFaultOver remaining net first (IsUncheckedRefusal net) why
-  run_refuses fault.Memory wired never = tt
-  run_refuses (fault.Read place) wired never = absurd wired
-  run_refuses (fault.Capture switch port why) wired never = (s.given, given_by, refused (fault.Capture switch port why) wired never)
-  run_refuses fault.WrongWires wired never = (s.given, given_by, refused fault.WrongWires wired never)
+  run_refuses unique over fault.Memory wired never = tt
+  run_refuses unique over (fault.Read place) wired never = absurd wired
+  run_refuses unique over (fault.Capture switch port why) wired never = (s.given, given_by, refused unique over (fault.Capture switch port why) wired never)
+  run_refuses unique over fault.WrongWires wired never = (s.given, given_by, refused unique over fault.WrongWires wired never)
+  run_refuses unique over (fault.Line switch port number) wired never = absurd wired
 
-pub stop_refuses : {R : Type 0} (remaining : R → Option (List ℕ)) (net : Network) (first now : List R) (i : Intake) (why : NetworkRunFault) → (s : StopsOnWay remaining net first now i why)
+-- ---- what is given was not read on
+
+abbrev Anything : End → List ℕ → Type 0
+Anything e text = Unit {0}
+
+pub intake_refuses : {R : Type 0} → Unique → (remaining : R → Option (List ℕ)) (net : Network) (readers : List R) (why : NetworkRunFault) → length readers ≡ length (open_ends net)
+    → IsIntakeFault remaining net readers why
+    → IsFaultOver remaining net readers (IsUncheckedRefusal net) why
+intake_refuses unique remaining net readers fault.Memory same is = tt
+intake_refuses unique remaining net readers (fault.Read place) same is = is
+intake_refuses unique remaining net readers fault.WrongWires same is = absurd is
+intake_refuses unique remaining net readers (fault.Line switch port number) same is = line_refuses remaining net readers is.0 is.1 unique switch port number is.2
+intake_refuses unique remaining net readers (fault.Capture switch port why) same is = (
+  s.given,
+  split_read Anything remaining net readers is.2.texts s is.2.read,
+  (
+    split_given Anything net is.2.texts s,
+    inl (record {
+      texts = found.texts;
+      texts_is = ap (slice_get s.given) number ∙ found.texts_is;
+      before = subst (λ n. All (All IsSound) (take n s.given)) (sym number) found.before;
+      first = found.first;
+    }),
+  ),
+) where
+  s : IsSplit Anything net 0 net.tables is.2.texts
+  s = split Anything net 0 net.tables is.2.texts (zip_places Anything (open_ends net) is.2.texts (is.2.read.many ∙ same) (λ k e text at there. tt))
+
+  found : IsCut 0 s.given switch port why
+  found = cut 0 s.given is.0 switch port why
+      (ap (λ (es : List End). slice_get es is.0) (sym (same_ends (λ k own. (text : Text) → Contains own text → Anything (end_at (0 + k) text.0) text.1) net 0 net.tables s.given s.long s.each)) ∙ is.1)
+      (λ text there. is.2.here text (ap (λ (texts : List (List ℕ)). slice_get texts is.0) (sym s.flat) ∙ there))
+      (λ k text lt there. is.2.before k text lt (ap (λ (texts : List (List ℕ)). slice_get texts k) (sym s.flat) ∙ there))
+
+  number : switch ≡ found.place
+  number = let is = found.switch_is in omega (arith, is)
+
+-- ---- the run stopped, and all was read
+
+pub stop_refuses : {R : Type 0} → Unique → (remaining : R → Option (List ℕ)) (net : Network) (first now : List R) (i : Intake) (why : NetworkRunFault) → (s : StopsOnWay remaining net first now i why)
     → HasTakenAll remaining net first i s.came → IsFaultOver remaining net first (IsUncheckedRefusal net) why
-stop_refuses remaining net first now i why s all = run_refuses remaining net first i s.came all why s.wired s.never
+stop_refuses unique remaining net first now i why s all =
+    run_refuses remaining net first (s.came ++ all.more) all.merged unique all.lines why s.wired (λ order delays accepted soon. s.never order delays accepted (soon_before s.came all.more soon))

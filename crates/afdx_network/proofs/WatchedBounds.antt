@@ -26,9 +26,9 @@ use Rattle.afdx_session.specs.Texts.{Text}
 use Rattle.afdx_session.specs.Output.{rows_of, sent_by}
 use Rattle.afdx_session.specs.Outcome.{Results}
 use Rattle.afdx_session.specs.Lined.{EndsInLesserTime, LinedSentKeepBounds, PlainHeadlines}
-use Rattle.afdx_wiring.specs.Net.{Network, Row, bound_in, bound_at, load_at, scatter_at, is_wired}
+use Rattle.afdx_wiring.specs.Net.{Network, Row, bound_in, bound_at, load_at, scatter_at, rounding_at}
 use Rattle.afdx_origins.specs.Origins.{sent_from, of_link}
-use Rattle.afdx_network.specs.Runs.{SwitchRun, Given, IsFedBy}
+use Rattle.afdx_network.specs.Runs.{SwitchRun, Given, IsFedBy, KeepTheirLines}
 use Rattle.afdx_network.specs.Laws.{IsOfFile, IsFittingNetwork, IsFittingRun}
 use Rattle.afdx_network.specs.Watched.{AreEnded, WatchedRunsKeepBounds}
 use Rattle.afdx_network.specs.Inner.Sites.{end_at}
@@ -92,15 +92,16 @@ runs_of plain (t ∷ tables) (texts ∷ came) (r ∷ left) (both ∷ switches) f
       at_place run own rest zero u is = record { run = run; both = both; run_is = refl; both_is = refl; is = own }
       at_place run own rest (suc n) u is = further run rest.runs both switches n (rest.each n u is)
 
-fits : (net : Network) (given : Given) (came : List (List Text)) (left : List Results) (switches : List (Tally × State)) → IsOfFile net → IsFittingNetwork net → IsFedBy net given left came
+fits : (net : Network) (given : Given) (came : List (List Text)) (left : List Results) (switches : List (Tally × State)) → IsOfFile net → IsFittingNetwork net → KeepTheirLines net given → IsFedBy net given left came
     → (all : AreRunsOf net.tables came left switches) → IsFittingRun net given all.runs
-fits net given came left switches of_file fitting fed all =
+fits net given came left switches of_file fitting lines fed all =
     let fed_so : IsFedBy net given left (map (λ (run : SwitchRun). run.texts) all.runs) = subst (IsFedBy net given left) (sym all.came_is) fed in
     record {
       of_file = of_file;
       accepted = fitting;
       run = record {
         tables = all.tables_are;
+        lines = lines;
         fed = subst (λ (results : List Results). IsFedBy net given results (map (λ (run : SwitchRun). run.texts) all.runs)) (sym all.left_is) fed_so;
       };
     }
@@ -166,18 +167,18 @@ module _ (g : Ground) (lined : Lined) (keeps : LinedSentKeepBounds) (net : Netwo
         ∙ ap (λ n. option_and_then (λ (t : Content). bound_in (bounds_of (load_at net n t p)) r.link.priority) (slice_get net.tables n)) (sym switch_is)
         ∙ bound_is
 
-    less : Sharper (lesser_load 0 (is_wired net switch) run.table p) r.link.priority bound
+    less : Sharper (lesser_load 0 (rounding_at net switch) run.table p) r.link.priority bound
     less =
-        sharper (lesser_load 0 (is_wired net switch) run.table p) (load_at net switch run.table p)
-        (lined.scatter 0 (scatter_at net switch run.table) run.table (is_wired net switch) p formed (omega arith) rate) r.link.priority bound bound_there
+        sharper (lesser_load 0 (rounding_at net switch) run.table p) (load_at net switch run.table p)
+        (lined.scatter 0 (scatter_at net switch run.table) run.table (rounding_at net switch) p formed (omega arith) rate) r.link.priority bound bound_there
 
     pub in_bound : All (λ (x : Sent). x.end ≤ x.item.stamp + bound) (of_link r.link.id (sent_by run.table (merged run.outcome.read) p))
     in_bound =
-        let load = lesser_load 0 (is_wired net switch) run.table p in
+        let load = lesser_load 0 (rounding_at net switch) run.table p in
         All-weaker (EndsInLesserTime run.table p r.link load.burst load.high_burst) (λ (x : Sent). x.end ≤ x.item.stamp + bound) one (of_link r.link.id (sent_by run.table (merged run.outcome.read) p))
-        (keeps run.table run.texts run.results formed accepted run.outcome (is_wired net switch) (lined.wired net given runs acc switch run run_is) p at load.burst load.high_burst
-        (grouped lined.grouping run.table formed (is_wired net switch) p rate) r.link known) where
-          one : (x : Sent) → EndsInLesserTime run.table p r.link (lesser_load 0 (is_wired net switch) run.table p).burst (lesser_load 0 (is_wired net switch) run.table p).high_burst x
+        (keeps run.table run.texts run.results formed accepted run.outcome (rounding_at net switch) (lined.wired net given runs acc switch run run_is) p at load.burst load.high_burst
+        (grouped lined.grouping run.table formed (rounding_at net switch) p rate) r.link known) where
+          one : (x : Sent) → EndsInLesserTime run.table p r.link (lesser_load 0 (rounding_at net switch) run.table p).burst (lesser_load 0 (rounding_at net switch) run.table p).high_burst x
               → x.end ≤ x.item.stamp + bound
           one x h =
               let same : h.bound ≡ less.sharp = same_Some h.bound less.sharp (sym h.bound_is ∙ less.sharp_is) in
@@ -195,7 +196,7 @@ watched_runs_keep_bounds g lined keeps plain net given came left switches o of_f
       all = runs_of plain net.tables came left switches of_file.well_formed fitting.loads ended
 
       acc : IsFittingRun net given all.runs
-      acc = fits net given came left switches of_file fitting is_run.fed all
+      acc = fits net given came left switches of_file fitting is_run.lines is_run.fed all
 
       found : IsFound net e.switch link r
       found = found_row g.links net e.switch link r row

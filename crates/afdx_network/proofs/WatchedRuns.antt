@@ -16,7 +16,6 @@ use Rattle.afdx_core.specs.declared.step.Row.{Row}
 use Rattle.afdx_core.specs.Merge.{Capture, merged}
 use Rattle.afdx_core.specs.State.{Run, State, port_after, sent_in}
 use Rattle.afdx_count.specs.Tally.{Tally}
-use Rattle.afdx_count.specs.Run.{counts_of}
 use Rattle.afdx_session.specs.Texts.{Text}
 use Rattle.afdx_session.specs.Output.{rows_of, written}
 use Rattle.afdx_session.specs.Streams.{sent_up_to}
@@ -25,7 +24,7 @@ use Rattle.afdx_paced.specs.Paced.{Lane, Paced, arrivals, sends_up_to, out_up_to
 use Rattle.afdx_paced.specs.Laws.{OutGoesOn, OutIsInOrder, SendsGoOn}
 use Rattle.afdx_wiring.specs.Net.{Network, wire_to}
 use Rattle.afdx_origins.specs.Origins.{Origins, sent_from}
-use Rattle.afdx_network.specs.Runs.{Given, IsUncheckedRunOf}
+use Rattle.afdx_network.specs.Runs.{Given, KeepTheirLines, IsUncheckedRunOf}
 use Rattle.afdx_network.specs.Watched.{IsEnded, AreEnded, HaveSent}
 use Rattle.afdx_network.specs.Inner.Sites.{Site, AreCarried, HasSent, HasLed, end_at}
 use Rattle.afdx_network.specs.Inner.Noted.{NoneHasLeft, HasEnded, IsNotedAt, AreNoted}
@@ -64,14 +63,14 @@ are_ended (t ∷ tables) (texts ∷ came) (r ∷ left) (both ∷ switches) a b c
 )
 
 pub watched_run : OutGoesOn → OutIsInOrder → AreWritten → (net : Network) (given : Given) (sites : List Site) (switches : List (Tally × State)) → AreCarried net given sites
-    → All (λ w. wire_to net w.to ≡ Some w) net.layout.wires → All (HasSent None) sites → AllZip HasEnded sites switches
+    → KeepTheirLines net given → All (λ w. wire_to net w.to ≡ Some w) net.layout.wires → All (HasSent None) sites → AllZip HasEnded sites switches
     → (came : List (List Text)) × ((left : List Results) × IsUncheckedRunOf net given came left × AreEnded net.tables came left switches)
-watched_run on order written net given sites switches are one sent ended = (whole.0, (left, whole.1, all)) where
+watched_run on order written net given sites switches are lines one sent ended = (whole.0, (left, whole.1, all)) where
   left : List Results
   left = map led_of sites
 
   whole : (came : List (List Text)) × IsUncheckedRunOf net given came left × EndedEach net given sites left came × (length came ≡ length sites)
-  whole = is_unchecked_run on order written net given sites left are one sent (all_led sites)
+  whole = is_unchecked_run on order written net given sites left are lines one sent (all_led sites)
 
   all : AreEnded net.tables whole.0 left switches
   all = are_ended net.tables whole.0 left switches (whole.3 ∙ are.are.all) (sym (zip_long HasLed sites left (all_led sites)) ∙ are.are.all) (sym (zip_long HasEnded sites switches ended) ∙ are.are.all)

@@ -1,25 +1,24 @@
 -- All that was given: as texts of the network's ports, over which the run is one of the network.
-use Rattle.std.proofs.Common.{◌≡◌, ◌<◌, ◌≤◌, ◌+◌, ◌*◌, ◌==◌, ℕ, zero, suc, List, [], ◌∷◌, ◌++◌, length, map, filter, get_or, slice_get, Option, Some}
+use Rattle.std.proofs.Common.{◌≡◌, ◌<◌, ◌+◌, ℕ, zero, suc, List, [], ◌∷◌, ◌++◌, length, map, filter, get_or, slice_get, Option, Some}
 use Rattle.std.proofs.Common.{refl, ap, sym, ◌∙◌, arith, subst}
 use Rattle.std.specs.Prelude.{All, Contains, flat_map}
 use Rattle.std.specs.Option.{option_map}
 use Rattle.std.specs.List.{AllByRecursion, AllZip}
-use Rattle.std.proofs.lemmas.Bool.{eq-eqb}
-use Rattle.std.proofs.lemmas.List.{length-map, map-append}
-use Rattle.std.proofs.lemmas.List.Elements.{All-contains}
+use Rattle.std.proofs.lemmas.List.{length-map}
 use Rattle.std.proofs.lemmas.Option.{same_Some, slice_get-map, slice_get_within}
 use Rattle.afdx_pcap.specs.Capture.{IsCapture}
 use Rattle.afdx_table.specs.declared.rows.PortRow.{PortRow}
 use Rattle.afdx_table.specs.Content.{Content}
 use Rattle.afdx_table.specs.WellFormed.{IsWellFormed}
-use Rattle.afdx_merging.specs.Merge.{Arrival, at_place, numbered_from}
+use Rattle.afdx_merging.specs.Merge.{Arrival, numbered_from}
 use Rattle.afdx_merging.specs.Read.{AreRead, AreMerged}
 use Rattle.afdx_session.specs.Texts.{Text}
+use Rattle.afdx_session.specs.Lined.{RecordsKeepToLineWithin}
 use Rattle.afdx_wiring.specs.declared.layout.End.{End}
-use Rattle.afdx_wiring.specs.Net.{Network}
-use Rattle.afdx_network.specs.Runs.{Given}
+use Rattle.afdx_wiring.specs.Net.{Network, stamp_rounding}
+use Rattle.afdx_network.specs.Runs.{Given, KeepTheirLines}
 use Rattle.afdx_network.specs.Given.{is_open, ends_from, open_ends, AreOpen, AreGiven, AreGivenBy}
-use Rattle.afdx_network.specs.Inner.Intake.{same_clock, came_at, AreGivenSoFar}
+use Rattle.afdx_network.specs.Inner.Intake.{same_clock, records_at, AreGivenSoFar, AreOverLines}
 use Rattle.afdx_network.specs.Inner.Sites.{Site, end_at, AreCarried}
 use Rattle.afdx_network.proofs.Feeding.{Unique, fed_of, brought_of, site_of}
 use Rattle.afdx_network.proofs.Arriving.{capture_early}
@@ -126,42 +125,66 @@ split_read P remaining net readers texts s read = record { are = split_given P n
 
 -- ---- each text is the capture of what came in at its port
 
-module _ {R : Type 0} (remaining : R → Option (List ℕ)) (net : Network) (first : List R) (came : List Arrival) (merged : AreMerged remaining (map (λ (e : End). same_clock) (open_ends net)) first came)
-    (formed : AllByRecursion IsWellFormed net.tables) where
+-- what is given for a port is the capture at a place of its own
+abbrev pub IsOfItsPlace : Network → List Arrival → End → List ℕ → Type 0
+IsOfItsPlace net came e text = (place : ℕ) × (slice_get (open_ends net) place ≡ Some e) × IsCapture text (records_at place came)
+
+abbrev pub AreOfTheirPlaces : Network → List Arrival → Given → Type 0
+AreOfTheirPlaces net came given = (n : ℕ) (own : List Text) (text : Text) → slice_get given n ≡ Some own → Contains own text → IsOfItsPlace net came (end_at n text.0) text.1
+
+module _ {R : Type 0} (remaining : R → Option (List ℕ)) (net : Network) (first : List R) (came : List Arrival) (merged : AreMerged remaining (map (λ (e : End). same_clock) (open_ends net)) first came) where
   many : length merged.texts ≡ length (open_ends net)
   many =
       let captures = merged.merge.many in let same = merged.are.many in
       sym same ∙ captures ∙ length-map (open_ends net) (λ (e : End). same_clock)
 
-  abbrev CameAt : End → List ℕ → Type 0
-  CameAt e text = IsCapture text (came_at (open_ends net) came e.switch e.port)
-
-  at_its_place : (k : ℕ) (e : End) (text : List ℕ) → slice_get (open_ends net) k ≡ Some e → slice_get merged.texts k ≡ Some text → CameAt e text
+  at_its_place : (k : ℕ) (e : End) (text : List ℕ) → slice_get (open_ends net) k ≡ Some e → slice_get merged.texts k ≡ Some text → IsOfItsPlace net came e text
   at_its_place k e text is has =
       let rs = there_at merged.captures k (let lt = slice_get_within merged.texts k text has in let same = merged.are.many in omega (arith, lt, same)) in
       let capture = merged.are.each k text rs.0 has rs.1 in
-      let all = merged.merge.each k same_clock rs.0 (slice_get-map (λ (x : End). same_clock) (open_ends net) k ∙ ap (option_map (λ (x : End). same_clock)) is) rs.1 in
-      subst (IsCapture text)
-      (sym (ap (λ n. map (λ (a : Arrival). a.head.frame) (at_place n came)) (first_place (open_ends net) k e (all_apart net 0 net.tables formed) is)
-      ∙ ap (map (λ (a : Arrival). a.head.frame)) all ∙ frames_of k same_clock (numbered_from 1 same_clock rs.0)
-      ∙ numbered_back 1 rs.0 (capture_early text rs.0 capture))) capture
-
-  zip : AllZip CameAt (open_ends net) merged.texts
-  zip = zip_places CameAt (open_ends net) merged.texts many at_its_place
-
-  pub whole : (given : Given) × AreGivenBy remaining net first given × AreGivenSoFar net came given
-  whole =
-      let s = split CameAt net 0 net.tables merged.texts zip in (
-        s.given,
-        split_read CameAt remaining net first merged.texts s merged.read,
-        record {
-          are = split_given CameAt net merged.texts s;
-          each = λ n own text is among.
-              let t = there_at net.tables n (let lt = slice_get_within s.given n own is in let long = s.long in omega (arith, lt, long)) in
-              let there = split_at CameAt net merged.texts s n t.0 t.1 in
-              there.3 text (subst (λ (texts : List Text). Contains texts text) (sym (same_Some there.0 own (sym there.1 ∙ is))) among);
-        },
+      let all = merged.merge.each k same_clock rs.0 (slice_get-map (λ (x : End). same_clock) (open_ends net) k ∙ ap (option_map (λ (x : End). same_clock)) is) rs.1 in (
+        k,
+        is,
+        subst (IsCapture text)
+            (sym (ap (map (λ (a : Arrival). a.head.frame)) all ∙ frames_of k same_clock (numbered_from 1 same_clock rs.0) ∙ numbered_back 1 rs.0 (capture_early text rs.0 capture))) capture,
       )
+
+  pub all_split : IsSplit (IsOfItsPlace net came) net 0 net.tables merged.texts
+  all_split = split (IsOfItsPlace net came) net 0 net.tables merged.texts (zip_places (IsOfItsPlace net came) (open_ends net) merged.texts many at_its_place)
+
+  pub all_given_by : AreGivenBy remaining net first all_split.given
+  all_given_by = split_read (IsOfItsPlace net came) remaining net first merged.texts all_split merged.read
+
+  pub of_places : AreOfTheirPlaces net came all_split.given
+  of_places n own text is among =
+      let t = there_at net.tables n (let lt = slice_get_within all_split.given n own is in let long = all_split.long in omega (arith, lt, long)) in
+      let there = split_at (IsOfItsPlace net came) net merged.texts all_split n t.0 t.1 in
+      there.3 text (subst (λ (texts : List Text). Contains texts text) (sym (same_Some there.0 own (sym there.1 ∙ is))) among)
+
+-- where each port is there once, it is that at the port's place
+by_place : (net : Network) (came : List Arrival) (given : Given) → AllByRecursion IsWellFormed net.tables → AreGiven net given → AreOfTheirPlaces net came given → AreGivenSoFar net came given
+by_place net came given formed are of = record {
+  are = are;
+  each = λ n own text is among.
+      let there = of n own text is among in
+      subst (λ (place : ℕ). IsCapture text.1 (records_at place came)) (sym (first_place (open_ends net) there.0 (end_at n text.0) (all_apart net 0 net.tables formed) there.1)) there.2;
+}
+
+pub whole : {R : Type 0} (remaining : R → Option (List ℕ)) (net : Network) (first : List R) (came : List Arrival)
+    → AreMerged remaining (map (λ (e : End). same_clock) (open_ends net)) first came → AllByRecursion IsWellFormed net.tables
+    → (given : Given) × AreGivenBy remaining net first given × AreGivenSoFar net came given × AreOfTheirPlaces net came given
+whole remaining net first came merged formed =
+    let s = all_split remaining net first came merged in
+    let of = of_places remaining net first came merged in
+    (s.given, all_given_by remaining net first came merged, by_place net came s.given formed (split_given (IsOfItsPlace net came) net merged.texts s) of, of)
+
+-- ---- what was given came over its lines
+
+pub lines_kept : Unique → (net : Network) (given : Given) (came : List Arrival) → AreOfTheirPlaces net came given → AreOverLines net came → KeepTheirLines net given
+lines_kept unique net given came of over said e row records at =
+    let there = of e.switch at.is_given.texts at.text at.is_given.texts_is at.is_given.has in
+    let end : slice_get (open_ends net) there.0 ≡ Some e = subst (λ (port : ℕ). slice_get (open_ends net) there.0 ≡ Some (end_at e.switch port)) at.port there.1 in
+    subst (RecordsKeepToLineWithin stamp_rounding row.speed) (sym (unique at.text.1 records (records_at there.0 came) at.capture there.2)) (over said there.0 e row end at.row_is)
 
 -- ---- other texts of the same captures
 

@@ -1,20 +1,23 @@
 -- What is given for a run of a network, and why there is no run.
-use Rattle.std.specs.Prelude.{◌≡◌, ℕ, ◌+◌, ◌*◌, ◌<◌, ◌≤◌, Bool, not, List, [], ◌∷◌, ◌++◌, length, map, filter, flat_map, take, slice_get, Option, is_some, Some, All, Contains, ◌⊎◌}
+use Rattle.std.specs.Prelude.{◌≡◌, ℕ, ◌+◌, ◌*◌, ◌<◌, ◌≤◌, Bool, true, not, List, [], ◌∷◌, ◌++◌, length, map, filter, flat_map, take, slice_get, Option, is_some, Some, All, Contains, ◌⊎◌}
+use Rattle.afdx_units.specs.declared.line.Speed.{Speed}
 use Rattle.afdx_units.specs.Time.{second, last_second}
 use Rattle.afdx_pcap.specs.declared.fault.PcapFault.{PcapFault}
 use Rattle.afdx_pcap.specs.Record.{Record}
 use Rattle.afdx_pcap.specs.Capture.{IsCapture}
+use Rattle.afdx_table.specs.declared.rows.PortRow.{PortRow}
 use Rattle.afdx_table.specs.Content.{Content}
 use Rattle.afdx_load.specs.Accepted.{IsAccepted}
 use Rattle.afdx_session.specs.Texts.{Text}
 use Rattle.afdx_session.specs.Reading.{IsSound, IsFirstFault}
+use Rattle.afdx_session.specs.Lined.{RecordsKeepToLineWithin}
 use Rattle.afdx_merging.specs.Read.{AreRead}
 use Rattle.afdx_wiring.specs.declared.layout.End.{End}
 use Rattle.afdx_wiring.specs.declared.layout.Wire.{Wire}
-use Rattle.afdx_wiring.specs.Net.{Network, wire_to}
+use Rattle.afdx_wiring.specs.Net.{Network, wire_to, stamp_rounding}
 use Rattle.afdx_network.specs.declared.fault.NetworkRunFault.{NetworkRunFault}
 use Rattle.afdx_network.specs.declared.fault.NetworkRunFault.TheVariants as fault
-use Rattle.afdx_network.specs.Runs.{Given}
+use Rattle.afdx_network.specs.Runs.{Given, AreGivenAt, KeepsItsLine, KeepTheirLines}
 
 -- ---- what has to be given
 
@@ -99,19 +102,39 @@ pub record IsFirstUnsound (given : Given) (switch port : ℕ) (why : PcapFault) 
   pub before : All (All IsSound) (take switch given)
   pub first : IsFirstFault texts port why
 
+-- this record, from 1, is the first that came too soon: those before it came over the line, and with it they did not
+pub record IsBreachAt (speed : Speed) (records : List Record) (number : ℕ) : Type 0 where
+  pub earlier : ℕ
+  pub number_is : number ≡ earlier + 1
+  pub kept : RecordsKeepToLineWithin stamp_rounding speed (take earlier records)
+  pub broken : RecordsKeepToLineWithin stamp_rounding speed (take number records) → ⊥
+
+-- the file says that end systems have one line each, and this is the first port of which it is not so, by switch and then by port, and the
+-- first record there that came too soon
+pub record IsFirstBreach (net : Network) (given : Given) (switch port number : ℕ) : Type 0 where
+  pub said : net.layout.one_line ≡ true
+  pub place : ℕ
+  pub end_is : slice_get (open_ends net) place ≡ Some (record { switch = switch; port = port })
+  pub before : All (KeepsItsLine net given) (take place (open_ends net))
+  pub row : PortRow
+  pub records : List Record
+  pub are : AreGivenAt net given (record { switch = switch; port = port }) row records
+  pub breach : IsBreachAt row.speed records number
+
 -- a wire goes to the port
 pub record IsWired (net : Network) (switch port : ℕ) : Type 0 where
   pub wire : Wire
   pub wire_is : wire_to net (record { switch = switch; port = port }) ≡ Some wire
 
--- why there is no run over these captures: one is none, or all are and what comes over a wire is none, which cannot be where this holds;
--- two wires go to one port. Memory may run out at any time, and that a reader failed says nothing of what was given
+-- why there is no run over these captures: one is none; all are, and one did not come over one line, as the file says; or they did, and what
+-- comes over a wire is none, which cannot be where this holds, or two wires go to one port. Memory may run out at any time, and that a reader failed says nothing of what was given
 abbrev pub IsRefusalUnless : Type 0 → Network → Given → NetworkRunFault → Type 0
 IsRefusalUnless none_late net given fault.Memory = Unit {0}
 IsRefusalUnless none_late net given (fault.Read place) = ⊥
 IsRefusalUnless none_late net given (fault.Capture switch port why) =
-    AreGiven net given × (IsFirstUnsound given switch port why ⊎ (AreSound given × IsWired net switch port × (none_late → ⊥)))
-IsRefusalUnless none_late net given fault.WrongWires = AreGiven net given × AreSound given × (NoneShareAPort net → ⊥)
+    AreGiven net given × (IsFirstUnsound given switch port why ⊎ (AreSound given × KeepTheirLines net given × IsWired net switch port × (none_late → ⊥)))
+IsRefusalUnless none_late net given fault.WrongWires = AreGiven net given × AreSound given × KeepTheirLines net given × (NoneShareAPort net → ⊥)
+IsRefusalUnless none_late net given (fault.Line switch port number) = AreGiven net given × AreSound given × IsFirstBreach net given switch port number
 
 -- of a network whose loads are accepted: no frame is late where none can be
 abbrev pub IsRefusal : Network → Given → NetworkRunFault → Type 0
@@ -134,3 +157,4 @@ IsWireFault net fault.Memory = Unit {0}
 IsWireFault net (fault.Read place) = ⊥
 IsWireFault net (fault.Capture switch port why) = IsWired net switch port
 IsWireFault net fault.WrongWires = ⊥
+IsWireFault net (fault.Line switch port number) = ⊥

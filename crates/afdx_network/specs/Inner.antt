@@ -1,4 +1,5 @@
 pub mod Intake
+pub mod OneLine
 pub mod Outputs
 pub mod Sites
 pub mod Windows

@@ -1,6 +1,6 @@
 -- Stages of a way whose bounds are those of lesser bursts: where frames at some of a switch's ports come one after the other, as they
 -- do where a wire goes.
-use Rattle.std.specs.Prelude.{◌≡◌, ℕ, Bool, true, List, map, Some, Contains}
+use Rattle.std.specs.Prelude.{◌≡◌, ℕ, true, List, map, Option, Some, Contains}
 use Rattle.afdx_table.specs.declared.rows.PortRow.{PortRow}
 use Rattle.afdx_table.specs.Link.{Link, leads_to}
 use Rattle.afdx_table.specs.Content.{Content}
@@ -23,7 +23,7 @@ node_after t read = record { table = t; read = read; out = output_of t (merged r
 -- a stage there, with the bound of lesser bursts that are enough for the lines of its port
 abbrev pub LinedStages : Type 0
 LinedStages = (t : Content) (texts : List Text) (results : Results) → IsWellFormed t → IsAccepted t → (outcome : IsOutcome t texts results)
-    → (lined : ℕ → Bool) → CapturesKeepToLines t outcome.read lined → (p : PortRow) → Contains t.ports p → (burst high_burst : ℕ) → AreLesser t p lined burst high_burst
+    → (rounding_at : ℕ → Option ℕ) → CapturesKeepToLines t outcome.read rounding_at → (p : PortRow) → Contains t.ports p → (burst high_burst : ℕ) → AreLesser t p rounding_at burst high_burst
     → (l : Link) → Contains t.links l → leads_to p.id l ≡ true → (bound : ℕ) → bound_of (lesser (load_of t.latency p.speed p.id t.links) burst high_burst) l.priority ≡ Some bound
     → IsStage (record { node = node_after t outcome.read; link = l; port = p; least = t.latency; bound = bound })
 

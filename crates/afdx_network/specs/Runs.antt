@@ -3,15 +3,17 @@ use Rattle.std.specs.Prelude.{◌≡◌, ℕ, true, false, List, [], ◌∷◌, 
 use Rattle.afdx_pcap.specs.Record.{Record}
 use Rattle.afdx_pcap.specs.Text.{capture_text}
 use Rattle.afdx_pcap.specs.Capture.{IsCapture}
+use Rattle.afdx_table.specs.declared.rows.PortRow.{PortRow}
 use Rattle.afdx_table.specs.Content.{Content}
 use Rattle.afdx_core.specs.Merge.{merged}
 use Rattle.afdx_session.specs.Texts.{Text}
 use Rattle.afdx_session.specs.Output.{output_of}
 use Rattle.afdx_session.specs.Outcome.{Results, IsOutcome}
 use Rattle.afdx_session.specs.Headline.{IsIsolated}
+use Rattle.afdx_session.specs.Lined.{RecordsKeepToLineWithin}
 use Rattle.afdx_wiring.specs.declared.layout.Wire.{Wire}
 use Rattle.afdx_wiring.specs.declared.layout.End.{End}
-use Rattle.afdx_wiring.specs.Net.{Network, wire_to}
+use Rattle.afdx_wiring.specs.Net.{Network, port_at, wire_to, stamp_rounding}
 use Rattle.afdx_network.specs.Way.{delayed}
 
 -- the headline is of the records that were read and of the outputs
@@ -63,9 +65,27 @@ pub record IsFedBy (net : Network) (given : Given) (left : List Results) (came :
   pub others : (e : End) (texts : List Text) (text : Text) → wire_to net e ≡ None → slice_get came e.switch ≡ Some texts
       → text.0 ≡ e.port → Contains texts text → IsGiven given e.switch text
 
--- the texts that came in at each switch are those that the runs lead to
+-- these are the records of what was given for a port without a wire
+pub record AreGivenAt (net : Network) (given : Given) (e : End) (row : PortRow) (records : List Record) : Type 0 where
+  pub row_is : port_at net e ≡ Some row
+  pub no_wire : wire_to net e ≡ None
+  pub text : Text
+  pub is_given : IsGiven given e.switch text
+  pub port : text.0 ≡ e.port
+  pub capture : IsCapture text.1 records
+
+-- they came over one line, by stamps that may be rounded down
+abbrev pub KeepsItsLine : Network → Given → End → Type 0
+KeepsItsLine net given e = (row : PortRow) (records : List Record) → AreGivenAt net given e row records → RecordsKeepToLineWithin stamp_rounding row.speed records
+
+-- profile: so all did, where the network file says that end systems have one line each
+abbrev pub KeepTheirLines : Network → Given → Type 0
+KeepTheirLines net given = net.layout.one_line ≡ true → (e : End) → KeepsItsLine net given e
+
+-- the texts that came in at each switch are those that the runs lead to, and what was given is as the file says
 pub record IsNetworkRun (net : Network) (given : Given) (runs : List SwitchRun) : Type 0 where
   pub tables : map (λ (run : SwitchRun). run.table) runs ≡ net.tables
+  pub lines : KeepTheirLines net given
   pub fed : IsFedBy net given (map (λ (run : SwitchRun). run.results) runs) (map (λ (run : SwitchRun). run.texts) runs)
 
 -- each table was run over what came in at its switch, and led to this
@@ -81,9 +101,10 @@ AreOutcomes [] [] [] = Unit {0}
 AreOutcomes (t ∷ tables) (texts ∷ came) (results ∷ left) = IsOutcome t texts results × AreOutcomes tables came left
 AreOutcomes _ _ _ = ⊥
 
--- what came in at the switches and what left them agrees with the wires
+-- what came in at the switches and what left them agrees with the wires, and what was given is as the file says
 pub record IsUncheckedRunOf (net : Network) (given : Given) (came : List (List Text)) (left : List Results) : Type 0 where
   pub outcomes : AreOutcomes net.tables came left
+  pub lines : KeepTheirLines net given
   pub fed : IsFedBy net given left came
 
 -- what came in at the switches and what left them is a run of the network

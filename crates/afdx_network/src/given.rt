@@ -12,7 +12,7 @@ use afdx_wiring::{End, Network, Wire};
 use std::alloc::{AllocError, Global};
 
 /// Tells whether no wire goes to this port of the switch at this place, so that its capture is one of those that are given. O(wires).
-fn is_open(network: &Network, switch: usize, port: u8) -> bool
+pub(crate) fn is_open(network: &Network, switch: usize, port: u8) -> bool
     ensures { result ≡ is_open network.now switch port }
 {
     network.wire_to(End { switch, port }).is_none()

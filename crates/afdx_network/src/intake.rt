@@ -4,10 +4,12 @@ ghost use Rattle.std.specs.Prelude.{◌≡◌, ◌++◌, [], List, None, length,
 ghost use Rattle.afdx_merging.specs.Merge.{Arrival as Came};
 ghost use Rattle.afdx_wiring.specs.Net.{Network as Net};
 ghost use Rattle.afdx_network.specs.Given.{open_ends};
-ghost use Rattle.afdx_network.specs.Inner.Intake.{same_clock, HasTaken, next_of, IsNextIn, HasTakenAll, IsAmong, IsFaultAt, IsIntakeFault};
+ghost use Rattle.afdx_network.specs.Inner.Intake.{same_clock, HasTaken, next_of, IsNextIn, HasTakenAll, AreMet, AreOverLines, IsLineFault, IsAmong, IsFaultAt, IsIntakeFault};
 
 use crate::fault::NetworkRunFault;
 use crate::given::open_ends;
+use crate::line::Line;
+use crate::one_line::{first_breach, given_lines, meet};
 use afdx_merging::{Clock, MergeFault, Merging};
 use afdx_pcap::Record;
 use afdx_units::Stamp;
@@ -15,10 +17,12 @@ use afdx_wiring::{End, Network};
 use std::alloc::{AllocError, Global};
 use std::io::Read;
 
-/// The captures that are given, of each of which the next record is at hand, and the port of each.
+/// The captures that are given, of each of which the next record is at hand; the port of each, and its line where the network file says
+/// that end systems have one.
 #[derive(Drop)]
 pub(crate) struct Intake {
     pub(crate) ends: Vec<End>,
+    pub(crate) lines: Vec<Line>,
     pub(crate) merging: Merging<Global>,
 }
 
@@ -69,9 +73,14 @@ impl Intake {
         ensures err { IfErr result (IsIntakeFault R.remaining network.now readers.old) }
     {
         let ends = open_ends(alloc, network)?;
+        let lines = given_lines(alloc, network)?;
         let clocks = clocks_of(alloc, &ends)?;
         match Merging::open(alloc, &clocks, readers) {
-            Ok(merging) => Ok(Intake { ends, merging }),
+            Ok(merging) => Ok(Intake {
+                ends,
+                lines,
+                merging,
+            }),
             Err(fault) => Err(fault_at(&ends, fault)),
         }
     }
@@ -105,6 +114,7 @@ impl Intake {
         match self.merging.next(readers) {
             Ok(Some(arrival)) => {
                 let to = self.ends[arrival.place];
+                meet(&mut self.lines, &arrival);
                 let frame = arrival.head.into_frame(alloc)?;
                 Ok(Some((to, frame)))
             }
@@ -113,9 +123,29 @@ impl Intake {
         }
     }
 
+    /// `Line` with the first port to which records came too soon for its line, and the first one that did. O(captures).
+    fn check_lines(&self) -> Result<(), NetworkRunFault>
+        requires { (net : Net) × (came : List Came) × (self.now.ends.items ≡ open_ends net) × AreMet net self.now.lines.items came }
+        ensures ok { OnOk result ((net : Net) (came : List Came) → AreMet net self.now.lines.items came → AreOverLines net came) }
+        ensures err { IfErr result (λ why. (net : Net) (came : List Came) → self.now.ends.items ≡ open_ends net → AreMet net self.now.lines.items came → IsLineFault net came why) }
+    {
+        match first_breach(&self.lines) {
+            Some((place, number)) => {
+                let end = self.ends[place];
+                Err(NetworkRunFault::Line(end.switch, end.port, number))
+            }
+            None => Ok(()),
+        }
+    }
+
     /// Reads all captures on to their ends.
     ///
-    /// The errors are those of [`Intake::next`]. O(what is left of them), and O(captures) for each record.
+    /// # Errors
+    ///
+    /// Those of [`Intake::next`]; where all are captures, `Line` where the network file says that end systems have one line each, with the
+    /// first port whose records did not come over one, and the first record there that came too soon.
+    ///
+    /// O(what is left of them), and O(captures) for each record.
     pub(crate) fn end<R: Read>(mut self, readers: &mut [R]) -> Result<(), NetworkRunFault>
         requires { (net : Net) × (first : List R) × (came : List Came) × HasTaken R.remaining net first readers.old self came }
         ensures ok { OnOk result ((net : Net) (first : List R) (came : List Came) → HasTaken R.remaining net first readers.old self came
@@ -125,8 +155,8 @@ impl Intake {
     {
         for _record in 0..u64::MAX {
             match self.merging.next(readers) {
-                Ok(Some(_arrival)) => {}
-                Ok(None) => return Ok(()),
+                Ok(Some(arrival)) => meet(&mut self.lines, &arrival),
+                Ok(None) => return self.check_lines(),
                 Err(fault) => return Err(fault_at(&self.ends, fault)),
             }
         }

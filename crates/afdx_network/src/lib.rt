@@ -31,6 +31,8 @@ mod fault;
 mod given;
 mod intake;
 pub mod laws;
+mod line;
+mod one_line;
 mod outage;
 mod output;
 mod running;

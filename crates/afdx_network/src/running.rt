@@ -101,10 +101,12 @@ pub(crate) fn run_through<R: Read, F: NewFile>(
 /// The first that holds, in this order:
 ///
 /// - `Read` with the place of the first reader that fails.
-/// - `Capture` of the first text that is given and is no capture, by switch and then by port, with its first fault; else of the first
-///   record, in the order in which they are carried, that comes over a wire in the last second that pcap can hold. That cannot be
-///   where the loads are accepted, the wires have an order, each takes at most a millisecond, and no given frame came in the last 64
-///   seconds that a stamp can hold.
+/// - `Capture` of the first text that is given and is no capture, by switch and then by port, with its first fault.
+/// - `Line` where the network file says that end systems have one line each: of the first port, by switch and then by port, whose records
+///   did not come one after the other, by stamps that may be rounded down, with the number of the first one that came too soon.
+/// - `Capture` of the first record, in the order in which they are carried, that comes over a wire in the last second that pcap can hold.
+///   That cannot be where the loads are accepted, the wires have an order, each takes at most a millisecond, and no given frame came in the
+///   last 64 seconds that a stamp can hold.
 /// - `WrongWires` where two wires go to one port; a file with such wires is not read.
 ///
 /// So that this is the first, all captures are read on to their ends then; none is read twice. `Memory` where memory ran out, at any time.

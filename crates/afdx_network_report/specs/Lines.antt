@@ -53,10 +53,14 @@ greatest_text names w = codes "greatest " ++ decimal w.delays.most ++ codes " li
 abbrev pub lost_text : Names → Way → List ℕ
 lost_text names w = codes "link " ++ decimal w.link ++ codes " to " ++ end_text names (last_end w) ++ codes " none"
 
+-- that it rests on what the network file says of end systems' lines
+abbrev pub premise_text : (one_line : Bool) → List ℕ
+premise_text one_line = if one_line then as_line (codes "premise one_line") else []
+
 -- what is reported of an accepted network of these ways, and of those over which nothing comes
-abbrev pub accepted_text : Names → (ways lost : List Way) → List ℕ
-accepted_text names ways lost =
-    flat_map (λ name. as_line (codes "switch " ++ name ++ codes " accepted")) names ++ flat_map (λ w. as_line (way_text names w)) ways
+abbrev pub accepted_text : Names → (one_line : Bool) → (ways lost : List Way) → List ℕ
+accepted_text names one_line ways lost =
+    flat_map (λ name. as_line (codes "switch " ++ name ++ codes " accepted")) names ++ premise_text one_line ++ flat_map (λ w. as_line (way_text names w)) ways
     ++ flat_map (λ w. as_line (lost_text names w)) lost ++ option_map_or (λ w. as_line (greatest_text names w)) (greatest_of ways) [] ++ as_line (codes "accepted")
 
 -- ---- jitters

@@ -2,7 +2,7 @@
 
 ghost use Rattle.std.specs.Prelude.{◌≡◌, ◌++◌, codes, map, flat_map, option_copied, string_bytes, IfOk, OnOk};
 ghost use Rattle.afdx_wiring.specs.Lines.{as_line};
-ghost use Rattle.afdx_network_report.specs.Lines.{last_end, numbers_text, way_text, lost_text, longest, greatest_of, greatest_text, accepted_text};
+ghost use Rattle.afdx_network_report.specs.Lines.{last_end, numbers_text, way_text, lost_text, premise_text, longest, greatest_of, greatest_text, accepted_text};
 
 use crate::ends::{put_end, put_ends};
 use afdx_wiring::{End, Way};
@@ -88,6 +88,16 @@ fn put_switches(text: &mut String, names: &[String]) -> Result<(), AllocError>
     Ok(())
 }
 
+/// Appends the line of what is said of end systems, if anything is.
+fn put_premise(text: &mut String, one_line: bool) -> Result<(), AllocError>
+    ensures { OnOk result (string_bytes text.new ≡ string_bytes text.old ++ premise_text one_line) }
+{
+    if one_line {
+        text.push_str("premise one_line\n")?;
+    }
+    Ok(())
+}
+
 /// The most that any of the ways may take.
 fn longest(ways: &[Way]) -> u64
     ensures { result ≡ longest ways.now }
@@ -117,21 +127,23 @@ fn put_greatest(text: &mut String, names: &[String], way: &Way) -> Result<(), Al
     text.push_str("\n")
 }
 
-/// What is reported of an accepted network, of switches of these names and of these ways: a line for each switch, one for each
-/// way, one for each way over which nothing comes, the first of the others that may take as long as any, where there is one, and
-/// that the network is accepted.
+/// What is reported of an accepted network, of switches of these names and of these ways: a line for each switch, one where it rests on
+/// the premise that end systems have one line each, one for each way, one for each way over which nothing comes, the first of the others
+/// that may take as long as any, where there is one, and that the network is accepted.
 ///
 /// An error says that memory ran out. O(text).
 pub fn accepted_text(
     alloc: Global,
     names: &[String],
+    one_line: bool,
     ways: &[Way],
     lost: &[Way],
 ) -> Result<String, AllocError>
-    ensures { IfOk result (λ text. string_bytes text ≡ accepted_text (map string_bytes names.now) ways.now lost.now) }
+    ensures { IfOk result (λ text. string_bytes text ≡ accepted_text (map string_bytes names.now) one_line ways.now lost.now) }
 {
     let mut text = String::new(alloc);
     put_switches(&mut text, names)?;
+    put_premise(&mut text, one_line)?;
     put_ways(&mut text, names, ways)?;
     put_all_lost(&mut text, names, lost)?;
     if let Some(way) = greatest_of(ways) {

@@ -13,7 +13,7 @@
 //! for name in ["A", "B"] {
 //!     names.push(String::from_str(rt.alloc(), name)?)?;
 //! }
-//! let text = accepted_text(rt.alloc(), &names, &ways, &[])?;
+//! let text = accepted_text(rt.alloc(), &names, false, &ways, &[])?;
 //! assert!(rt; text.as_str().starts_with(FIRST_LINES));
 //! ```
 #![tactic(auto)]

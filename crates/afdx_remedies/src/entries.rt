@@ -1,7 +1,7 @@
 //! What MESSAGES says of each code. `docs/develop/remedies.py` writes this file; change docs/use/MESSAGES.md instead.
 
 /// The codes in the order of the page, each with its entry.
-pub(crate) const ENTRIES: [(&str, &str); 44] = [
+pub(crate) const ENTRIES: [(&str, &str); 45] = [
     (
         "usage",
         "usage: no command, an argument or option that is missing, unknown or given twice
@@ -287,6 +287,17 @@ Remedy: set `jitter_us` of the link in this switch's table to at least `need`;
 table can have; each such row of the turn in which the first one came to need so
 much
 Remedy: smaller frames, longer gaps, fewer links on one cable, faster lines
+",
+    ),
+    (
+        "R2",
+        "R2 Line: (`network run`, `measure`, `survey`, `trace`) the network file has
+`one_line = true`, and this record, counted from 1, came sooner after those
+before it than a line of the port's speed can have brought it, even if each
+stamp lacks up to 999 ns; nothing was put
+Remedy: two lines or both directions in one capture, or clocks of two recorders:
+one capture for each port; stamps have to be of the frames' ends, and no coarser
+than a microsecond; or no `one_line`, with larger bounds
 ",
     ),
     (

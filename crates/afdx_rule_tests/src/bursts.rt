@@ -28,40 +28,51 @@ fn table_of(alloc: Global, mbit: u32, links: &[Link]) -> Result<Table, Fail> {
     Ok(table)
 }
 
-/// The bursts of port 2, where frames come one after the other over the line of port 1, and over that of port 3, and where latencies
-/// differ by so many nanoseconds; none past 100,000.
-fn bursts(table: &Table, first: bool, third: bool, scatter: u64) -> Option<(u128, u128)> {
+/// Frames come one after the other, by exact stamps.
+const EXACT: Option<u16> = Some(0);
+
+/// They do by stamps of whole microseconds.
+const ROUNDED: Option<u16> = Some(999);
+
+/// The bursts of port 2, where this is known of the lines of ports 1 and 3, and where latencies differ by so many nanoseconds; none past
+/// 100,000.
+fn bursts(
+    table: &Table,
+    first: Option<u16>,
+    third: Option<u16>,
+    scatter: u64,
+) -> Option<(u128, u128)> {
     if scatter > 100_000 {
         return None;
     }
     // example of afdx_grouping
-    let mut lined = [false; PLACES];
-    lined[1] = first;
-    lined[3] = third;
+    let mut roundings = [None; PLACES];
+    roundings[1] = first;
+    roundings[3] = third;
     let row = table.port(2)?;
-    let bursts = lesser_bursts(table, &lined, scatter, row);
+    let bursts = lesser_bursts(table, &roundings, scatter, row);
     Some((bursts.all, bursts.high))
     // end of example
 }
 
-/// Mbit/s of port 1, links, over which lines frames come one after the other, and the two bursts.
-const WORKED: &[(u32, &[Link], [bool; 2], (u128, u128))] = &[
+/// Mbit/s of port 1, links, what is known of the lines of ports 1 and 3, and the two bursts.
+const WORKED: &[(u32, &[Link], [Option<u16>; 2], (u128, u128))] = &[
     // no line is known: twice 326,430,720,000,000
-    (100, &[LOW, OTHER], [false, true], (652_861_440_000_000, 0)),
+    (100, &[LOW, OTHER], [None, EXACT], (652_861_440_000_000, 0)),
     // one line as fast as the port's brings no more than its first frame, 123,040 * 2,048,000,000
-    (100, &[LOW, OTHER], [true, false], (251_985_920_000_000, 0)),
+    (100, &[LOW, OTHER], [EXACT, None], (251_985_920_000_000, 0)),
     // so does one of 10 Mbit/s: its frame takes 1,230,400 ns there, each worth 204,800,000 parts here
-    (10, &[LOW, OTHER], [true, false], (251_985_920_000_000, 0)),
+    (10, &[LOW, OTHER], [EXACT, None], (251_985_920_000_000, 0)),
     // one of 1000 Mbit/s brings 20,480,000,000 parts in a nanosecond for 20,218 ns; then both accounts give
     // 652,861,440 in each: at 20,219 ns 652,861,440,000,000 - 20,219 * 1,395,138,560
-    (1000, &[LOW, OTHER], [true, false], (624_653_133_455_360, 0)),
+    (1000, &[LOW, OTHER], [EXACT, None], (624_653_133_455_360, 0)),
     // two lines bring two frames, and gain until 43,242 ns; at 43,243 ns 652,861,440,000,000 - 43,243 * 1,395,138,560
-    (100, &[LOW, THIRD], [true, true], (592_531_463_249_920, 0)),
+    (100, &[LOW, THIRD], [EXACT, EXACT], (592_531_463_249_920, 0)),
     // beside the first frame of all the burst of the high link is counted: 326,430,720,000,000
     (
         100,
         &[LOW, HIGH],
-        [true, false],
+        [EXACT, None],
         (578_416_640_000_000, 251_985_920_000_000),
     ),
     // by bytes and by frames over the line for 222,124 ns, the high link beside it at once:
@@ -69,19 +80,42 @@ const WORKED: &[(u32, &[Link], [bool; 2], (u128, u128))] = &[
     (
         100,
         &[LOW, FRAMED, THIRD_HIGH],
-        [true, false],
+        [EXACT, None],
         (650_924_737_249_280, 326_430_720_000_000),
     ),
     // no link, no burst
-    (100, &[], [true, true], (0, 0)),
+    (100, &[], [EXACT, EXACT], (0, 0)),
+    // where stamps may lack 999 ns, the first frame has come so much sooner: 124,039 * 2,048,000,000
+    (
+        100,
+        &[LOW, OTHER],
+        [ROUNDED, None],
+        (254_031_872_000_000, 0),
+    ),
+    // 1,231,399 * 204,800,000
+    (10, &[LOW, OTHER], [ROUNDED, None], (252_190_515_200_000, 0)),
+    // until 19,186 ns; at 19,187 ns 652,861,440,000,000 - 19,187 * 1,395,138,560
+    (
+        1000,
+        &[LOW, OTHER],
+        [ROUNDED, None],
+        (626_092_916_449_280, 0),
+    ),
+    // both bursts have them
+    (
+        100,
+        &[LOW, HIGH],
+        [ROUNDED, None],
+        (580_462_592_000_000, 254_031_872_000_000),
+    ),
 ];
 
 #[test]
 fn worked_bursts(rt: HostRuntime) -> Result<(), Fail> {
-    for (mbit, links, lined, want) in WORKED {
+    for (mbit, links, known, want) in WORKED {
         let table = table_of(rt.alloc(), *mbit, links)?;
         assert_eq!(rt;
-            bursts(&table, lined[0], lined[1], 0),
+            bursts(&table, known[0], known[1], 0),
             Some(*want),
             "{}",
             want.0
@@ -90,37 +124,37 @@ fn worked_bursts(rt: HostRuntime) -> Result<(), Fail> {
     Ok(())
 }
 
-/// Nanoseconds by which latencies differ, links, over which lines frames come one after the other, and the two bursts.
-const SCATTERED: &[(u64, &[Link], [bool; 2], (u128, u128))] = &[
+/// Nanoseconds by which latencies differ, links, what is known of the lines of ports 1 and 3, and the two bursts.
+const SCATTERED: &[(u64, &[Link], [Option<u16>; 2], (u128, u128))] = &[
     // the links ask for twice 326,430,720 * 1,100,000
     (
         100_000,
         &[LOW, OTHER],
-        [false, false],
+        [None, None],
         (718_147_584_000_000, 0),
     ),
     // the line brings its first frame and 50,000 ns, 173,040 * 2,048,000,000
     (
         50_000,
         &[LOW, OTHER],
-        [true, false],
+        [EXACT, None],
         (354_385_920_000_000, 0),
     ),
     // beside it the burst of the high link, 326,430,720,000,000; that alone asks for 326,430,720 * 1,050,000
     (
         50_000,
         &[LOW, HIGH],
-        [true, false],
+        [EXACT, None],
         (680_816_640_000_000, 342_752_256_000_000),
     ),
 ];
 
 #[test]
 fn scattered_bursts(rt: HostRuntime) -> Result<(), Fail> {
-    for (scatter, links, lined, want) in SCATTERED {
+    for (scatter, links, known, want) in SCATTERED {
         let table = table_of(rt.alloc(), 100, links)?;
         assert_eq!(rt;
-            bursts(&table, lined[0], lined[1], *scatter),
+            bursts(&table, known[0], known[1], *scatter),
             Some(*want),
             "{}",
             want.0

@@ -287,7 +287,7 @@ fn ways_are_reported(rt: HostRuntime) -> Result<(), Fail> {
     for name in ["A", "B"] {
         names.push(String::from_str(rt.alloc(), name)?)?;
     }
-    let text = accepted_text(rt.alloc(), &names, &ways, &[])?;
+    let text = accepted_text(rt.alloc(), &names, false, &ways, &[])?;
     assert!(rt; text.as_str().starts_with(FIRST_LINES));
     // end of example
     Ok(())

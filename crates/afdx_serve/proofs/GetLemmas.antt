@@ -111,6 +111,7 @@ stops_at_table (failure.Network (network.Table r n)) refusal switches texts i d 
 stops_at_table (failure.Network (network.Refused e name)) refusal switches texts i d tables in_texts within are is h = absurd h
 stops_at_table (failure.Network (network.Capture p e name)) refusal switches texts i d tables in_texts within are is h = absurd h
 stops_at_table (failure.Network (network.Rows rule shorts names)) refusal switches texts i d tables in_texts within are is h = absurd h
+stops_at_table (failure.Network (network.Line p number name)) refusal switches texts i d tables in_texts within are is h = absurd h
 stops_at_table failure.Memory refusal switches texts i d tables in_texts within are is h = tt
 stops_at_table failure.Found refusal switches texts i d tables in_texts within are is h = absurd h
 stops_at_table failure.Usage refusal switches texts i d tables in_texts within are is h = absurd h
@@ -140,6 +141,7 @@ not_joined_before (failure.Network (network.Refused e name)) a b path l before a
     ((h.0.0, h.0.1, has_before a b path l.switches h.0.0 keeps h.0.2, h.0.3, h.0.4), h.1, h.2)
 not_joined_before (failure.Network (network.Capture p e name)) a b path l before after keeps h = absurd h
 not_joined_before (failure.Network (network.Rows rule shorts names)) a b path l before after keeps h = absurd h
+not_joined_before (failure.Network (network.Line p number name)) a b path l before after keeps h = absurd h
 not_joined_before (failure.Get s) a b path l before after keeps h = (gets_before (string_bytes s) a b path l.switches keeps h.0, h.1)
 not_joined_before failure.Memory a b path l before after keeps h = tt
 not_joined_before failure.Found a b path l before after keeps h = absurd h

@@ -43,7 +43,7 @@ use Rattle.afdx_csv.specs.declared.form.Form.{Form}
 use Rattle.afdx_serve.specs.Serving.{world, PutsNetwork, FailsToRunNetwork}
 use Rattle.afdx_serve.specs.declared.network_plan.NetworkPlan.{NetworkPlan}
 use Rattle.afdx_serve.specs.declared.network_plan.NetworkPlan.TheVariants.{Unchecked, Accepted}
-use Rattle.afdx_serve.specs.Inner.NetworkRunning.{network_in, is_accepted, end_names, AreOpenedEnds, HasRun, LeadsFrom, IsCaptureFailure}
+use Rattle.afdx_serve.specs.Inner.NetworkRunning.{network_in, is_accepted, end_names, AreOpenedEnds, HasRun, LeadsFrom, IsCaptureFailure, IsLineFailure}
 use Rattle.afdx_serve.proofs.CaptureLemmas.{StopsAt-before, EndsAt-before}
 use Rattle.afdx_serve.proofs.GivenLemmas.{open_named, left_named, gave, not_got_named, not_got_given}
 use Rattle.afdx_serve.proofs.LeadLemmas.{opened_shown}
@@ -273,6 +273,7 @@ fault_given remaining (failure.Network (network.Capture at reason name)) files p
     ((found.0, switch, found.1, there, is.2), same)
 fault_given remaining failure.Memory files path net names all switch port why before after tables opened fault is same = tt
 fault_given remaining (failure.Network (network.Rows rule shorts name)) files path net names all switch port why before after tables opened fault is same = absurd is
+fault_given remaining (failure.Network (network.Line at number name)) files path net names all switch port why before after tables opened fault is same = absurd is
 fault_given remaining (failure.Network (network.Refused r name)) files path net names all switch port why before after tables opened fault is same = absurd is
 fault_given remaining (failure.Network (network.Table r name)) files path net names all switch port why before after tables opened fault is same = absurd is
 fault_given remaining failure.Found files path net names all switch port why before after tables opened fault is same = absurd is
@@ -287,13 +288,43 @@ fault_given remaining (failure.Put s) files path net names all switch port why b
 fault_given remaining failure.Read files path net names all switch port why before after tables opened fault is same = absurd is
 fault_given remaining failure.Write files path net names all switch port why before after tables opened fault is same = absurd is
 
+-- what they give did not come over one line
+pub line_given : {R : Type 0} (remaining : R → Option (List ℕ)) (f : Failure) (files : Option Files) (path : List ℕ) (net : Network) (names : List (List ℕ)) (all : List (Incoming R))
+    (switch port : ℕ)
+    (number : ℕ) (before after : DeviceLog) → length net.tables ≡ length net.layout.switches → AreOpenedEnds remaining files path net names all
+    → IsFaultOver (coming remaining) net all (IsUncheckedRefusal net) (run.Line switch port number) → IsLineFailure (names_of net.layout.switches) switch port number f → after ≡ before
+    → FailsToGetGiven f files path net before after
+line_given remaining (failure.Network (network.Line at which name)) files path net names all switch port number before after tables opened fault is same =
+    let found = gave remaining files path net names all fault.0 (length-map net.layout.switches (λ (s : Switch). s.name) ∙ sym tables) opened fault.1 in
+    let refused = subst (λ (given : Given). IsUncheckedRefusal net given (run.Line switch port number)) (sym found.3) fault.2 in
+    let here = subst (λ (p : ℕ). IsUncheckedRefusal net (given_up net.layout found.0) (run.Line switch p number)) (sym is.0) refused in
+    let there = subst (λ (k : ℕ). IsUncheckedRefusal net (given_up net.layout found.0) (run.Line switch at k)) (sym is.1) here in
+    ((found.0, switch, found.1, there, is.2), same)
+line_given remaining failure.Memory files path net names all switch port number before after tables opened fault is same = tt
+line_given remaining (failure.Network (network.Rows rule shorts name)) files path net names all switch port number before after tables opened fault is same = absurd is
+line_given remaining (failure.Network (network.Capture at reason name)) files path net names all switch port number before after tables opened fault is same = absurd is
+line_given remaining (failure.Network (network.Refused r name)) files path net names all switch port number before after tables opened fault is same = absurd is
+line_given remaining (failure.Network (network.Table r name)) files path net names all switch port number before after tables opened fault is same = absurd is
+line_given remaining failure.Found files path net names all switch port number before after tables opened fault is same = absurd is
+line_given remaining failure.Usage files path net names all switch port number before after tables opened fault is same = absurd is
+line_given remaining (failure.Table r) files path net names all switch port number before after tables opened fault is same = absurd is
+line_given remaining (failure.Load r) files path net names all switch port number before after tables opened fault is same = absurd is
+line_given remaining (failure.Capture r) files path net names all switch port number before after tables opened fault is same = absurd is
+line_given remaining (failure.PortCapture p r) files path net names all switch port number before after tables opened fault is same = absurd is
+line_given remaining (failure.OutputCapture p r) files path net names all switch port number before after tables opened fault is same = absurd is
+line_given remaining (failure.Get s) files path net names all switch port number before after tables opened fault is same = absurd is
+line_given remaining (failure.Put s) files path net names all switch port number before after tables opened fault is same = absurd is
+line_given remaining failure.Read files path net names all switch port number before after tables opened fault is same = absurd is
+line_given remaining failure.Write files path net names all switch port number before after tables opened fault is same = absurd is
+
 -- no two wires go to one port, so that it is not why
 pub never_wrong : {R : Type 0} (remaining : R → Option (List ℕ)) (net : Network) (readers : List R) (why : NetworkRunFault) → NoneShareAPort net
     → IsFaultOver remaining net readers (IsUncheckedRefusal net) why → why ≢ run.WrongWires
-never_wrong remaining net readers run.WrongWires one_each fault = λ is. fault.2.2 one_each
+never_wrong remaining net readers run.WrongWires one_each fault = λ is. fault.2.3 one_each
 never_wrong remaining net readers run.Memory one_each fault = λ is. absurd cc
 never_wrong remaining net readers (run.Read place) one_each fault = λ is. absurd cc
 never_wrong remaining net readers (run.Capture switch port why) one_each fault = λ is. absurd cc
+never_wrong remaining net readers (run.Line switch port number) one_each fault = λ is. absurd cc
 
 -- why there is no run of an accepted network is why there is none of any
 looser : {R : Type 0} (remaining : R → Option (List ℕ)) (net : Network) (readers : List R) (why : NetworkRunFault) → IsFaultOver remaining net readers (IsRefusal net) why
@@ -307,11 +338,12 @@ looser remaining net readers (run.Capture switch port why) fault = (
     fault.2.0,
     elim fault.2.1 [
       | inl unsound ↦ inl unsound
-      | inr late ↦ inr (late.0, late.1, λ none. late.2 none.0)
+      | inr late ↦ inr (late.0, late.1, late.2, λ none. late.3 none.0)
     ],
   ),
 )
 looser remaining net readers run.WrongWires fault = fault
+looser remaining net readers (run.Line switch port number) fault = fault
 
 -- what a plan's run leads to
 module _ {R N : Type 0} (remaining : R → Option (List ℕ)) (contents : N → Option (List ℕ)) (readers : List R) (old new : List N) where
@@ -385,6 +417,8 @@ pub not_given_before : (f : Failure) (a b : Option Files) (path : List ℕ) (net
 not_given_before (failure.Get name) a b path net before after keeps h = (gets_given_before (string_bytes name) a b path net keeps h.0, h.1)
 not_given_before failure.Memory a b path net before after keeps h = tt
 not_given_before (failure.Network (network.Capture port why name)) a b path net before after keeps h =
+    ((h.0.0, h.0.1, has_given_before a b path (names_of net.layout.switches) h.0.0 keeps h.0.2, h.0.3, h.0.4), h.1)
+not_given_before (failure.Network (network.Line port number name)) a b path net before after keeps h =
     ((h.0.0, h.0.1, has_given_before a b path (names_of net.layout.switches) h.0.0 keeps h.0.2, h.0.3, h.0.4), h.1)
 not_given_before (failure.Network (network.Rows rule shorts names)) a b path net before after keeps h = absurd h
 not_given_before (failure.Network (network.Refused r name)) a b path net before after keeps h = absurd h

@@ -1,5 +1,5 @@
 -- What the check of a network writes (profile).
-use Rattle.std.specs.Prelude.{◌≡◌, ℕ, List}
+use Rattle.std.specs.Prelude.{◌≡◌, ℕ, Bool, List}
 use Rattle.afdx_wiring.specs.Net.{Network}
 use Rattle.afdx_wiring.specs.Outage.{up_of, lost_of}
 use Rattle.afdx_wiring.specs.Ways.{AreWaysOf}
@@ -11,10 +11,10 @@ use Rattle.afdx_csv.specs.declared.form.Form.TheVariants.{Lines, Csv}
 use Rattle.afdx_serve.specs.Networks.{names_of}
 
 -- what is written of ways, and of those over which nothing comes
-abbrev pub ways_text : Form → Names → List Way → List Way → List ℕ
-ways_text Lines = accepted_text
-ways_text Csv = ways_rows
+abbrev pub ways_text : Form → Names → (one_line : Bool) → (ways lost : List Way) → List ℕ
+ways_text Lines names one_line ways lost = accepted_text names one_line ways lost
+ways_text Csv names one_line ways lost = ways_rows names ways lost
 
 -- the lines of its switches, of its ways that use nothing that is down, and of the ends of the others; or rows of these ways and ends
 abbrev pub IsNetworkCheck : Form → Network → List ℕ → Type 0
-IsNetworkCheck form net text = (ways : List Way) × AreWaysOf net ways × (text ≡ ways_text form (names_of net.layout.switches) (up_of net.layout ways) (lost_of net.layout ways))
+IsNetworkCheck form net text = (ways : List Way) × AreWaysOf net ways × (text ≡ ways_text form (names_of net.layout.switches) net.layout.one_line (up_of net.layout ways) (lost_of net.layout ways))

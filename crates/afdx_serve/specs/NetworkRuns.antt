@@ -104,6 +104,9 @@ FailsToGetGiven failure.Memory files path net before after = Unit {0}
 FailsToGetGiven (failure.Network (network.Capture port why name)) files path net before after =
     ((given : Given) × (switch : ℕ) × HasGiven files path (names_of net.layout.switches) given × IsUncheckedRefusal net (given_up net.layout given) (run.Capture switch port why)
     × (string_bytes name ≡ name_of (names_of net.layout.switches) switch)) × (after ≡ before)
+FailsToGetGiven (failure.Network (network.Line port number name)) files path net before after =
+    ((given : Given) × (switch : ℕ) × HasGiven files path (names_of net.layout.switches) given × IsUncheckedRefusal net (given_up net.layout given) (run.Line switch port number)
+    × (string_bytes name ≡ name_of (names_of net.layout.switches) switch)) × (after ≡ before)
 FailsToGetGiven _ files path net before after = ⊥
 
 -- a network was not accepted for a run, unless that is unchecked

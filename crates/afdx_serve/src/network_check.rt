@@ -67,13 +67,14 @@ fn ways_text(
     alloc: Global,
     form: Form,
     names: &[String],
+    one_line: bool,
     ways: &[Way],
     lost: &[Way],
 ) -> Result<String, AllocError>
-    ensures { IfOk result (λ text. string_bytes text ≡ ways_text form (map string_bytes names.now) ways.now lost.now) }
+    ensures { IfOk result (λ text. string_bytes text ≡ ways_text form (map string_bytes names.now) one_line ways.now lost.now) }
 {
     match form {
-        Form::Lines => accepted_text(alloc, names, ways, lost),
+        Form::Lines => accepted_text(alloc, names, one_line, ways, lost),
         Form::Csv => ways_rows(alloc, names, ways, lost),
     }
 }
@@ -92,8 +93,9 @@ fn check_text(
         // An accepted network has all its ways, so that this is `Memory`.
         return Err(AllocError);
     };
-    let ways = cleared.network().layout().part_ways(alloc, ways)?;
-    ways_text(alloc, form, names, &ways.up, &ways.lost)
+    let layout = cleared.network().layout();
+    let ways = layout.part_ways(alloc, ways)?;
+    ways_text(alloc, form, names, layout.one_line, &ways.up, &ways.lost)
 }
 
 /// What is written of a network, where it is accepted.

@@ -13,7 +13,7 @@ ghost use Rattle.afdx_folder.specs.Files.{Files, KeepsFiles};
 ghost use Rattle.afdx_serve.specs.Networks.{names_of};
 ghost use Rattle.afdx_serve.specs.NetworkRuns.{switch_folder, bytes_at, captures_of, reports_of, switch_rows, runs_text, FailsToGetGiven};
 ghost use Rattle.afdx_serve.specs.Inner.Outputs.{HaveBytes};
-ghost use Rattle.afdx_serve.specs.Inner.NetworkRunning.{network_in, end_names, AreOpenedEnds, HasRun, LeadsFrom, IsCaptureFailure};
+ghost use Rattle.afdx_serve.specs.Inner.NetworkRunning.{network_in, end_names, AreOpenedEnds, HasRun, LeadsFrom, IsCaptureFailure, IsLineFailure};
 ghost use Rattle.afdx_serve.specs.Serving.{world, RunsNetwork, FailsToRunNetwork};
 
 use crate::get::{get_failure, open_all};
@@ -80,6 +80,16 @@ fn capture_failure(
     }
 }
 
+/// The failure of a record that came too soon for the line of a port of the switch at a place among these names.
+fn line_failure(alloc: Global, names: &[String], switch: usize, port: u8, number: u64) -> Failure
+    ensures { IsLineFailure (map string_bytes names.now) switch port number result }
+{
+    match String::from_str(alloc, name_of(names, switch)) {
+        Ok(name) => Failure::Network(NetworkFailure::Line(port, number, name)),
+        Err(_) => Failure::Memory,
+    }
+}
+
 /// The failure that a fault of a run leads to, over captures that were opened under these names.
 pub(crate) fn run_failure<F: Folder>(
     alloc: Global,
@@ -110,6 +120,9 @@ pub(crate) fn run_failure<F: Folder>(
         }
         NetworkRunFault::Capture(switch, port, why) => {
             capture_failure(alloc, names, switch, port, why)
+        }
+        NetworkRunFault::Line(switch, port, number) => {
+            line_failure(alloc, names, switch, port, number)
         }
     }
 }
@@ -269,7 +282,8 @@ fn lead<F: Folder>(
 /// IN/A has the captures of the ports of switch A to which no wire goes; those of all its ports are put into OUT/A, which has
 /// to be there. The network is accepted before a file is begun, unless the run is unchecked. Then a new file is begun for each output, by
 /// switch and port, and the captures are opened in this order, and read once, in pieces, while the switches run. Where one cannot be read
-/// or has a fault, the others are read on to their ends, so that the failure is the first in this order. What leaves goes to the new files;
+/// or has a fault, the others are read on to their ends, so that the failure is the first in this order; so it is with records that came too
+/// soon for the line of an end system, where the file says that each has one. What leaves goes to the new files;
 /// then these are put in the same order, and then the reports are written. All names and reports are made before the first put, and the
 /// device has all files by then: where it fails to take one, none is put. After a put that failed the files before it are there, and no
 /// later one is put. New files that are not put are let go.
@@ -277,7 +291,8 @@ fn lead<F: Folder>(
 /// # Errors
 ///
 /// What is met first: as `network check`, without what it checks of loads, tables and jitters if the run is unchecked; `Get` of a
-/// capture, by switch and then by port; `Network` with the fault of a capture; `Put`; `Write`; `Memory` where memory ran out.
+/// capture, by switch and then by port; `Network` with the fault of a capture, or with a line that was not kept to; `Put`; `Write`; `Memory`
+/// where memory ran out.
 ///
 /// O(files), beside the runs of the switches.
 pub(crate) fn network_run<O: Write, F: Folder>(

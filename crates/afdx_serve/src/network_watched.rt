@@ -60,7 +60,8 @@ impl Planned {
     ///
     /// # Errors
     ///
-    /// `Get` of a capture, by switch and then by port; `Network` with the fault of a capture; `Memory` where memory ran out.
+    /// `Get` of a capture, by switch and then by port; `Network` with the fault of a capture, or with a line that was not kept to; `Memory`
+    /// where memory ran out.
     pub(crate) fn watched<F: Folder>(
         &self,
         alloc: Global,

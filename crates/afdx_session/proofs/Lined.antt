@@ -1,10 +1,9 @@
 -- Records that keep to the lines of their ports, and outputs that always do.
 use Rattle.std.proofs.Common.{◌≡◌, ℕ, suc, ◌+◌, ◌≤◌, ◌==◌, Bool, true, false, cond, List, [], ◌∷◌, length, map, filter, get_or, Option, refl, ap, sym, ◌∙◌, subst, arith}
-use Rattle.std.specs.Prelude.{All, AllPairs, Contains}
+use Rattle.std.specs.Prelude.{All, AllPairs, Contains, IfSome}
 use Rattle.std.specs.List.{AllByRecursion, AllZip}
-use Rattle.std.proofs.lemmas.List.Elements.{All-nil, All-cons, All-head, All-tail, All-map, All-weaker, All-from_recursion, Contains-get_or}
+use Rattle.std.proofs.lemmas.List.Elements.{All-map, All-from_recursion, Contains-get_or}
 use Rattle.std.proofs.lemmas.List.Kept.{AllPairs-cons}
-use Rattle.std.proofs.lemmas.Bool.{both_ways, eq-eqb}
 use Rattle.afdx_units.specs.Line.{size_of, cost_of}
 use Rattle.afdx_pcap.specs.Record.{Record}
 use Rattle.afdx_table.specs.declared.rows.PortRow.{PortRow}
@@ -12,17 +11,18 @@ use Rattle.afdx_table.specs.Link.{Link, leads_to}
 use Rattle.afdx_table.specs.Content.{Content}
 use Rattle.afdx_table.specs.WellFormed.{IsWellFormed}
 use Rattle.afdx_filter.specs.Frame.{frame_of}
-use Rattle.afdx_serial.specs.Serial.{KeepsToLine}
+use Rattle.afdx_serial.specs.Serial.{KeepsToLineWithin}
 use Rattle.afdx_account.specs.declared.frame.Frame.{Frame}
 use Rattle.afdx_port.specs.declared.Sent.{Sent}
 use Rattle.afdx_port.specs.Inner.Order.{SendingsKeepToTheLine}
 use Rattle.afdx_port.specs.Inner.Admission.{AdmittedInParts}
 use Rattle.afdx_load.specs.Accepted.{IsAccepted}
 use Rattle.afdx_isolation.specs.Inner.LineTable.{AreLesser, IsInLesserBound}
-use Rattle.afdx_core.specs.Rows.{row_of}
+use Rattle.afdx_core.specs.Rows.{row_of, frame_of_row}
 use Rattle.afdx_core.specs.Isolation.{IsRun, AcceptedTablesIsolate, IsIsolatedRun}
-use Rattle.afdx_core.specs.Lined.{ComeApart, RowsKeepToLines, LinedRunsKeepBounds}
-use Rattle.afdx_core.specs.Merge.{Arrival, Capture, merged}
+use Rattle.afdx_core.specs.declared.step.Row.{Row}
+use Rattle.afdx_core.specs.Lined.{frames_in, RowsKeepToLines, LinedRunsKeepBounds}
+use Rattle.afdx_core.specs.Merge.{Arrival, Capture, records_of, merged}
 use Rattle.afdx_core.specs.Inner.Merge.{part_at, ByStampIsOrdered, MergedIsAMerge}
 use Rattle.afdx_session.specs.Texts.{Text, AreOfPorts}
 use Rattle.afdx_session.specs.Reading.{AreCaptures}
@@ -43,14 +43,6 @@ pairs_tail R x xs h i j d lt within = h (suc i) (suc j) d (omega (arith, lt)) (o
 
 no_pairs : {X : Type 0} (R : X → X → Type 0) → AllPairs R []
 no_pairs R i j d lt within = absurd (omega (arith, within))
-
-all_unmap : {X Y : Type 0} (P : Y → Type 0) (f : X → Y) (xs : List X) → All P (map f xs) → All (λ x. P (f x)) xs
-all_unmap P f [] h = All-nil (λ x. P (f x))
-all_unmap P f (x ∷ xs) h = All-cons (λ x. P (f x)) x xs (All-head P (f x) (map f xs) h) (all_unmap P f xs (All-tail P (f x) (map f xs) h))
-
-pairs_unmap : {X Y : Type 0} (R : Y → Y → Type 0) (f : X → Y) (xs : List X) → AllPairs R (map f xs) → AllPairs (λ a b. R (f a) (f b)) xs
-pairs_unmap R f [] h = no_pairs (λ a b. R (f a) (f b))
-pairs_unmap R f (x ∷ xs) h = AllPairs-cons (λ a b. R (f a) (f b)) x xs (all_unmap (R (f x)) f xs (pairs_head R (f x) (map f xs) h)) (pairs_unmap R f xs (pairs_tail R (f x) (map f xs) h))
 
 pairs_map : {X Y : Type 0} (R : Y → Y → Type 0) (f : X → Y) (xs : List X) → AllPairs (λ a b. R (f a) (f b)) xs → AllPairs R (map f xs)
 pairs_map R f [] h = no_pairs R
@@ -83,49 +75,28 @@ outputs_keep ground sends t arrivals p =
 
 -- ---- what comes
 
--- of the records of a port, as of the arrivals there
-all_part : (P : Record → Type 0) (n : ℕ) (arrivals : List Arrival) → All P (part_at n arrivals) → All (λ (a : Arrival). a.port ≡ n → P a.frame) arrivals
-all_part P n [] h = All-nil (λ (a : Arrival). a.port ≡ n → P a.frame)
-all_part P n (a ∷ arrivals) h = by (a.port == n) refl h (λ more. all_part P n arrivals more) where
-  by : (b : Bool) → (a.port == n) ≡ b → All P (map (λ (a : Arrival). a.frame) (cond b (a ∷ filter (λ (a : Arrival). a.port == n) arrivals) (filter (λ (a : Arrival). a.port == n) arrivals)))
-      → (All P (part_at n arrivals) → All (λ (a : Arrival). a.port ≡ n → P a.frame) arrivals) → All (λ (a : Arrival). a.port ≡ n → P a.frame) (a ∷ arrivals)
-  by true is h ih = All-cons (λ (a : Arrival). a.port ≡ n → P a.frame) a arrivals (λ _. All-head P a.frame (part_at n arrivals) h) (ih (All-tail P a.frame (part_at n arrivals) h))
-  by false is h ih = All-cons (λ (a : Arrival). a.port ≡ n → P a.frame) a arrivals (λ same. absurd (both_ways (a.port == n) is (eq-eqb a.port n same))) (ih h)
-
--- both came in at the port
-abbrev AtPort : (Record → Record → Type 0) → ℕ → Arrival → Arrival → Type 0
-AtPort S n a b = a.port ≡ n → b.port ≡ n → S a.frame b.frame
-
-pairs_part : (S : Record → Record → Type 0) (n : ℕ) (arrivals : List Arrival) → AllPairs S (part_at n arrivals) → AllPairs (λ (a b : Arrival). a.port ≡ n → b.port ≡ n → S a.frame b.frame) arrivals
-pairs_part S n [] h = no_pairs (λ (a b : Arrival). a.port ≡ n → b.port ≡ n → S a.frame b.frame)
-pairs_part S n (a ∷ arrivals) h = by (a.port == n) refl h (λ more. pairs_part S n arrivals more) where
-  by : (b : Bool) → (a.port == n) ≡ b → AllPairs S (map (λ (a : Arrival). a.frame) (cond b (a ∷ filter (λ (a : Arrival). a.port == n) arrivals) (filter (λ (a : Arrival). a.port == n) arrivals)))
-      → (AllPairs S (part_at n arrivals) → AllPairs (AtPort S n) arrivals) → AllPairs (AtPort S n) (a ∷ arrivals)
-  by true is h ih = AllPairs-cons (AtPort S n) a arrivals
-      (All-weaker (λ (b : Arrival). b.port ≡ n → S a.frame b.frame) (AtPort S n a) (λ b r _ there. r there) arrivals (all_part (S a.frame) n arrivals (pairs_head S a.frame (part_at n arrivals) h)))
-      (ih (pairs_tail S a.frame (part_at n arrivals) h))
-  by false is h ih = AllPairs-cons (AtPort S n) a arrivals
-      (λ k d lt same. absurd (both_ways (a.port == n) is (eq-eqb a.port n same)))
-      (ih h)
-
--- the rows of arrivals whose records at a port keep to its line
-rows_apart : (t : Content) (q : PortRow) (arrivals : List Arrival) → KeepsToLine q.speed (map frame_of (part_at q.id arrivals)) → AllPairs (ComeApart q) (rows_of t arrivals)
-rows_apart t q arrivals h =
-    pairs_map (ComeApart q) (λ (a : Arrival). row_of t a.port a.frame) arrivals
-    (pairs_part (λ (a b : Record). a.stamp + cost_of q.speed (size_of (length b.bytes)) ≤ b.stamp) q.id arrivals
-    (pairs_unmap (λ (f g : Frame). f.stamp + cost_of q.speed g.size ≤ g.stamp) frame_of (part_at q.id arrivals) h))
+-- the frames of the arrivals at a port are those of its records
+frames_are : (t : Content) (n : ℕ) (arrivals : List Arrival) → frames_in n (rows_of t arrivals) ≡ map frame_of (part_at n arrivals)
+frames_are t n [] = refl
+frames_are t n (a ∷ arrivals) = by (a.port == n) (frames_are t n arrivals) where
+  by : (b : Bool) → frames_in n (rows_of t arrivals) ≡ map frame_of (part_at n arrivals)
+      → map frame_of_row (cond b (row_of t a.port a.frame ∷ filter (λ (r : Row). r.in_port == n) (rows_of t arrivals)) (filter (λ (r : Row). r.in_port == n) (rows_of t arrivals)))
+      ≡ map frame_of (map (λ (a : Arrival). a.frame) (cond b (a ∷ filter (λ (a : Arrival). a.port == n) arrivals) (filter (λ (a : Arrival). a.port == n) arrivals)))
+  by true ih = ap (λ (fs : List Frame). frame_of a.frame ∷ fs) ih
+  by false ih = ih
 
 -- the rows of captures whose records keep to the lines
-rows_keep : MergedIsAMerge → (t : Content) (texts : List Text) (read : List Capture) → IsWellFormed t → AreOfPorts t texts → AreCaptures texts read → (lined : ℕ → Bool)
-    → CapturesKeepToLines t read lined → RowsKeepToLines t lined (rows_of t (merged read))
-rows_keep merge t texts read formed ports are_read lined lines k d lt on =
+rows_keep : MergedIsAMerge → (t : Content) (texts : List Text) (read : List Capture) → IsWellFormed t → AreOfPorts t texts → AreCaptures texts read → (rounding_at : ℕ → Option ℕ)
+    → CapturesKeepToLines t read rounding_at → RowsKeepToLines t rounding_at (rows_of t (merged read))
+rows_keep merge t texts read formed ports are_read rounding_at lines k d lt =
     let q = get_or t.ports k d in
-    rows_apart t q (merged read) (subst (λ (rs : List Record). KeepsToLine q.speed (map frame_of rs)) (sym (part_is_read merge t texts read formed ports are_read q.id))
-    (lines q (Contains-get_or t.ports k d lt) on))
+    let same : map frame_of (records_of read q.id) ≡ frames_in q.id (rows_of t (merged read))
+    = sym (frames_are t q.id (merged read) ∙ ap (map frame_of) (part_is_read merge t texts read formed ports are_read q.id)) in
+    subst (λ (fs : List Frame). IfSome (rounding_at q.id) (λ rounding. KeepsToLineWithin rounding q.speed fs)) same (lines q (Contains-get_or t.ports k d lt))
 
 module _ (ordered : ByStampIsOrdered) (ground : Ground) (merge : MergedIsAMerge) (isolate : AcceptedTablesIsolate) (keeps : LinedRunsKeepBounds) (t : Content) (texts : List Text) (results : Results)
-    (formed : IsWellFormed t) (accepted : IsAccepted t) (outcome : IsOutcome t texts results) (lined : ℕ → Bool) (lines : CapturesKeepToLines t outcome.read lined) (p : PortRow)
-    (at : Contains t.ports p) (burst high_burst : ℕ) (less : AreLesser t p lined burst high_burst) (l : Link) (among : Contains t.links l) where
+    (formed : IsWellFormed t) (accepted : IsAccepted t) (outcome : IsOutcome t texts results) (rounding_at : ℕ → Option ℕ) (lines : CapturesKeepToLines t outcome.read rounding_at) (p : PortRow)
+    (at : Contains t.ports p) (burst high_burst : ℕ) (less : AreLesser t p rounding_at burst high_burst) (l : Link) (among : Contains t.links l) where
   abbrev all : List Arrival
   all = merged outcome.read
 
@@ -138,7 +109,7 @@ module _ (ordered : ByStampIsOrdered) (ground : Ground) (merge : MergedIsAMerge)
   within : All (IsInLesserBound t p burst high_burst) (sent_by t all p)
   within =
       subst (All (IsInLesserBound t p burst high_burst)) (sent_is t formed ground all isolated p at)
-      (keeps (run_of t all) is_run formed accepted lined (rows_keep merge t texts outcome.read formed outcome.ports outcome.are_read lined lines) p at burst high_burst less)
+      (keeps (run_of t all) is_run formed accepted rounding_at (rows_keep merge t texts outcome.read formed outcome.ports outcome.are_read rounding_at lines) p at burst high_burst less)
 
   pub lined_outcome : leads_to p.id l ≡ true → AllZip (IsInLesserTime t p l burst high_burst) (passed_records l (own_records t l outcome.read)) (records_for l (output_of t all p))
   lined_outcome leads =
@@ -150,12 +121,12 @@ module _ (ordered : ByStampIsOrdered) (ground : Ground) (merge : MergedIsAMerge)
   lined_copies = copies_in_lesser t formed ground all isolated p at l among burst high_burst within
 
 pub lined_outcomes : ByStampIsOrdered → Ground → MergedIsAMerge → AcceptedTablesIsolate → LinedRunsKeepBounds → LinedOutcomesKeepBounds
-lined_outcomes ordered ground merge isolate keeps t texts results formed accepted outcome lined lines p at burst high_burst less l among leads =
-    lined_outcome ordered ground merge isolate keeps t texts results formed accepted outcome lined lines p at burst high_burst less l among leads
+lined_outcomes ordered ground merge isolate keeps t texts results formed accepted outcome rounding_at lines p at burst high_burst less l among leads =
+    lined_outcome ordered ground merge isolate keeps t texts results formed accepted outcome rounding_at lines p at burst high_burst less l among leads
 
 pub lined_sent : ByStampIsOrdered → Ground → MergedIsAMerge → AcceptedTablesIsolate → LinedRunsKeepBounds → LinedSentKeepBounds
-lined_sent ordered ground merge isolate keeps t texts results formed accepted outcome lined lines p at burst high_burst less l among =
-    lined_copies ordered ground merge isolate keeps t texts results formed accepted outcome lined lines p at burst high_burst less l among
+lined_sent ordered ground merge isolate keeps t texts results formed accepted outcome rounding_at lines p at burst high_burst less l among =
+    lined_copies ordered ground merge isolate keeps t texts results formed accepted outcome rounding_at lines p at burst high_burst less l among
 
 pub outcomes_isolate : ByStampIsOrdered → Ground → AdmittedInParts → MergedIsAMerge → AcceptedTablesIsolate → OutcomesIsolate
 unfolding headline

@@ -23,7 +23,7 @@ use Rattle.afdx_jitter.specs.Delay.{hop_of, joined, at_once, IsEnough}
 use Rattle.afdx_wiring.specs.declared.layout.End.{End}
 use Rattle.afdx_wiring.specs.declared.layout.Wire.{Wire}
 use Rattle.afdx_wiring.specs.File.{Layout, is_end}
-use Rattle.afdx_wiring.specs.Net.{Network, Row, Back, row_at, port_at, is_wired, stated_least, least_at, scatter_at, load_at, bound_in, IsWayBack, source_of, AreDelays}
+use Rattle.afdx_wiring.specs.Net.{Network, Row, Back, row_at, port_at, stamp_rounding, rounding_at, stated_least, least_at, scatter_at, load_at, bound_in, IsWayBack, source_of, AreDelays}
 use Rattle.afdx_wiring.specs.Order.{most_rows, within_reason, hop_from, hop_on, way_by, way_within}
 use Rattle.afdx_wiring.specs.Needs.{DiffersInJitters, KeepsToLines, needed}
 use Rattle.afdx_wiring.proofs.Enough.{from_port}
@@ -115,10 +115,11 @@ stops n far first first' d before after after' speed latency cable x y h past re
 pub flipped : (net other : Network) (switch id : ℕ) (r s : Row) → row_at net switch id ≡ Some r → Pair net other switch id r s → Pair other net switch id s r
 flipped net other switch id r s is pair = record { here = pair.there; there = pair.here; there_is = is; tables = sym pair.tables; links = sym pair.links }
 
--- the same ports have a wire, and the same is said of latencies
-same_wired : (net other : Network) → DiffersInJitters net other → (here there : ℕ) → there ≡ here → is_wired other there ≡ is_wired net here
+-- the same is said of lines, and of latencies
+same_wired : (net other : Network) → DiffersInJitters net other → (here there : ℕ) → there ≡ here → rounding_at other there ≡ rounding_at net here
 same_wired net other differs here there place =
-    ap (λ (l : Layout). λ (port : ℕ). is_some (find (λ (w : Wire). is_end w.to (record { switch = there; port = port })) l.wires)) differs.0 ∙ ap (is_wired net) place
+    ap (λ (l : Layout). λ (port : ℕ). cond (is_some (find (λ (w : Wire). is_end w.to (record { switch = there; port = port })) l.wires)) (Some 0) (cond l.one_line (Some stamp_rounding) None))
+    differs.0 ∙ ap (rounding_at net) place
 
 same_least : (net other : Network) → DiffersInJitters net other → (here there : ℕ) → there ≡ here → (t u : Content) → u.latency ≡ t.latency → least_at other there u ≡ least_at net here t
 same_least net other differs here there place t u latency =
@@ -206,9 +207,9 @@ compare net other set (suc n) switch id r s r_is pair (b ∷ more) d way are few
           let scatter = same_scatter net other set.differs found.0.switch b.row.switch place pair_c.here.table pair_c.there.table latency in
           let y_there : bound_in (bounds_of (load_at other b.row.switch pair_c.there.table are.1)) b.row.link.priority ≡ Some are.2
           = sym (ap (option_and_then (λ (q : Content). bound_in (bounds_of (load_at other b.row.switch q are.1)) b.row.link.priority)) u_is) ∙ are.6 in
-          let y_is : bound_in (bounds_of (lesser_load (scatter_at net found.0.switch pair_c.here.table) (is_wired net found.0.switch) pair_c.there.table are.1)) found.0.link.priority ≡ Some are.2
-          = sym (ap (λ (lined : ℕ → Bool). bound_in (bounds_of (lesser_load (scatter_at net found.0.switch pair_c.here.table) lined pair_c.there.table are.1)) found.0.link.priority) wired)
-          ∙ sym (ap (λ (e : ℕ). bound_in (bounds_of (lesser_load e (is_wired other b.row.switch) pair_c.there.table are.1)) found.0.link.priority) scatter)
+          let y_is : bound_in (bounds_of (lesser_load (scatter_at net found.0.switch pair_c.here.table) (rounding_at net found.0.switch) pair_c.there.table are.1)) found.0.link.priority ≡ Some are.2
+          = sym (ap (λ (roundings : ℕ → Option ℕ). bound_in (bounds_of (lesser_load (scatter_at net found.0.switch pair_c.here.table) roundings pair_c.there.table are.1)) found.0.link.priority) wired)
+          ∙ sym (ap (λ (e : ℕ). bound_in (bounds_of (lesser_load e (rounding_at other b.row.switch) pair_c.there.table are.1)) found.0.link.priority) scatter)
           ∙ sym (ap (bound_in (bounds_of (load_at other b.row.switch pair_c.there.table are.1))) priority) ∙ y_there in
           let t_formed = all_at IsWellFormed net.tables b.wire.from.switch pair_c.here.table set.here pair_c.here.table_is in
           let u_formed = all_at IsWellFormed other.tables b.wire.from.switch pair_c.there.table set.there pair_c.there.table_is in
@@ -216,8 +217,8 @@ compare net other set (suc n) switch id r s r_is pair (b ∷ more) d way are few
           let port = same_port other net (sym set.differs.0, sym set.differs.1) b.wire.from are.1 are.5 in
           let rate = kept_rate net other set b.wire.from s.link.id found.0 pair_c.here.table found.1.there_is pair_c.here.table_is are.1 port in
           let ports : pair_c.there.table.ports ≡ pair_c.here.table.ports = ap (λ (q : Content). q.ports) pair_c.tables in
-          let x = bound_before (load_at net found.0.switch pair_c.here.table are.1) (lesser_load (scatter_at net found.0.switch pair_c.here.table) (is_wired net found.0.switch) pair_c.there.table are.1)
-          (lesser_grows set.once set.less (scatter_at net found.0.switch pair_c.here.table) (is_wired net found.0.switch) pair_c.here.table pair_c.there.table are.1 t_formed u_formed ports latency grow rate) found.0.link.priority are.2 y_is in
+          let x = bound_before (load_at net found.0.switch pair_c.here.table are.1) (lesser_load (scatter_at net found.0.switch pair_c.here.table) (rounding_at net found.0.switch) pair_c.there.table are.1)
+          (lesser_grows set.once set.less (scatter_at net found.0.switch pair_c.here.table) (rounding_at net found.0.switch) pair_c.here.table pair_c.there.table are.1 t_formed u_formed ports latency grow rate) found.0.link.priority are.2 y_is in
           let port_is : port_row pair_c.here.table b.wire.from.port ≡ Some are.1
           = sym (ap (option_and_then (λ (q : Content). port_row q b.wire.from.port)) pair_c.here.table_is) ∙ port in
           let hop_is = hop_there net found.0 b.wire.from.port b.wire.delay pair_c.here.table are.1 x.0 t_is port_is x.1 in

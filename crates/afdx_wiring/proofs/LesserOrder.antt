@@ -24,6 +24,7 @@ use Rattle.afdx_table.specs.WellFormed.{IsLink, IsWellFormed}
 use Rattle.afdx_load.specs.Load.{is_high_link, routed, rate_of, burst_of, greatest, load_of}
 use Rattle.afdx_load.specs.Inner.Laws.{HighLinksLeaveAPart}
 use Rattle.afdx_grouping.specs.Burst.{above, greatest_beside, paid_burst, least_burst}
+use Rattle.afdx_serial.specs.Serial.{KnownLine}
 use Rattle.afdx_grouping.specs.Groups.{Asked, asked_by, goes_over, group_at, line_weight, curve_of, all_curve, high_curve, line_at, all_curves, high_curves, lesser_load}
 use Rattle.afdx_grouping.specs.Scatter.{later}
 use Rattle.afdx_grouping.specs.Laws.{IsBelow, NoMoreIsPaidFor, LesserCurvesNeedLess}
@@ -53,16 +54,17 @@ later_grows d a b h window =
     paid_grows (a.burst + a.rate * d) (b.burst + b.rate * d) (a.rate * window) (b.rate * window)
     (paid_grows a.burst b.burst (a.rate * d) (b.rate * d) h.burst (ap (λ (n : ℕ). n * d) h.rate)) (ap (λ (n : ℕ). n * window) h.rate)
 
-curve_grows : (d : ℕ) (here : Speed) (line : Option Speed) (spare more : ℕ) (a b : Asked) → spare ≤ more → AskedGrows a b
+curve_grows : (d : ℕ) (here : Speed) (line : Option KnownLine) (spare more : ℕ) (a b : Asked) → spare ≤ more → AskedGrows a b
     → IsBelow (later d (curve_of here line spare a)) (later d (curve_of here line more b))
 curve_grows d here None spare more a b le h window = later_grows d a b h window
 curve_grows d here (Some there) spare more a b le h window =
-    let first : line_weight here there * cost_of there b.largest ≡ line_weight here there * cost_of there a.largest
-    = ap (λ (n : ℕ). line_weight here there * cost_of there n) h.largest in
-    both (a.burst + a.rate * d + a.rate * window) (line_weight here there * cost_of there a.largest + spare + line_weight here there * d + line_weight here there * window)
-    (b.burst + b.rate * d + b.rate * window) (line_weight here there * cost_of there b.largest + more + line_weight here there * d + line_weight here there * window)
+    let first : line_weight here there.speed * (cost_of there.speed b.largest + there.rounding) ≡ line_weight here there.speed * (cost_of there.speed a.largest + there.rounding)
+    = ap (λ (n : ℕ). line_weight here there.speed * (cost_of there.speed n + there.rounding)) h.largest in
+    let w = line_weight here there.speed in
+    both (a.burst + a.rate * d + a.rate * window) (w * (cost_of there.speed a.largest + there.rounding) + spare + w * d + w * window)
+    (b.burst + b.rate * d + b.rate * window) (w * (cost_of there.speed b.largest + there.rounding) + more + w * d + w * window)
     (later_grows d a b h window)
-    (brought (line_weight here there * cost_of there a.largest) (line_weight here there * cost_of there b.largest) (line_weight here there * d) (line_weight here there * window) first) where
+    (brought (w * (cost_of there.speed a.largest + there.rounding)) (w * (cost_of there.speed b.largest + there.rounding)) (w * d) (w * window) first) where
       both : (p q r s : ℕ) → p ≤ r → q ≤ s → min p q ≤ min r s
       both p q r s one two = omega (arith, one, two)
 
@@ -78,23 +80,23 @@ zipped f g each (q ∷ ports) = (each q, zipped f g each ports)
 through : (a b c : ℕ) → a ≤ b → b ≤ c → a ≤ c
 through a b c h k = omega (arith, h, k)
 
-pub lesser_grows : NoMoreIsPaidFor → LesserCurvesNeedLess → (d : ℕ) (lined : ℕ → Bool) (t u : Content) (p : PortRow) → IsWellFormed t → IsWellFormed u → u.ports ≡ t.ports → u.latency ≡ t.latency
-    → AllZip Grows t.links u.links → (load_of t.latency p.speed p.id t.links).rate ≤ parts → LoadGrows (lesser_load d lined t p) (lesser_load d lined u p)
-lesser_grows once less d lined t u p t_formed u_formed ports latency grow rate =
+pub lesser_grows : NoMoreIsPaidFor → LesserCurvesNeedLess → (d : ℕ) (roundings : ℕ → Option ℕ) (t u : Content) (p : PortRow) → IsWellFormed t → IsWellFormed u → u.ports ≡ t.ports → u.latency ≡ t.latency
+    → AllZip Grows t.links u.links → (load_of t.latency p.speed p.id t.links).rate ≤ parts → LoadGrows (lesser_load d roundings t p) (lesser_load d roundings u p)
+lesser_grows once less d roundings t u p t_formed u_formed ports latency grow rate =
     let whole = load_grows t.latency p.speed p.id t.links u.links grow in
     let group : (q : PortRow) → AllZip Grows (filter (goes_over q.id p.id) t.links) (filter (goes_over q.id p.id) u.links) = λ q. filtered (goes_over q.id p.id) (λ _. refl) t.links u.links grow in
     let high_group : (q : PortRow) → AllZip Grows (filter is_high_link (filter (goes_over q.id p.id) t.links)) (filter is_high_link (filter (goes_over q.id p.id) u.links))
     = λ q. filtered is_high_link (λ _. refl) (filter (goes_over q.id p.id) t.links) (filter (goes_over q.id p.id) u.links) (group q) in
-    let t_once = once d t lined p t_formed in
-    let u_once = once d u lined p u_formed in
+    let t_once = once d t roundings p t_formed in
+    let u_once = once d u roundings p u_formed in
     let u_rate : (load_of u.latency p.speed p.id u.links).rate ≤ parts = subst (λ (n : ℕ). n ≤ parts) (sym whole.rate) rate in
     record {
       highs = whole.highs;
       lows = whole.lows;
       rate = whole.rate;
       high_rate = whole.high_rate;
-      burst = less parts (all_curves d t lined p) (all_curves d u lined p) (through _ _ _ t_once.rate rate) (through _ _ _ u_once.rate u_rate) (all group high_group);
-      high_burst = less parts (high_curves d t lined p) (high_curves d u lined p) (through _ _ _ t_once.high_rate rate) (through _ _ _ u_once.high_rate u_rate) (high_ones high_group);
+      burst = less parts (all_curves d t roundings p) (all_curves d u roundings p) (through _ _ _ t_once.rate rate) (through _ _ _ u_once.rate u_rate) (all group high_group);
+      high_burst = less parts (high_curves d t roundings p) (high_curves d u roundings p) (through _ _ _ t_once.high_rate rate) (through _ _ _ u_once.high_rate u_rate) (high_ones high_group);
       low_largest = whole.low_largest;
       latency = latency;
     } where
@@ -104,18 +106,18 @@ lesser_grows once less d lined t u p t_formed u_formed ports latency grow rate =
       HighGroups : Type 0
       HighGroups = (q : PortRow) → AllZip Grows (filter is_high_link (filter (goes_over q.id p.id) t.links)) (filter is_high_link (filter (goes_over q.id p.id) u.links))
 
-      all : Groups → HighGroups → AllZip IsBelow (all_curves d t lined p) (all_curves d u lined p)
+      all : Groups → HighGroups → AllZip IsBelow (all_curves d t roundings p) (all_curves d u roundings p)
       all group high_group =
-          subst (λ (rows : List PortRow). AllZip IsBelow (all_curves d t lined p) (map (λ q. later d (all_curve p.speed (line_at lined q) (group_at u.links q.id p))) rows)) (sym ports)
-          (zipped (λ q. later d (all_curve p.speed (line_at lined q) (group_at t.links q.id p))) (λ q. later d (all_curve p.speed (line_at lined q) (group_at u.links q.id p)))
-          (λ q. curve_grows d p.speed (line_at lined q) (group_at t.links q.id p).high.burst (group_at u.links q.id p).high.burst (group_at t.links q.id p).all (group_at u.links q.id p).all
+          subst (λ (rows : List PortRow). AllZip IsBelow (all_curves d t roundings p) (map (λ q. later d (all_curve p.speed (line_at roundings q) (group_at u.links q.id p))) rows)) (sym ports)
+          (zipped (λ q. later d (all_curve p.speed (line_at roundings q) (group_at t.links q.id p))) (λ q. later d (all_curve p.speed (line_at roundings q) (group_at u.links q.id p)))
+          (λ q. curve_grows d p.speed (line_at roundings q) (group_at t.links q.id p).high.burst (group_at u.links q.id p).high.burst (group_at t.links q.id p).all (group_at u.links q.id p).all
           (asked_grows p.speed _ _ (high_group q)).burst (asked_grows p.speed _ _ (group q))) t.ports)
 
-      high_ones : HighGroups → AllZip IsBelow (high_curves d t lined p) (high_curves d u lined p)
+      high_ones : HighGroups → AllZip IsBelow (high_curves d t roundings p) (high_curves d u roundings p)
       high_ones high_group =
-          subst (λ (rows : List PortRow). AllZip IsBelow (high_curves d t lined p) (map (λ q. later d (high_curve p.speed (line_at lined q) (group_at u.links q.id p))) rows)) (sym ports)
-          (zipped (λ q. later d (high_curve p.speed (line_at lined q) (group_at t.links q.id p))) (λ q. later d (high_curve p.speed (line_at lined q) (group_at u.links q.id p)))
-          (λ q. curve_grows d p.speed (line_at lined q) 0 0 (group_at t.links q.id p).high (group_at u.links q.id p).high (omega arith) (asked_grows p.speed _ _ (high_group q))) t.ports)
+          subst (λ (rows : List PortRow). AllZip IsBelow (high_curves d t roundings p) (map (λ q. later d (high_curve p.speed (line_at roundings q) (group_at u.links q.id p))) rows)) (sym ports)
+          (zipped (λ q. later d (high_curve p.speed (line_at roundings q) (group_at t.links q.id p))) (λ q. later d (high_curve p.speed (line_at roundings q) (group_at u.links q.id p)))
+          (λ q. curve_grows d p.speed (line_at roundings q) 0 0 (group_at t.links q.id p).high (group_at u.links q.id p).high (omega arith) (asked_grows p.speed _ _ (high_group q))) t.ports)
 
 -- ---- a burst is no less than a frame takes
 
@@ -141,7 +143,7 @@ weights Thousand Hundred = refl
 weights Thousand Thousand = refl
 
 -- what links can bring at once, of which one is there
-curve_has : (d : ℕ) (here : Speed) (line : Option Speed) (spare : ℕ) (ls : List Link) (l : Link) → Contains ls l → 64 ≤ l.max_size → parts * cost_of here 64 ≤ burst_of here l
+curve_has : (d : ℕ) (here : Speed) (line : Option KnownLine) (spare : ℕ) (ls : List Link) (l : Link) → Contains ls l → 64 ≤ l.max_size → parts * cost_of here 64 ≤ burst_of here l
     → parts * cost_of here 64 ≤ curve_at (later d (curve_of here line spare (asked_by here ls))) 0
 curve_has d here None spare ls l among size pays = start _ _ _ _ (sum_by (rate_of here) ls * d) pays (sum_has (burst_of here) ls l among.0 among.1 among.2) where
   start : (x b s z y : ℕ) → x ≤ b → b ≤ s → x ≤ s + y + z * 0
@@ -150,9 +152,11 @@ curve_has d here (Some there) spare ls l among size pays =
     let sum = sum_has (burst_of here) ls l among.0 among.1 among.2 in
     let most = greatest_has (λ (m : Link). m.max_size) ls l among.0 among.1 among.2 in
     let long : 84 ≤ greatest (λ (m : Link). m.max_size) ls + 20 = omega (arith, size, most) in
-    let cost : cost_of there 64 ≤ cost_of there (greatest (λ (m : Link). m.max_size) ls) = mul-le-mul_right (tick_of there) long in
-    let first : line_weight here there * cost_of there 64 ≤ line_weight here there * cost_of there (greatest (λ (m : Link). m.max_size) ls) = mul-le-mul_left (line_weight here there) cost in
-    start _ _ _ _ _ _ _ (sum_by (rate_of here) ls * d) (line_weight here there * d) pays sum (weights here there) first where
+    let cost : cost_of there.speed 64 ≤ cost_of there.speed (greatest (λ (m : Link). m.max_size) ls) = mul-le-mul_right (tick_of there.speed) long in
+    let least : cost_of there.speed 64 ≤ cost_of there.speed (greatest (λ (m : Link). m.max_size) ls) + there.rounding = omega (arith, cost) in
+    let first : line_weight here there.speed * cost_of there.speed 64 ≤ line_weight here there.speed * (cost_of there.speed (greatest (λ (m : Link). m.max_size) ls) + there.rounding)
+    = mul-le-mul_left (line_weight here there.speed) least in
+    start _ _ _ _ _ _ _ (sum_by (rate_of here) ls * d) (line_weight here there.speed * d) pays sum (weights here there.speed) first where
       start : (x b s w f z y r v : ℕ) → x ≤ b → b ≤ s → w ≡ x → w ≤ f → x ≤ min (s + r + z * 0) (f + spare + v + y * 0)
       start x b s w f z y r v one two three four = omega (arith, one, two, three, four)
 
@@ -204,9 +208,9 @@ burst_has n curves x le = both _ _ _ (greatest_beside (above n curves) curves) l
 
 -- ---- a bound is there
 
-pub lesser_bounded : HighLinksLeaveAPart → (d : ℕ) (lined : ℕ → Bool) (t : Content) (p : PortRow) (l : Link) → IsWellFormed t → Contains t.links l → leads_to p.id l ≡ true
-    → (load_of t.latency p.speed p.id t.links).rate ≤ parts → Bounded (lesser_load d lined t p) l.priority (t.latency + cost_of p.speed 64)
-lesser_bounded leaves d lined t p l formed among leads rate =
+pub lesser_bounded : HighLinksLeaveAPart → (d : ℕ) (roundings : ℕ → Option ℕ) (t : Content) (p : PortRow) (l : Link) → IsWellFormed t → Contains t.links l → leads_to p.id l ≡ true
+    → (load_of t.latency p.speed p.id t.links).rate ≤ parts → Bounded (lesser_load d roundings t p) l.priority (t.latency + cost_of p.speed 64)
+lesser_bounded leaves d roundings t p l formed among leads rate =
     let is_link : IsLink t.ports l = All-contains (IsLink t.ports) t.links l (All-from_recursion (IsLink t.ports) t.links formed.links) among in
     let routed_there = kept (leads_to p.id) t.links l among.0 among.1 among.2 leads in
     let pays = burst_pays p.speed l is_link.size_least in
@@ -227,14 +231,14 @@ lesser_bounded leaves d lined t p l formed among leads rate =
       high_grouped is q same = let there = grouped q same in kept is_high_link (filter (goes_over q.id p.id) t.links) l there.0 there.1 there.2 is
 
       by : (priority : Priority) → l.priority ≡ priority → IsLink t.ports l → Contains (routed p.id t.links) l → parts * cost_of p.speed 64 ≤ burst_of p.speed l
-          → Bounded (lesser_load d lined t p) priority (t.latency + cost_of p.speed 64)
+          → Bounded (lesser_load d roundings t p) priority (t.latency + cost_of p.speed 64)
       by High is is_link there pays =
           let h = high p.speed (routed p.id t.links) t.latency l there (ap is_high is) pays in
-          let start = one_of (λ q. later d (high_curve p.speed (line_at lined q) (group_at t.links q.id p))) t.ports l.from (parts * cost_of p.speed 64) is_link.from_port
-          (λ q same. curve_has d p.speed (line_at lined q) 0 (filter is_high_link (filter (goes_over q.id p.id) t.links)) l (high_grouped (ap is_high is) q same) is_link.size_least pays) in
-          high_is (lesser_load d lined t p) (cost_of p.speed 64) h.0 (burst_has parts (high_curves d t lined p) (parts * cost_of p.speed 64) start)
+          let start = one_of (λ q. later d (high_curve p.speed (line_at roundings q) (group_at t.links q.id p))) t.ports l.from (parts * cost_of p.speed 64) is_link.from_port
+          (λ q same. curve_has d p.speed (line_at roundings q) 0 (filter is_high_link (filter (goes_over q.id p.id) t.links)) l (high_grouped (ap is_high is) q same) is_link.size_least pays) in
+          high_is (lesser_load d roundings t p) (cost_of p.speed 64) h.0 (burst_has parts (high_curves d t roundings p) (parts * cost_of p.speed 64) start)
       by Low is is_link there pays =
           let h = low p.speed (routed p.id t.links) t.latency l there (ap (λ q. not (is_high q)) is) pays in
-          let start = one_of (λ q. later d (all_curve p.speed (line_at lined q) (group_at t.links q.id p))) t.ports l.from (parts * cost_of p.speed 64) is_link.from_port
-          (λ q same. curve_has d p.speed (line_at lined q) (group_at t.links q.id p).high.burst (filter (goes_over q.id p.id) t.links) l (grouped q same) is_link.size_least pays) in
-          low_is (lesser_load d lined t p) (cost_of p.speed 64) h.0 (leaves t p.speed p.id formed rate h.0) (burst_has parts (all_curves d t lined p) (parts * cost_of p.speed 64) start)
+          let start = one_of (λ q. later d (all_curve p.speed (line_at roundings q) (group_at t.links q.id p))) t.ports l.from (parts * cost_of p.speed 64) is_link.from_port
+          (λ q same. curve_has d p.speed (line_at roundings q) (group_at t.links q.id p).high.burst (filter (goes_over q.id p.id) t.links) l (grouped q same) is_link.size_least pays) in
+          low_is (lesser_load d roundings t p) (cost_of p.speed 64) h.0 (leaves t p.speed p.id formed rate h.0) (burst_has parts (all_curves d t roundings p) (parts * cost_of p.speed 64) start)

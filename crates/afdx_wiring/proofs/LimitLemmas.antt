@@ -117,10 +117,11 @@ as_many n before (ms ∷ tables) switches is =
 few : (ms : Members) (top : Top) → top_at ms ≡ Ok top → length top.switches ≤ 64
 unfolding top_at
 few ms top is =
-    let known = stepped (known_at place.Top (key.Version ∷ key.Switch ∷ key.Wire ∷ []) ms) _ top is in
+    let known = stepped (known_at place.Top (key.Version ∷ key.OneLine ∷ key.Switch ∷ key.Wire ∷ []) ms) _ top is in
     let version = stepped (optional_number_at place.Top key.Version 1 1 ms) _ top known.rest in
     let is_first = stepped (unless (version.first == 0) (Range place.Top key.Version)) _ top version.rest in
-    let switches = stepped (tables_at place.Top key.Switch ms) _ top is_first.rest in
+    let one_line = stepped (flag_at place.Top key.OneLine ms) _ top is_first.rest in
+    let switches = stepped (tables_at place.Top key.Switch ms) _ top one_line.rest in
     let wires = stepped (tables_at place.Top key.Wire ms) _ top switches.rest in
     let small = stepped (unless (nat_lt 64 (length switches.first)) (Range place.Top key.Switch)) _ top wires.rest in
     let test = passes (nat_lt 64 (length switches.first)) (Range place.Top key.Switch) small.first small.first_is in

@@ -12,7 +12,7 @@ use Rattle.afdx_table.specs.declared.rows.PortRow.{PortRow}
 use Rattle.afdx_table.specs.Content.{Content, port_row}
 use Rattle.afdx_load.specs.Bounds.{bounds_of}
 use Rattle.afdx_load.specs.declared.delays.Bounds.{Bounds}
-use Rattle.afdx_grouping.specs.Lined.{is_lined}
+use Rattle.afdx_grouping.specs.Lined.{rounding_in}
 use Rattle.afdx_wiring.specs.Net.{Network, load_at}
 use Rattle.afdx_wiring.specs.Inner.Loads.{switch_bounds, bounds_from}
 
@@ -73,21 +73,21 @@ none_lost {Z = Z} net all i t are t_is none =
 
 -- ---- the ports to which wires go, by their numbers
 
-set_here : (xs : List Bool) (i : ℕ) (v : Bool) → i < length xs → is_lined (slice_set xs i v) i ≡ v
+set_here : (xs : List (Option ℕ)) (i : ℕ) (v : Option ℕ) → i < length xs → rounding_in (slice_set xs i v) i ≡ v
 set_here [] i v within = absurd (omega (arith, within))
 set_here (x ∷ xs) zero v within = refl
 set_here (x ∷ xs) (suc i) v within = set_here xs i v (omega (arith, within))
 
-set_later : (xs : List Bool) (i k : ℕ) (v : Bool) → k < i → is_lined (slice_set xs i v) k ≡ is_lined xs k
+set_later : (xs : List (Option ℕ)) (i k : ℕ) (v : Option ℕ) → k < i → rounding_in (slice_set xs i v) k ≡ rounding_in xs k
 set_later [] i k v lt = refl
 set_later (x ∷ xs) zero k v lt = absurd (omega (arith, lt))
 set_later (x ∷ xs) (suc i) zero v lt = refl
 set_later (x ∷ xs) (suc i) (suc k) v lt = set_later xs i k v (omega (arith, lt))
 
-pub one_more : (f : ℕ → Bool) (xs : List Bool) (i : ℕ) (v : Bool) → i < length xs → v ≡ f i → ((k : ℕ) → k < i → is_lined xs k ≡ f k) → (k : ℕ) → k < i + 1 → is_lined (slice_set xs i v) k ≡ f k
+pub one_more : (f : ℕ → Option ℕ) (xs : List (Option ℕ)) (i : ℕ) (v : Option ℕ) → i < length xs → v ≡ f i → ((k : ℕ) → k < i → rounding_in xs k ≡ f k) → (k : ℕ) → k < i + 1 → rounding_in (slice_set xs i v) k ≡ f k
 one_more f xs i v within is before k lt = by (cases_lt k i) where
-  by : (k < i) ⊎ (i ≤ k) → is_lined (slice_set xs i v) k ≡ f k
+  by : (k < i) ⊎ (i ≤ k) → rounding_in (slice_set xs i v) k ≡ f k
   by (inl less) = set_later xs i k v less ∙ before k less
   by (inr more) =
       let same : i ≡ k = omega (arith, lt, more) in
-      subst (λ (n : ℕ). is_lined (slice_set xs i v) n ≡ f n) same (set_here xs i v within ∙ is)
+      subst (λ (n : ℕ). rounding_in (slice_set xs i v) n ≡ f n) same (set_here xs i v within ∙ is)

@@ -7,12 +7,12 @@ use Rattle.std.specs.Option.{option_map_or}
 use Rattle.std.proofs.lemmas.Option.{slice_get-map}
 use Rattle.afdx_account.specs.Policing.{parts}
 use Rattle.afdx_serial.specs.Curves.{Curve}
-use Rattle.afdx_units.specs.declared.line.Speed.{Speed}
 use Rattle.afdx_table.specs.declared.rows.PortRow.{PortRow}
 use Rattle.afdx_table.specs.Content.{Content}
 use Rattle.afdx_load.specs.Load.{Load, load_of}
 use Rattle.afdx_load.specs.Bounds.{bounds_of}
 use Rattle.afdx_grouping.specs.Burst.{least_burst}
+use Rattle.afdx_serial.specs.Serial.{KnownLine}
 use Rattle.afdx_grouping.specs.Groups.{group_at, all_curve, high_curve, line_at, all_curves, high_curves, lesser_load}
 use Rattle.afdx_grouping.specs.Scatter.{later}
 use Rattle.afdx_jitter.specs.declared.delays.Delays.{Delays}
@@ -22,7 +22,7 @@ use Rattle.afdx_wiring.specs.declared.layout.End.{End}
 use Rattle.afdx_wiring.specs.declared.layout.Wire.{Wire}
 use Rattle.afdx_wiring.specs.declared.ways.Way.{Way}
 use Rattle.afdx_wiring.specs.File.{Switch, is_end}
-use Rattle.afdx_wiring.specs.Net.{Network, Row, Back, rows_of, ingress, wire_to, is_wired, stated_least, least_at, scatter_at, load_at, bound_in, bound_at, IsWayBack, source_of, AreDelays}
+use Rattle.afdx_wiring.specs.Net.{Network, Row, Back, rows_of, ingress, wire_to, is_wired, stamp_rounding, rounding_at, stated_least, least_at, scatter_at, load_at, bound_in, bound_at, IsWayBack, source_of, AreDelays}
 use Rattle.afdx_wiring.specs.Ways.{end_of, wire_from, leads_out, exits_at, exits_of, line_of, AreNeedsOn, IsWayOver, IsWayOut, AreWaysOf}
 use Rattle.afdx_wiring.specs.Outage.{up_switch, up_wire, all_up}
 
@@ -72,6 +72,9 @@ module _ (net : Network) where
   wired_up : (switch port : ℕ) → is_wired (all_up net) switch port ≡ is_wired net switch port
   wired_up switch port = let e : End = record { switch = switch; port = port } in ap is_some (wire_to_up e) ∙ is_some_up (wire_to net e)
 
+  rounding_up : (switch port : ℕ) → rounding_at (all_up net) switch port ≡ rounding_at net switch port
+  rounding_up switch port = ap (λ (b : Bool). cond b (Some 0) (cond net.layout.one_line (Some stamp_rounding) None)) (wired_up switch port)
+
   -- ---- exits
 
   leads_up : (x : Exit) → leads_out (all_up net) x ≡ leads_out net x
@@ -96,25 +99,25 @@ module _ (net : Network) where
 
   load_up : (switch : ℕ) (t : Content) (p : PortRow) → load_at (all_up net) switch t p ≡ load_at net switch t p
   load_up switch t p =
-      ap (λ (scatter : ℕ). lesser_load scatter (is_wired (all_up net) switch) t p) (scatter_up switch t) ∙ lined (scatter_at net switch t) where
+      ap (λ (scatter : ℕ). lesser_load scatter (rounding_at (all_up net) switch) t p) (scatter_up switch t) ∙ lined (scatter_at net switch t) where
         scatter_up : (n : ℕ) (u : Content) → scatter_at (all_up net) n u ≡ scatter_at net n u
         scatter_up n u = ap (λ (least : ℕ). u.latency - least) (least_up n u)
 
-        lines : (from : PortRow) → line_at (is_wired (all_up net) switch) from ≡ line_at (is_wired net switch) from
-        lines from = ap (λ (b : Bool). cond b (Some from.speed) None) (wired_up switch from.id)
+        lines : (from : PortRow) → line_at (rounding_at (all_up net) switch) from ≡ line_at (rounding_at net switch) from
+        lines from = ap (option_map (λ (rounding : ℕ). let line : KnownLine = record { speed = from.speed; rounding = rounding } in line)) (rounding_up switch from.id)
 
-        lined : (scatter : ℕ) → lesser_load scatter (is_wired (all_up net) switch) t p ≡ lesser_load scatter (is_wired net switch) t p
+        lined : (scatter : ℕ) → lesser_load scatter (rounding_at (all_up net) switch) t p ≡ lesser_load scatter (rounding_at net switch) t p
         lined scatter =
             let load : List Curve → List Curve → Load
             = λ all high. record (load_of t.latency p.speed p.id t.links) { burst = least_burst parts all; high_burst = least_burst parts high } in
-            let all = map_same (λ (from : PortRow). later scatter (all_curve p.speed (line_at (is_wired (all_up net) switch) from) (group_at t.links from.id p)))
-            (λ (from : PortRow). later scatter (all_curve p.speed (line_at (is_wired net switch) from) (group_at t.links from.id p))) t.ports
-            (λ from. ap (λ (line : Option Speed). later scatter (all_curve p.speed line (group_at t.links from.id p))) (lines from)) in
-            let high = map_same (λ (from : PortRow). later scatter (high_curve p.speed (line_at (is_wired (all_up net) switch) from) (group_at t.links from.id p)))
-            (λ (from : PortRow). later scatter (high_curve p.speed (line_at (is_wired net switch) from) (group_at t.links from.id p))) t.ports
-            (λ from. ap (λ (line : Option Speed). later scatter (high_curve p.speed line (group_at t.links from.id p))) (lines from)) in
-            ap (λ (curves : List Curve). load curves (high_curves scatter t (is_wired (all_up net) switch) p)) all
-            ∙ ap (λ (curves : List Curve). load (all_curves scatter t (is_wired net switch) p) curves) high
+            let all = map_same (λ (from : PortRow). later scatter (all_curve p.speed (line_at (rounding_at (all_up net) switch) from) (group_at t.links from.id p)))
+            (λ (from : PortRow). later scatter (all_curve p.speed (line_at (rounding_at net switch) from) (group_at t.links from.id p))) t.ports
+            (λ from. ap (λ (line : Option KnownLine). later scatter (all_curve p.speed line (group_at t.links from.id p))) (lines from)) in
+            let high = map_same (λ (from : PortRow). later scatter (high_curve p.speed (line_at (rounding_at (all_up net) switch) from) (group_at t.links from.id p)))
+            (λ (from : PortRow). later scatter (high_curve p.speed (line_at (rounding_at net switch) from) (group_at t.links from.id p))) t.ports
+            (λ from. ap (λ (line : Option KnownLine). later scatter (high_curve p.speed line (group_at t.links from.id p))) (lines from)) in
+            ap (λ (curves : List Curve). load curves (high_curves scatter t (rounding_at (all_up net) switch) p)) all
+            ∙ ap (λ (curves : List Curve). load (all_curves scatter t (rounding_at net switch) p) curves) high
 
   bound_up : (r : Row) (p : PortRow) → bound_at (all_up net) r p ≡ bound_at net r p
   bound_up r p = by (slice_get net.tables r.switch) where

@@ -22,7 +22,7 @@ use Rattle.afdx_jitter.specs.Delay.{hop_of, joined, at_once}
 use Rattle.afdx_wiring.specs.declared.layout.End.{End}
 use Rattle.afdx_wiring.specs.declared.layout.Wire.{Wire}
 use Rattle.afdx_wiring.specs.File.{Layout, is_end}
-use Rattle.afdx_wiring.specs.Net.{Network, Row, Back, row_at, ingress, wire_to, port_at, is_wired, stated_least, least_at, scatter_at, load_at, bound_in, bound_at, IsSource, IsWayBack, source_of, AreDelays}
+use Rattle.afdx_wiring.specs.Net.{Network, Row, Back, row_at, ingress, wire_to, port_at, rounding_at, stated_least, least_at, scatter_at, load_at, bound_in, bound_at, IsSource, IsWayBack, source_of, AreDelays}
 use Rattle.afdx_wiring.specs.Rules.{Joins}
 use Rattle.afdx_wiring.specs.Order.{row_before, source_by, source_within}
 use Rattle.afdx_wiring.specs.Needs.{bare_link, DiffersInJitters, KeepsToLines}
@@ -127,7 +127,7 @@ crossed net other set w id b c wired pair leads =
     let formed = all_at IsWellFormed other.tables w.from.switch pair.there.table set.there pair.there.table_is in
     let rate = rate_there net other set.lines w.from id b c pair p joined.start_is in
     let member = set.links.is_row pair.there.table id c.link pair.there.link_is in
-    let h = lesser_bounded set.leaves (scatter_at other c.switch pair.there.table) (is_wired other c.switch) pair.there.table p c.link formed member.1 leads_on rate in
+    let h = lesser_bounded set.leaves (scatter_at other c.switch pair.there.table) (rounding_at other c.switch) pair.there.table p c.link formed member.1 leads_on rate in
     let table_is : slice_get other.tables c.switch ≡ Some pair.there.table = ap (slice_get other.tables) pair.there.switch_is ∙ pair.there.table_is in
     record {
       table = pair.there.table;

@@ -32,6 +32,8 @@ pub record Switch : Type 0 where
   pub down : Bool
 
 pub record Layout : Type 0 where
+  -- what each end system's port captured came over one line
+  pub one_line : Bool
   pub switches : List Switch
   pub wires : List Wire
 
@@ -118,25 +120,27 @@ wires_from n switches before (ms ∷ rest) = do
 
 -- what the top says: the version is the first, and there are at most 64 switches
 pub record Top : Type 0 where
+  pub one_line : Bool
   pub switches : List Members
   pub wires : List Members
 
 unfoldable pub top_at : Members → Result Top NetworkFault
 top_at ms = do
-  known ← known_at place.Top (key.Version ∷ key.Switch ∷ key.Wire ∷ []) ms
+  known ← known_at place.Top (key.Version ∷ key.OneLine ∷ key.Switch ∷ key.Wire ∷ []) ms
   version ← optional_number_at place.Top key.Version 1 1 ms
   is_first ← unless (version == 0) (Range place.Top key.Version)
+  one_line ← flag_at place.Top key.OneLine ms
   switches ← tables_at place.Top key.Switch ms
   wires ← tables_at place.Top key.Wire ms
   few ← unless (nat_lt 64 (length switches)) (Range place.Top key.Switch)
-  Ok (record { switches = switches; wires = wires })
+  Ok (record { one_line = one_line; switches = switches; wires = wires })
 
 unfoldable pub layout_in : Members → Result Layout NetworkFault
 layout_in ms = do
   top ← top_at ms
   switches ← switches_from 0 [] top.switches
   wires ← wires_from 0 switches [] top.wires
-  Ok (record { switches = switches; wires = wires })
+  Ok (record { one_line = top.one_line; switches = switches; wires = wires })
 
 -- TOML 1.1, as the library toml reads it: the tree of the bytes, which are UTF-8
 unfoldable pub tree_of : List ℕ → Result Members NetworkFault

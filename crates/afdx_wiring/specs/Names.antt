@@ -9,6 +9,7 @@ use Rattle.afdx_wiring.specs.declared.fault.Key.TheVariants as key
 
 abbrev pub key_text : Key → List ℕ
 key_text key.Version = codes "version"
+key_text key.OneLine = codes "one_line"
 key_text key.Switch = codes "switch"
 key_text key.Wire = codes "wire"
 key_text key.Name = codes "name"

@@ -1,5 +1,5 @@
 -- A network: what its file says, and the tables of its switches (profile). The wires of a link's way are found from its end.
-use Rattle.std.specs.Prelude.{◌≡◌, ℕ, ◌+◌, ◌-◌, min, true, List, [], ◌∷◌, map, filter, find, flat_map, slice_get, Option, Some, None, option_map, option_and_then, is_some, Bool, Contains}
+use Rattle.std.specs.Prelude.{◌≡◌, ℕ, ◌+◌, ◌-◌, min, true, List, [], ◌∷◌, map, filter, find, flat_map, if◌then◌else◌, slice_get, Option, Some, None, option_map, option_and_then, is_some, Bool, Contains}
 use Rattle.std.specs.List.{enumerate_from}
 use Rattle.afdx_units.specs.declared.line.Priority.{Priority}
 use Rattle.afdx_units.specs.declared.line.Priority.TheVariants.{High, Low}
@@ -98,6 +98,15 @@ source_of r (b ∷ more) = source_of b.row more
 
 -- ---- what a frame takes for it
 
+-- profile: a stamp of whole microseconds, as pcap has it, is below the instant at which its frame came by at most so many nanoseconds
+abbrev pub stamp_rounding : ℕ
+stamp_rounding = 999
+
+-- at this port of the switch frames come one after the other, to within so many nanoseconds, where that is known: what comes over a wire
+-- exactly, and what an end system sends where the file says that it has one line
+abbrev pub rounding_at : Network → (switch port : ℕ) → Option ℕ
+rounding_at net switch port = if is_wired net switch port then Some 0 else if net.layout.one_line then Some stamp_rounding else None
+
 -- the least time that a switch is said to take; 0 where it is not known
 abbrev pub stated_least : Network → (switch : ℕ) → ℕ
 stated_least net switch = option_map_or (λ s. s.least) (slice_get net.layout.switches switch) 0
@@ -109,9 +118,9 @@ least_at net switch t = min (stated_least net switch) t.latency
 abbrev pub scatter_at : Network → (switch : ℕ) → Content → ℕ
 scatter_at net switch t = t.latency - least_at net switch t
 
--- the load of a port of the switch, where what comes over a wire is counted one frame after the other
+-- the load of a port of the switch, where frames that are known to come one after the other are counted so
 abbrev pub load_at : Network → (switch : ℕ) → Content → PortRow → Load
-load_at net switch t p = lesser_load (scatter_at net switch t) (is_wired net switch) t p
+load_at net switch t p = lesser_load (scatter_at net switch t) (rounding_at net switch) t p
 
 -- the bound of a priority
 abbrev pub bound_in : Bounds → Priority → Option ℕ

@@ -35,7 +35,7 @@ up_wire w = record w { down = false }
 
 -- the network of the same file with nothing down
 abbrev pub all_up : Network → Network
-all_up net = record net { layout = record { switches = map up_switch net.layout.switches; wires = map up_wire net.layout.wires } }
+all_up net = record net { layout = record net.layout { switches = map up_switch net.layout.switches; wires = map up_wire net.layout.wires } }
 
 -- an outage changes no way, neither those that use what is down nor the others
 abbrev pub OutagesChangeNoWay : Type 0

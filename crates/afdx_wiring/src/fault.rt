@@ -21,6 +21,7 @@ pub enum At {
 #[derive(Clone, Copy, Debug, PartialEq, Eq)]
 pub enum Key {
     Version,
+    OneLine,
     Switch,
     Wire,
     Name,
@@ -109,6 +110,7 @@ impl Key {
     {
         match self {
             Key::Version => "version",
+            Key::OneLine => "one_line",
             Key::Switch => "switch",
             Key::Wire => "wire",
             Key::Name => "name",

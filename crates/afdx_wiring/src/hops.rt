@@ -21,8 +21,8 @@ use std::marker::Model;
 /// No table that is accepted has a bound of more nanoseconds.
 const MAX_BOUND: u128 = 1_000_000_000_000;
 
-/// The bounds of all switches of a network: what comes over a wire comes one frame after the other, and latencies differ as the
-/// network says.
+/// The bounds of all switches of a network: frames come one after the other where that is known, and latencies differ as the network
+/// says.
 ///
 /// Contracts see it as the network.
 #[derive(Drop)]
@@ -92,7 +92,7 @@ fn switch_bounds(
 {
     only_ports_count();
     let scatter = network.scatter_at(switch, table);
-    lesser_bounds(alloc, table, &network.wired(switch), scatter)
+    lesser_bounds(alloc, table, &network.roundings(switch), scatter)
 }
 
 impl<'a> Hops<'a> {

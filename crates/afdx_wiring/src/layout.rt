@@ -50,9 +50,11 @@ pub struct Wire {
 
 /// What a network file says.
 ///
-/// Contracts see it as a record of these two lists.
+/// Contracts see it as a record of these fields.
 #[derive(Debug, Drop)]
 pub struct Layout {
+    /// Whether what each end system's port captured came over one line, one frame after the other.
+    pub one_line: bool,
     /// In file order, at most 64, of different names.
     pub switches: Vec<Switch>,
     /// In file order; no two come from one port, and no two go to one port.
@@ -64,5 +66,5 @@ impl Model for Layout {
 
     ghost Value = { Seen };
 
-    ghost view = { λ l. record { switches = l.switches.items; wires = l.wires.items } };
+    ghost view = { λ l. record { one_line = l.one_line; switches = l.switches.items; wires = l.wires.items } };
 }

@@ -50,7 +50,7 @@ pub use exit::Exit;
 pub use fault::{At, Key, NetworkFault, Short};
 pub use jitters::{Needs, RowNeed, all_past};
 pub use layout::{End, Layout, Switch, Wire};
-pub use network::Network;
+pub use network::{Network, STAMP_ROUNDING};
 pub use outage::OutageWays;
 pub use row::Row;
 pub use top::read;

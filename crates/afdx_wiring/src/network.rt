@@ -1,9 +1,9 @@
 //! A network: its wiring and the tables of its switches.
 
 ghost use Rattle.std.specs.Prelude.{◌≡◌, ◌<◌, ◌≤◌, ℕ, MatchResult, Ok, Err, option_map, option_copied, slice_get, find};
-ghost use Rattle.afdx_grouping.specs.Lined.{is_lined};
+ghost use Rattle.afdx_grouping.specs.Lined.{rounding_in};
 ghost use Rattle.afdx_wiring.specs.File.{is_end};
-ghost use Rattle.afdx_wiring.specs.Net.{port_at, row_at, ingress, wire_to, is_wired, stated_least, least_at, scatter_at};
+ghost use Rattle.afdx_wiring.specs.Net.{port_at, row_at, ingress, wire_to, rounding_at, stated_least, least_at, scatter_at};
 ghost use Rattle.afdx_wiring.specs.Order.{row_of, is_port, lost_port, lost_latency, leading, row_before};
 
 use crate::fault::{At, NetworkFault};
@@ -13,6 +13,9 @@ use crate::wires::is_end;
 use afdx_grouping::PLACES;
 use afdx_table::{PortRow, Table};
 use std::marker::Model;
+
+/// By how many nanoseconds a stamp of whole microseconds is below the instant at which its frame came, at most (profile).
+pub const STAMP_ROUNDING: u16 = 999;
 
 /// A network: each end of its wires is a port.
 ///
@@ -189,19 +192,32 @@ impl Network {
         self.layout.wires.iter().find(|wire| is_end(wire.to, end))
     }
 
-    /// To which ports of a switch a wire goes, in the places of their numbers. O(wires), for each place.
-    pub(crate) fn wired(&self, switch: usize) -> [bool; PLACES]
-        ensures { (port : ℕ) → port < 25 → is_lined result port ≡ is_wired self.now switch port }
+    /// To within how many nanoseconds frames come one after the other at a port, where that is known. O(wires).
+    fn rounding_at(&self, end: End) -> Option<u16>
+        ensures { result ≡ rounding_at self.now end.switch end.port }
     {
-        let mut wired = [false; PLACES];
+        if self.wire_to(end).is_some() {
+            Some(0)
+        } else if self.layout.one_line {
+            Some(STAMP_ROUNDING)
+        } else {
+            None
+        }
+    }
+
+    /// The same of the ports of a switch, in the places of their numbers. O(wires), for each place.
+    pub(crate) fn roundings(&self, switch: usize) -> [Option<u16>; PLACES]
+        ensures { (port : ℕ) → port < 25 → rounding_in result port ≡ rounding_at self.now switch port }
+    {
+        let mut roundings: [Option<u16>; PLACES] = [None; PLACES];
         for port in 0..PLACES {
             let end = End {
                 switch,
                 port: port as u8,
             };
-            wired[port] = self.wire_to(end).is_some();
+            roundings[port] = self.rounding_at(end);
         }
-        wired
+        roundings
     }
 
     /// The row that sends a link on a wire, where there is one.

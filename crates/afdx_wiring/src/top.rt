@@ -16,9 +16,10 @@ use toml::Table as Tree;
 /// The most switches of a network.
 const MAX_SWITCHES: usize = 64;
 
-/// What the top says: the tables of the switches and of the wires.
+/// What the top says of end systems' lines, and the tables of the switches and of the wires.
 #[derive(Drop)]
 struct Top<'a> {
+    one_line: bool,
     switches: Vec<&'a Tree>,
     wires: Vec<&'a Tree>,
 }
@@ -27,6 +28,7 @@ struct Top<'a> {
 #[tactic(auto, unfolding(crate::specs::File::top_at))]
 fn read_top<'a>(alloc: Global, tree: &'a Tree) -> Result<Top<'a>, NetworkFault>
     ensures { Gives (λ t. record {
+      one_line = t.one_line;
       switches = map (λ s. table_view s.now) t.switches.items;
       wires = map (λ w. table_view w.now) t.wires.items;
     }) result (top_at (table_view tree.now)) }
@@ -35,17 +37,22 @@ fn read_top<'a>(alloc: Global, tree: &'a Tree) -> Result<Top<'a>, NetworkFault>
         at: At::Top,
         table: tree,
     };
-    fields.known(&[Key::Version, Key::Switch, Key::Wire])?;
+    fields.known(&[Key::Version, Key::OneLine, Key::Switch, Key::Wire])?;
     let version = fields.optional_number(Key::Version, 1, 1)?;
     if version == 0 {
         return Err(NetworkFault::Range(At::Top, Key::Version));
     }
+    let one_line = fields.flag(Key::OneLine)?;
     let switches = fields.tables(alloc, Key::Switch)?;
     let wires = fields.tables(alloc, Key::Wire)?;
     if switches.len() > MAX_SWITCHES {
         return Err(NetworkFault::Range(At::Top, Key::Switch));
     }
-    Ok(Top { switches, wires })
+    Ok(Top {
+        one_line,
+        switches,
+        wires,
+    })
 }
 
 /// The layout of a tree.
@@ -56,7 +63,11 @@ fn read_tree(alloc: Global, tree: &Tree) -> Result<Layout, NetworkFault>
     let top = read_top(alloc, tree)?;
     let switches = read_switches(alloc, &top.switches)?;
     let wires = read_wires(alloc, &switches, &top.wires)?;
-    Ok(Layout { switches, wires })
+    Ok(Layout {
+        one_line: top.one_line,
+        switches,
+        wires,
+    })
 }
 
 /// The tree that a text is.
@@ -79,7 +90,7 @@ fn read_text(alloc: Global, bytes: &[u8]) -> Result<Tree, NetworkFault>
 /// The first refusal in this order is given, and `Memory` where memory ran out:
 ///
 /// 1. `Toml`: bytes that are not UTF-8, or a text that the library `toml` refuses for another cause than memory.
-/// 2. At the top: `UnknownKey`; of `version` `Kind`, `Range`; of `switch`, then of `wire`, `Kind`; of `switch` `Range`,
+/// 2. At the top: `UnknownKey`; of `version` `Kind`, `Range`; of `one_line` `Kind`; of `switch`, then of `wire`, `Kind`; of `switch` `Range`,
 ///    where there are more than 64.
 /// 3. At each switch in array order: `UnknownKey`; of `name` `MissingKey`, `Kind`, `Range`; of `table` the same;
 ///    of `least_latency_us` `Kind`, `Range`; of `down` `Kind`; `TwiceSwitch`.

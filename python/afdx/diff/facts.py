@@ -4,7 +4,7 @@ from typing import TypeAlias
 
 NONE = "-"  # of a value that is not there
 # rows of the files, then what the program says of them; the order in which differences are printed
-KINDS = ("switch", "wire", "table", "port", "link", "load", "need", "way", "check")
+KINDS = ("network", "switch", "wire", "table", "port", "link", "load", "need", "way", "check")
 
 
 @dataclass(frozen=True)

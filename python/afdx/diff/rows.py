@@ -26,12 +26,17 @@ def table_facts(table: dict[str, Any], switch: str = "") -> Facts:
 
 def down_of(row: dict[str, Any]) -> str:
     """Answers whether a switch or a wire is down."""
-    return "true" if row.get("down") else "false"
+    return truth_of(row, "down")
+
+
+def truth_of(row: dict[str, Any], key: str) -> str:
+    """Writes an optional truth value."""
+    return "true" if row.get(key) else "false"
 
 
 def network_facts(network: dict[str, Any]) -> Facts:
-    """Answers the switches and wires of a network file. Where its tables lie is no fact."""
-    facts: Facts = {}
+    """Answers the top, the switches and the wires of a network file. Where its tables lie is no fact."""
+    facts: Facts = {Place("", "network", ""): {"one_line": truth_of(network, "one_line")}}
     for switch in network.get("switch", []):
         facts[Place("", "switch", switch["name"])] = {"least_latency_us": str(switch.get("least_latency_us", 0)),
                                                       "down": down_of(switch)}

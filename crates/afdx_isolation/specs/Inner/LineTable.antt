@@ -1,5 +1,5 @@
 -- The same on the rows of a table whose load is accepted: over the lines of its ports.
-use Rattle.std.specs.Prelude.{◌≡◌, ℕ, ◌+◌, ◌≤◌, Bool, ◌&&◌, nat_eq, Some, None, if◌then◌else◌, List, map, All, Contains}
+use Rattle.std.specs.Prelude.{◌≡◌, ℕ, ◌+◌, ◌≤◌, Bool, ◌&&◌, nat_eq, Option, Some, option_map, List, map, All, Contains}
 use Rattle.std.specs.List.{list_any}
 use Rattle.afdx_units.specs.Line.{cost_of}
 use Rattle.afdx_port.specs.declared.Item.{Item}
@@ -20,20 +20,21 @@ use Rattle.afdx_isolation.specs.Table.{bound_of, settings_of}
 abbrev pub comes_in : List Link → (port id : ℕ) → Bool
 comes_in links port id = list_any (λ l. nat_eq l.id id && nat_eq l.from port) links
 
--- the lines of a table's ports, over some of which frames are known to come one after the other
-abbrev pub line_at : List Link → (ℕ → Bool) → PortRow → Line
-line_at links lined q = record { has = comes_in links q.id; speed = if lined q.id then Some q.speed else None }
+-- the lines of a table's ports, over some of which frames are known to come one after the other, to within so many nanoseconds
+abbrev pub line_at : List Link → (rounding_at : ℕ → Option ℕ) → PortRow → Line
+line_at links rounding_at q =
+    record { has = comes_in links q.id; known = option_map (λ rounding. record { speed = q.speed; rounding = rounding }) (rounding_at q.id) }
 
-abbrev pub lines_of : Content → (ℕ → Bool) → List Line
-lines_of t lined = map (line_at t.links lined) t.ports
+abbrev pub lines_of : Content → (ℕ → Option ℕ) → List Line
+lines_of t rounding_at = map (line_at t.links rounding_at) t.ports
 
 -- a load whose links ask for less at once
 abbrev pub lesser : Load → (burst high_burst : ℕ) → Load
 lesser load burst high_burst = record load { burst = burst; high_burst = high_burst }
 
 -- lesser bursts that are enough at a port
-pub record AreLesser (t : Content) (row : PortRow) (lined : ℕ → Bool) (burst high_burst : ℕ) : Type 0 where
-  pub enough : AreEnough (settings_of t.latency row) (flows_at t row) (lines_of t lined) burst high_burst
+pub record AreLesser (t : Content) (row : PortRow) (rounding_at : ℕ → Option ℕ) (burst high_burst : ℕ) : Type 0 where
+  pub enough : AreEnough (settings_of t.latency row) (flows_at t row) (lines_of t rounding_at) burst high_burst
   pub all_less : burst ≤ (load_of t.latency row.speed row.id t.links).burst
   pub high_less : high_burst ≤ (load_of t.latency row.speed row.id t.links).high_burst
 
@@ -46,6 +47,6 @@ pub record IsInLesserBound (t : Content) (row : PortRow) (burst high_burst : ℕ
 
 abbrev pub AcceptedLinesKeepBounds : Type 0
 AcceptedLinesKeepBounds = (t : Content) (arrivals : List Item) → ArriveAt t arrivals → (row : PortRow) → Contains t.ports row
-    → (lined : ℕ → Bool) → KeepToLines (lines_of t lined) arrivals → (burst high_burst : ℕ) → AreLesser t row lined burst high_burst
+    → (rounding_at : ℕ → Option ℕ) → KeepToLines (lines_of t rounding_at) arrivals → (burst high_burst : ℕ) → AreLesser t row rounding_at burst high_burst
     → (c : PortContent) → c.settings ≡ settings_of t.latency row → c.admitted ≡ admitted (settings_of t.latency row) (feed_of (flows_at t row) arrivals)
     → All (IsInLesserBound t row burst high_burst) (sent_of (done c))

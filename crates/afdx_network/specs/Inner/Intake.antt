@@ -1,24 +1,29 @@
 -- What is given for a run, as far as it was read.
-use Rattle.std.specs.Prelude.{◌≡◌, ◌<◌, ◌≤◌, ◌+◌, ◌*◌, ◌∷◌, ◌++◌, ℕ, List, [], map, length, slice_get, Option, Some, None, Contains}
+use Rattle.std.specs.Prelude.{◌≡◌, ◌<◌, ◌≤◌, ◌+◌, ◌*◌, ◌∷◌, ◌++◌, ℕ, true, if◌then◌else◌, List, [], map, length, slice_get, Option, Some, None, All, Contains}
 use Rattle.std.specs.List.{AllByRecursion, position_or_len}
 use Rattle.afdx_units.specs.Time.{second, last_second}
 use Rattle.afdx_pcap.specs.Record.{Record}
 use Rattle.afdx_pcap.specs.Capture.{IsCapture}
 use Rattle.afdx_session.specs.Texts.{Text}
+use Rattle.afdx_session.specs.Lined.{RecordsKeepToLineWithin}
 use Rattle.afdx_merging.specs.declared.clock.Clock.{Clock}
 use Rattle.afdx_merging.specs.declared.fault.MergeFault.{MergeFault}
 use Rattle.afdx_merging.specs.declared.fault.MergeFault.TheVariants as merge
 use Rattle.afdx_merging.specs.Merge.{Arrival, at_place}
 use Rattle.afdx_merging.specs.Read.{AreMerged, HasFirstFault}
 use Rattle.afdx_merging.specs.Inner.Merging.{HasMerged, least_of, lesser}
+use Rattle.afdx_table.specs.declared.rows.PortRow.{PortRow}
+use Rattle.afdx_table.specs.WellFormed.{IsWellFormed}
 use Rattle.afdx_wiring.specs.declared.layout.End.{End}
 use Rattle.afdx_wiring.specs.File.{is_end}
-use Rattle.afdx_wiring.specs.Net.{Network}
+use Rattle.afdx_wiring.specs.Net.{Network, port_at, stamp_rounding}
 use Rattle.afdx_network.specs.declared.intake.Intake.{Intake}
+use Rattle.afdx_network.specs.declared.line.Line.{Line}
 use Rattle.afdx_network.specs.declared.fault.NetworkRunFault.{NetworkRunFault}
 use Rattle.afdx_network.specs.declared.fault.NetworkRunFault.TheVariants as fault
 use Rattle.afdx_network.specs.Runs.{Given}
-use Rattle.afdx_network.specs.Given.{open_ends, AreGiven}
+use Rattle.afdx_network.specs.Given.{open_ends, AreGiven, IsBreachAt}
+use Rattle.afdx_network.specs.Inner.OneLine.{HasBrought}
 use Rattle.afdx_network.specs.Inner.Sites.{end_at}
 
 -- the clock of all captures: stamps are as they are
@@ -29,13 +34,25 @@ same_clock = record { later = 0; sooner = 0; delay = 0 }
 abbrev pub end_place : List End → End → ℕ
 end_place ends e = position_or_len (λ x. is_end x e) ends
 
--- the records of these arrivals that came in at a port: those of the capture at its place
+-- the records of these arrivals that the capture at a place has
+abbrev pub records_at : (place : ℕ) → List Arrival → List Record
+records_at place came = map (λ a. a.head.frame) (at_place place came)
+
+-- those that came in at a port: of the capture at its place
 abbrev pub came_at : List End → List Arrival → (switch port : ℕ) → List Record
-came_at ends came switch port = map (λ a. a.head.frame) (at_place (end_place ends (end_at switch port)) came)
+came_at ends came switch port = records_at (end_place ends (end_at switch port)) came
+
+-- there is a line of each port where the file says so, and it has brought those of these arrivals that came in there; each port is there once
+pub record AreMet (net : Network) (lines : List Line) (came : List Arrival) : Type 0 where
+  pub formed : net.layout.one_line ≡ true → All IsWellFormed net.tables
+  pub many : length lines ≡ (if net.layout.one_line then length (open_ends net) else 0)
+  pub each : (place : ℕ) (line : Line) (e : End) (row : PortRow) → slice_get lines place ≡ Some line → slice_get (open_ends net) place ≡ Some e
+      → port_at net e ≡ Some row → (line.speed ≡ row.speed) × HasBrought line (records_at place came)
 
 -- readers gave this at first, and of what they gave these arrivals were taken
 pub record HasTaken {R : Type 0} (remaining : R → Option (List ℕ)) (net : Network) (first now : List R) (i : Intake) (came : List Arrival) : Type 0 where
   pub ends : i.ends.items ≡ open_ends net
+  pub met : AreMet net i.lines.items came
   pub merged : HasMerged remaining (map (λ e. same_clock) (open_ends net)) first now i.merging came
 
 -- the stamp of the first record that was not taken
@@ -68,10 +85,37 @@ pub record IsNextIn {R : Type 0} (remaining : R → Option (List ℕ)) (net : Ne
   pub least : lesser (Some frame.stamp) (next_of new) ≡ next_of old
   pub early : frame.stamp < last_second
 
+-- ---- the lines, where all were taken
+
+-- those that came in at the port at a place came over one line
+abbrev pub IsOverItsLine : Network → List Arrival → (place : ℕ) → Type 0
+IsOverItsLine net came place = (e : End) (row : PortRow) → slice_get (open_ends net) place ≡ Some e → port_at net e ≡ Some row
+    → RecordsKeepToLineWithin stamp_rounding row.speed (records_at place came)
+
+-- where the file says so, all did
+abbrev pub AreOverLines : Network → List Arrival → Type 0
+AreOverLines net came = net.layout.one_line ≡ true → (place : ℕ) → IsOverItsLine net came place
+
+-- the file says so, and this is the first port of which it is not so, and the first record there that came too soon
+pub record BreaksALine (net : Network) (came : List Arrival) (switch port number : ℕ) : Type 0 where
+  pub said : net.layout.one_line ≡ true
+  pub formed : All IsWellFormed net.tables
+  pub place : ℕ
+  pub end_is : slice_get (open_ends net) place ≡ Some (end_at switch port)
+  pub before : (k : ℕ) → k < place → IsOverItsLine net came k
+  pub row : PortRow
+  pub row_is : port_at net (end_at switch port) ≡ Some row
+  pub breach : IsBreachAt row.speed (records_at place came) number
+
+abbrev pub IsLineFault : Network → List Arrival → NetworkRunFault → Type 0
+IsLineFault net came (fault.Line switch port number) = BreaksALine net came switch port number
+IsLineFault net came _ = ⊥
+
 -- all were taken
 pub record HasTakenAll {R : Type 0} (remaining : R → Option (List ℕ)) (net : Network) (first : List R) (old : Intake) (came : List Arrival) : Type 0 where
   pub more : List Arrival
   pub merged : AreMerged remaining (map (λ e. same_clock) (open_ends net)) first (came ++ more)
+  pub lines : AreOverLines net (came ++ more)
   pub none : next_of old ≡ None → more ≡ []
 
 -- ---- what is given is not read on
@@ -88,10 +132,13 @@ IsAmong count merge.Memory = Unit {0}
 IsAmong count (merge.Read place) = place < count
 IsAmong count (merge.Capture place reason) = place < count
 
--- memory ran out or a reader failed, which may be at any time; or all was read, and what this port's gives is the first that is no capture
+-- memory ran out or a reader failed, which may be at any time; or all was read, and what this port's gives is the first that is no capture, or
+-- all are, and this port's line is broken
 abbrev pub IsIntakeFault : {R : Type 0} → (R → Option (List ℕ)) → Network → List R → NetworkRunFault → Type 0
 IsIntakeFault remaining net readers fault.Memory = Unit {0}
 IsIntakeFault remaining net readers (fault.Read place) = place < length readers
 IsIntakeFault remaining net readers (fault.Capture switch port why) =
     (place : ℕ) × (slice_get (open_ends net) place ≡ Some (end_at switch port)) × HasFirstFault remaining readers place why
+IsIntakeFault remaining net readers (fault.Line switch port number) =
+    (came : List Arrival) × AreMerged remaining (map (λ e. same_clock) (open_ends net)) readers came × BreaksALine net came switch port number
 IsIntakeFault remaining net readers fault.WrongWires = ⊥

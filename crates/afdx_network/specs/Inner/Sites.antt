@@ -286,6 +286,7 @@ IsLateFault w frame fault.Memory = Unit {0}
 IsLateFault w frame (fault.Capture switch port why) = (switch ≡ w.to.switch) × (port ≡ w.to.port) × (last_second ≤ frame.stamp + w.delay)
 IsLateFault w frame (fault.Read place) = ⊥
 IsLateFault w frame fault.WrongWires = ⊥
+IsLateFault w frame (fault.Line switch port number) = ⊥
 
 -- a switch goes on within a window: nothing that leaves it up to the window's end becomes more, and no less has left
 pub record SendsOn (end : ℕ) (old new : Site) : Type 0 where

@@ -8,7 +8,7 @@ use Rattle.afdx_network.specs.declared.fault.NetworkRunFault.TheVariants as faul
 use Rattle.afdx_network.specs.declared.fault.Stop.{Stop}
 use Rattle.afdx_network.specs.declared.fault.Stop.TheVariants as stop
 use Rattle.afdx_network.specs.declared.intake.Intake.{Intake}
-use Rattle.afdx_network.specs.Runs.{Given}
+use Rattle.afdx_network.specs.Runs.{Given, KeepTheirLines}
 use Rattle.afdx_network.specs.Given.{HasOrder, NoneShareAPort, IsWireFault, AreGivenBy}
 use Rattle.afdx_network.specs.Inner.Sites.{Site, HasSent, AreCarried, HaveCome, AreEarly, gone_of}
 use Rattle.afdx_network.specs.Inner.Outputs.{HaveGone}
@@ -68,6 +68,7 @@ pub record HasRunThrough {R F : Type 0} (remaining : R → Option (List ℕ)) (c
 pub record IsRunOver {R F : Type 0} (remaining : R → Option (List ℕ)) (contents : F → Option (List ℕ)) (net : Network) (first : List R) (old new : List F) (sites : List Site) : Type 0 where
   pub given : Given
   pub given_by : AreGivenBy remaining net first given
+  pub lines : KeepTheirLines net given
   pub carried : AreCarried net given sites
   pub sent : All (HasSent None) sites
   pub one_each : NoneShareAPort net

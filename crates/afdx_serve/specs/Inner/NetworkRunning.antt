@@ -54,6 +54,12 @@ pub record AreOpenedEnds {R : Type 0} (remaining : R → Option (List ℕ)) (fil
   pub opened : AreOpened remaining files names readers
   pub come : AreComing remaining net.layout (open_ends net) readers all
 
+-- the failure of a record that came too soon for the line of a port of the switch at a place among these names; or memory
+abbrev pub IsLineFailure : Names → (switch port number : ℕ) → Failure → Type 0
+IsLineFailure names switch port number (failure.Network (network.Line at which name)) = (at ≡ port) × (which ≡ number) × (string_bytes name ≡ name_of names switch)
+IsLineFailure names switch port number failure.Memory = Unit {0}
+IsLineFailure names switch port number _ = ⊥
+
 -- the failure of the capture of a port of the switch at a place among these names; or memory
 abbrev pub IsCaptureFailure : Names → ℕ → ℕ → PcapFault → Failure → Type 0
 IsCaptureFailure names switch port why (failure.Network (network.Capture at reason name)) = (at ≡ port) × (reason ≡ why) × (string_bytes name ≡ name_of names switch)

@@ -3,11 +3,11 @@ use Rattle.std.specs.Prelude.{ℕ, ◌+◌, List, [], ◌∷◌}
 use Rattle.afdx_table.specs.Content.{Content}
 use Rattle.afdx_load.specs.declared.delays.Bounds.{Bounds}
 use Rattle.afdx_grouping.specs.Groups.{lesser_bounds}
-use Rattle.afdx_wiring.specs.Net.{Network, is_wired, scatter_at}
+use Rattle.afdx_wiring.specs.Net.{Network, rounding_at, scatter_at}
 
 -- those of the ports of a switch with this table
 abbrev pub switch_bounds : Network → ℕ → Content → List Bounds
-switch_bounds net n t = lesser_bounds (scatter_at net n t) (is_wired net n) t
+switch_bounds net n t = lesser_bounds (scatter_at net n t) (rounding_at net n) t
 
 -- by switch, of which n come before these
 abbrev pub bounds_from : Network → ℕ → List Content → List (List Bounds)

@@ -11,7 +11,7 @@ returns c =
       back = c.written_texts_read_back.ensures;
     }) (record {
       stages = c.lined_stages.ensures;
-      wired = c.wired_ports_keep_to_lines.ensures;
+      wired = c.ports_keep_to_lines.ensures;
       grouping = record {
         links = c.links_are_found.ensures;
         asks = c.asks_what_its_account_gives.ensures;

@@ -1,9 +1,9 @@
-use Rattle.std.proofs.Common.{rules, ◌≡◌, ◌∙◌, ◌++◌, ◌∷◌, [], Bool, List, length, get_or, slice_get, append_assoc, arith, ap, sym, subst}
+use Rattle.std.proofs.Common.{rules, ◌≡◌, ◌∙◌, ◌++◌, ◌∷◌, [], Bool, length, get_or, slice_get, append_assoc, arith, ap, sym, subst}
 use Rattle.std.specs.Vec.Iter.{into_iter_items}
 use Rattle.std.proofs.lemmas.Option.{slice_get-get_or}
 use Rattle.afdx_wiring.specs.File.{Layout, is_down}
 use Rattle.afdx_wiring.specs.declared.layout.End.{End}
-use Rattle.afdx_network.specs.Outage.{coming, comes, AreComing}
+use Rattle.afdx_network.specs.Outage.{comes, AreComing}
 use Rattle.afdx_network.proofs.Coming.{one_coming, next_end}
 use Rattle.afdx_network.proofs.outage.incoming_at.Goals as goal
 

@@ -3,7 +3,7 @@ use Rattle.std.specs.Prelude.{All}
 use Rattle.afdx_measure.specs.Wanted.{keeps_lists}
 use Rattle.afdx_network.specs.declared.fault.NetworkRunFault.TheVariants as fault
 use Rattle.afdx_network.specs.declared.fault.Stop.TheVariants as stop
-use Rattle.afdx_network.specs.Inner.Intake.{HasTaken, next_of}
+use Rattle.afdx_network.specs.Inner.Intake.{next_of}
 use Rattle.afdx_network.specs.Inner.Outputs.{HaveGone}
 use Rattle.afdx_network.specs.Inner.Sites.{Site, HaveCome, AreEarly, gone_of}
 use Rattle.afdx_network.specs.Inner.Noted.{NoneHasLeft, AreNoted}

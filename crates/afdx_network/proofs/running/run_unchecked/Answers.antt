@@ -1,4 +1,3 @@
-use Rattle.std.proofs.Common.{◌≡◌, List, sym, ap, subst}
 use Rattle.afdx_network.specs.declared.fault.NetworkRunFault.TheVariants as fault
 use Rattle.afdx_network.specs.Given.{IsFaultOver, IsUncheckedRefusal}
 use Rattle.afdx_network.proofs.AllLeft.{are_formed}

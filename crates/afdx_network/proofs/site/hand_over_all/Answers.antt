@@ -1,4 +1,4 @@
-use Rattle.std.proofs.Common.{◌≡◌, List, ap, sym, ◌∙◌, get_or, arith, subst}
+use Rattle.std.proofs.Common.{List, ap, ◌∙◌, get_or, arith, subst}
 use Rattle.std.proofs.lemmas.Option.{slice_get-get_or}
 use Rattle.afdx_network.specs.Inner.Outputs.{Output, gone_in, HaveGone}
 use Rattle.afdx_network.proofs.Handed.{gone_then, none_handed, one_handed, all_handed}

@@ -1,20 +1,14 @@
-use Rattle.std.proofs.Common.{◌≡◌, ◌<◌, ◌≤◌, ◌++◌, [], ℕ, max, List, length, append_assoc, refl, ap, sym, ◌∙◌, arith, subst}
-use Rattle.std.specs.Prelude.{All, Option, Some, None}
+use Rattle.std.proofs.Common.{◌++◌, [], ℕ, max, List, length, append_assoc, refl, ap, sym, ◌∙◌, arith, subst}
 use Rattle.afdx_units.specs.Time.{last_instant}
-use Rattle.afdx_load.specs.Accepted.{IsAccepted}
-use Rattle.afdx_merging.specs.Merge.{Arrival}
-use Rattle.afdx_wiring.specs.declared.layout.Wire.{Wire}
 use Rattle.afdx_network.specs.declared.fault.NetworkRunFault.TheVariants as fault
 use Rattle.afdx_network.specs.declared.fault.Stop.TheVariants as stop
-use Rattle.afdx_network.specs.Runs.{Given}
-use Rattle.afdx_network.specs.Given.{HasOrder}
-use Rattle.afdx_network.specs.Inner.Intake.{HasTaken, NoneCameLate, next_of}
+use Rattle.afdx_network.specs.Inner.Intake.{HasTaken, next_of}
 use Rattle.afdx_network.specs.Inner.Outputs.{HaveGone}
-use Rattle.afdx_network.specs.Inner.Sites.{Site, AreEarly, IsFirst, earlier_of, gone_of}
-use Rattle.afdx_network.specs.Inner.Windows.{IsOnWay, GoesOn, IsStop}
+use Rattle.afdx_network.specs.Inner.Sites.{IsFirst, earlier_of}
+use Rattle.afdx_network.specs.Inner.Windows.{IsStop}
 use Rattle.afdx_network.proofs.Answering.{of_error}
 use Rattle.afdx_network.proofs.Choosing.{sooner, no_sooner}
-use Rattle.afdx_network.proofs.Going.{OnTheRun, run_begins, way_later, opens_at, window_on, goes_then, going_handed, none_came_late, soon_before, run_is_quiet, run_ends, stops, next_early, none_then}
+use Rattle.afdx_network.proofs.Going.{run_begins, way_later, opens_at, window_on, goes_then, going_handed, none_came_late, soon_before, run_is_quiet, run_ends, stops, next_early, none_then}
 use Rattle.afdx_network.proofs.Going.{none_first, gone_as_many, same_gone, reached_by, no_memory}
 use Rattle.afdx_network.proofs.Noting.{noted_handed}
 use Rattle.afdx_network.proofs.Rounds.{still_going}

@@ -1,4 +1,4 @@
-use Rattle.std.proofs.Common.{rules, ◌≡◌, ℕ, ◌++◌, [], ◌∷◌, List, length, get_or, Option, Some, None, refl, sym, ◌∙◌, ap, subst}
+use Rattle.std.proofs.Common.{rules, ◌++◌, [], ◌∷◌, List, get_or, Option, sym, ap, subst}
 use Rattle.std.specs.Prelude.{IfSome, slice_set}
 use Rattle.std.proofs.lemmas.Option.{slice_get-get_or}
 use Rattle.afdx_pcap.specs.Record.{Record}

@@ -1,10 +1,10 @@
-use Rattle.std.proofs.Common.{◌≡◌, ◌+◌, ◌++◌, ◌∷◌, [], ℕ, List, take, get_or, ap, sym, ◌∙◌, subst}
+use Rattle.std.proofs.Common.{◌≡◌, ◌+◌, ◌++◌, ◌∷◌, [], ℕ, List, take, get_or, sym, ◌∙◌, subst}
 use Rattle.std.specs.List.{AllZip}
 use Rattle.std.proofs.lemmas.List.{take_more, take_all}
 use Rattle.std.proofs.lemmas.List.Elements.{All-from_recursion}
 use Rattle.afdx_table.specs.Content.{Content}
 use Rattle.afdx_measure.specs.Wanted.{keeps_lists}
-use Rattle.afdx_network.specs.Inner.Sites.{Site, gone_of, IsFresh}
+use Rattle.afdx_network.specs.Inner.Sites.{gone_of}
 use Rattle.afdx_network.specs.Inner.Noted.{NoneHasLeft}
 use Rattle.afdx_network.proofs.Beginning.{IsNew, all_begin, all_early, none_gone_yet, none_left_yet, as_many_files}
 use Rattle.afdx_network.proofs.Choosing.{zip_more}

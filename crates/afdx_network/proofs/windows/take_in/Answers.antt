@@ -1,4 +1,4 @@
-use Rattle.std.proofs.Common.{◌≡◌, ◌++◌, List, length, sym, ◌∙◌, ap, subst}
+use Rattle.std.proofs.Common.{◌++◌, ◌∙◌}
 use Rattle.afdx_network.specs.declared.fault.NetworkRunFault.TheVariants as fault
 use Rattle.afdx_network.specs.declared.fault.Stop.TheVariants as stop
 use Rattle.afdx_network.specs.Inner.Windows.{IsStop}

@@ -2,8 +2,8 @@ use Rattle.std.proofs.Common.{◌≡◌, ◌∙◌, refl, get_or, sym, ap, subst
 use Rattle.afdx_folder.specs.Files.{IsCause}
 use Rattle.afdx_network_report.specs.Lines.{Names}
 use Rattle.afdx_serve.specs.Runs.{FailsToGet}
-use Rattle.afdx_serve.specs.Inner.NetworkRunning.{IsCaptureFailure}
-use Rattle.afdx_serve.proofs.NetworkRunLemmas.{unread_given, fault_given}
+use Rattle.afdx_serve.specs.Inner.NetworkRunning.{IsCaptureFailure, IsLineFailure}
+use Rattle.afdx_serve.proofs.NetworkRunLemmas.{unread_given, fault_given, line_given}
 use Rattle.afdx_serve.proofs.network_run.run_failure.Goals as goal
 
 pub returns-in-Memory-clause-failed : goal.returns-in-Memory-clause-failed
@@ -27,3 +27,9 @@ returns-in-Capture-clause-failed g c = λ files path net all named tables opened
     let has = rw c.in-Capture.is at is in
     fault_given g.F.Opened.Read.remaining c.capture_failure.result files path net _ all c.in-Capture.switch c.in-Capture.port c.in-Capture.why _ _ tables opened has
     (subst (λ (ns : Names). IsCaptureFailure ns c.in-Capture.switch c.in-Capture.port c.in-Capture.why c.capture_failure.result) named c.capture_failure.ensures) refl
+
+pub returns-in-Line-clause-failed : goal.returns-in-Line-clause-failed
+returns-in-Line-clause-failed g c = λ files path net all named tables opened is.
+    let has = rw c.in-Line.is at is in
+    line_given g.F.Opened.Read.remaining c.line_failure.result files path net _ all c.in-Line.switch c.in-Line.port c.in-Line.number _ _ tables opened has
+    (subst (λ (ns : Names). IsLineFailure ns c.in-Line.switch c.in-Line.port c.in-Line.number c.line_failure.result) named c.line_failure.ensures) refl

@@ -1,4 +1,4 @@
-use Rattle.std.proofs.Common.{◌≡◌, List, [], length, map, sym, ap, ◌∙◌}
+use Rattle.std.proofs.Common.{List, [], length, map, sym, ap, ◌∙◌}
 use Rattle.std.proofs.lemmas.List.{length-map}
 use Rattle.afdx_wiring.specs.declared.layout.End.{End}
 use Rattle.afdx_network.specs.Inner.Intake.{same_clock}
@@ -12,8 +12,8 @@ open-requires g c =
 
 pub returns-in-Ok-clause-ok : goal.returns-in-Ok-clause-ok
 returns-in-Ok-clause-ok g c =
-    opened g.R.Read.remaining c.args.network.now c.args.readers.now c.open.new.readers (record { ends = c.in_ok-ends.ends; merging = c.in-Ok.merging }) c.deref-2.result.now [] c.in_ok-ends.ensures
-    (c.deref-2.ensures.value ∙ c.in_ok-clocks.ensures ∙ ap (λ (es : List End). map (λ (e : End). same_clock) es) c.deref.ensures.value) c.in-Ok.ensures.ok
+    opened g.R.Read.remaining c.args.network.now c.args.readers.now c.open.new.readers (record { ends = c.in_ok-ends.ends; lines = c.in_ok-lines.lines; merging = c.in-Ok.merging }) c.deref-2.result.now []
+    c.in_ok-ends.ensures c.in_ok-lines.ensures (c.deref-2.ensures.value ∙ c.in_ok-clocks.ensures ∙ ap (λ (es : List End). map (λ (e : End). same_clock) es) c.deref.ensures.value) c.in-Ok.ensures.ok
 
 pub fault_at-requires : goal.fault_at-requires
 fault_at-requires g c =

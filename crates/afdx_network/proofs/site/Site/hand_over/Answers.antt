@@ -1,6 +1,5 @@
 use Rattle.std.proofs.Common.{◌≡◌, ◌++◌, ◌∙◌, List, length, map, take, drop, refl, ap, arith}
 use Rattle.afdx_network.specs.Inner.Outputs.{Output, all_gone, gone_in, HaveGone}
-use Rattle.afdx_network.specs.Inner.Sites.{HandsOver}
 use Rattle.afdx_network.proofs.Answering.{written_back}
 use Rattle.afdx_network.proofs.Handed.{on_ok, both_ok, left_stays, as_many_gone, gone_of_all}
 use Rattle.afdx_network.proofs.site.Site.hand_over.Goals as goal
