@@ -5,10 +5,12 @@ Writes answers of recordings under each of two tables, each with a count of each
 chance; one of a hundred links is policed in one spell. Prints the seconds of processor and of the clock.
 """
 import argparse
+import csv
+import io
 import random
 import sys
 import time
-from collections.abc import Callable
+from collections.abc import Callable, Iterable, Iterator
 from pathlib import Path
 from typing import TypeVar
 
@@ -26,22 +28,36 @@ PORTS = 24
 Answer = TypeVar("Answer")
 BOUND = 200_000  # ns
 HOUR = 3600 * 10**9
+SURVEY = ("kind port link priority seen cut short long foreign no-link wrong-port too-big clean passed policed offered full aged sent "
+          "least greatest bound slack slack_per_mille occupied buffer at from to least_early greatest_early frames").split()
 
 
-def lines(chance: random.Random, begin: int, links: int) -> str:
-    """Makes up what afdx would say of a recording."""
-    said: list[str] = []
+def rows(chance: random.Random, begin: int, links: int) -> Iterator[dict[str, object]]:
+    """Makes up what afdx would say of a recording, row by row."""
+    clean = dict.fromkeys(("cut", "short", "long", "foreign", "no-link", "wrong-port", "too-big"), 0)
     for port in range(1, PORTS + 1):
-        said.append(f"in {port} seen 9000 cut 0 short 0 long 0 foreign 0 no-link 0 wrong-port 0 too-big 0 clean 9000")
-        said += [f"out {port} {priority} offered 5000 full 0 aged 0 sent 5000" for priority in ("high", "low")]
-        said.append(f"out {port} occupied 1374 of 16384 at {begin}")
+        yield {"kind": "in", "port": port, "seen": 9000, **clean, "clean": 9000}
+        for priority in ("high", "low"):
+            yield {"kind": "out", "port": port, "priority": priority, "offered": 5000, "full": 0, "aged": 0, "sent": 5000}
+        yield {"kind": "buffer", "port": port, "occupied": 1374, "buffer": 16384, "at": begin}
     for link in range(links):
         policed = 20 if chance.random() < 0.01 else 0
-        said.append(f"link {link} passed 100 policed {policed}")
-        said.append(f"link {link} out {link % PORTS + 1} sent 100 least 6720 greatest {chance.randrange(20_000, 100_000)} bound {BOUND}")
+        greatest = chance.randrange(20_000, 100_000)
+        yield {"kind": "link", "link": link, "passed": 100, "policed": policed}
+        yield {"kind": "delays", "port": link % PORTS + 1, "link": link, "sent": 100, "least": 6720, "greatest": greatest,
+               "bound": BOUND, "slack": BOUND - greatest, "slack_per_mille": 1000 * (BOUND - greatest) // BOUND}
         if policed:
-            said.append(f"link {link} policed {policed} from {begin} to {begin + 10**8} early 10 to 5000000")
-    return "\n".join(said)
+            yield {"kind": "spell", "link": link, "policed": policed, "from": begin, "to": begin + 10**8,
+                   "least_early": 10, "greatest_early": 5_000_000}
+
+
+def text_of(made: Iterable[dict[str, object]]) -> str:
+    """Writes rows below a heading, as `afdx survey --csv` does."""
+    text = io.StringIO()
+    writer = csv.DictWriter(text, SURVEY, lineterminator="\n")
+    writer.writeheader()
+    writer.writerows(made)
+    return text.getvalue()
 
 
 def tasks_of(root: Path, recordings: int) -> list[Task]:
@@ -76,7 +92,7 @@ def main() -> None:
     root.mkdir(parents=True, exist_ok=True)
     tasks = tasks_of(root, given.recordings)
     for number, task in enumerate(tasks):
-        text = lines(chance, 10**18 + number * HOUR, given.links)
+        text = text_of(rows(chance, 10**18 + number * HOUR, given.links))
         put_answer(task, Said(0, text, ""), "", {"seconds": 5.0, "processor": 4.0, "memory": 10**9, "tries": 1})
     timed("store", lambda: collect(root, tasks))
     print(f"  {store_file(root).stat().st_size / 1e6:.1f} MB")
