@@ -389,7 +389,8 @@ fn with_run<'a>(alloc: Global, program: Command<'a>) -> Result<Command<'a>, Allo
 
 /// A program with the commands `measure`, `survey` and `trace` too.
 fn with_rows<'a>(alloc: Global, program: Command<'a>) -> Result<Command<'a>, AllocError>
-    ensures { IfOk result (λ c. app_of c ≡ with_subcommand (with_subcommand (with_subcommand (app_of program.entry) (inputs_app (codes "measure")).top) (inputs_app (codes "survey")).top) trace_app.top) }
+    ensures { IfOk result (λ c. app_of c
+        ≡ with_subcommand (with_subcommand (with_subcommand (app_of program.entry) (inputs_app (codes "measure")).top) (inputs_app (codes "survey")).top) trace_app.top) }
 {
     let program = with_command(program, measure(alloc))?;
     let program = with_command(program, survey(alloc))?;

@@ -73,7 +73,8 @@ from_none : (k : ℕ) → k ≡ 0 + k
 from_none k = omega arith
 
 clocks_have : (r : Recordings) (t : Content) → HaveClocks r t.ports (sources_of t r).captures (sources_of t r).clocks
-clocks_have r t = inputs_have r t.ports t.ports 0 (outputs_from r.outputs 0 t.ports) (output_clocks r t.ports) (outputs_have r t.ports t.ports 0 (λ k. ap (λ (j : ℕ). slice_get t.ports j) (from_none k)))
+clocks_have r t = inputs_have r t.ports t.ports 0 (outputs_from r.outputs 0 t.ports) (output_clocks r t.ports)
+    (outputs_have r t.ports t.ports 0 (λ k. ap (λ (j : ℕ). slice_get t.ports j) (from_none k)))
 
 -- ---- so each is in order by its port's line
 

@@ -348,7 +348,8 @@ module _ (lower : Lower) (t : Content) (r : Recordings) (from until : ℕ) (keep
       ap (λ (rs : List Record). records_for l rs) (sym (left_are p among))
       ∙ filter_none (λ x. link_of x.bytes == l.id) (all_left c.watch p.id sources arrivals)
       (all_map (IsLed c p.id) (λ x. (link_of x.bytes == l.id) ≡ false)
-      (λ x is. led_other lower.found lower.places (watch_of t r from) t r keeping c l place.0 p.id x begun.table of not_there is.link is.output is.is) (all_left c.watch p.id sources arrivals) (led p.id))
+      (λ x is. led_other lower.found lower.places (watch_of t r from) t r keeping c l place.0 p.id x begun.table of not_there is.link is.output is.is) (all_left c.watch p.id sources arrivals)
+      (led p.id))
 
   linked : (p : PortRow) → Contains (recorded_ports t r) p → All (λ x. (l : Link) × Contains t.links l × (link_of x.bytes ≡ l.id)) (recorded w (left_out t r captures p))
   linked p among =

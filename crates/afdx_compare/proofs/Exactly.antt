@@ -281,11 +281,13 @@ module _ (next : NextFrameJoinsWhereItConforms) (credited : HeadroomIsCredited) 
 
       gone_are : here.2.gone ≡ passed_records l (own_records t l read)
       gone_are =
-          sym (here.2.passed_is ∙ ap (λ (rs : List Record). here.2.gone ++ rs) (none_after (limits_of (exactly t) here.0 p.speed) here.2.after here.2.to_come) ∙ append-nil here.2.gone) ∙ chosen_are l there
+          sym (here.2.passed_is ∙ ap (λ (rs : List Record). here.2.gone ++ rs) (none_after (limits_of (exactly t) here.0 p.speed) here.2.after here.2.to_come) ∙ append-nil here.2.gone)
+          ∙ chosen_are l there
 
       seen_are : here.2.seen ≡ records_for l (out p)
       seen_are =
-          sym (here.2.out_is ∙ ap (λ (rs : List Record). rs ++ here.2.seen) (none_before (limits_of (exactly t) here.0 p.speed) here.2.before refl here.2.from_before)) ∙ ap (λ (rs : List Record). records_for l rs) (out_is p)
+          sym (here.2.out_is ∙ ap (λ (rs : List Record). rs ++ here.2.seen) (none_before (limits_of (exactly t) here.0 p.speed) here.2.before refl here.2.from_before))
+          ∙ ap (λ (rs : List Record). records_for l rs) (out_is p)
 
       same_bytes : bytes_of (records_for l (out p)) ≡ bytes_of (passed_records l (own_records t l read))
       same_bytes = ap bytes_of (sym seen_are) ∙ here.2.same_bytes ∙ ap bytes_of gone_are
@@ -332,7 +334,8 @@ module _ (next : NextFrameJoinsWhereItConforms) (credited : HeadroomIsCredited) 
         bound_there.0,
         bound_is,
         subst (λ (own : List Record). IsKeptFor (limits_of (exactly t) bound_there.0 p.speed) None own (chosen (own_fates l) own) (records_for l (recorded (exactly t) (out p)))) (sym (own_is l))
-            (subst (λ (rs : List Record). IsKeptFor (limits_of (exactly t) bound_there.0 p.speed) None (own_records t l read) (chosen (own_fates l) (own_records t l read)) (records_for l rs)) (sym (out_is p))
+            (subst (λ (rs : List Record). IsKeptFor (limits_of (exactly t) bound_there.0 p.speed) None (own_records t l read) (chosen (own_fates l) (own_records t l read)) (records_for l rs))
+            (sym (out_is p))
             (subst (λ (rs : List Record). IsKeptFor (limits_of (exactly t) bound_there.0 p.speed) None (own_records t l read) rs (records_for l (out p))) (sym (passed_are l there)) of_own)),
       )
 

@@ -143,7 +143,8 @@ all_there P (y ∷ xs) (suc k) x all at = all_there P xs k x all.1 at
 pub records_at : {X Y : Type 0} (xs : List X) (ys : List Y) (k : ℕ) (y : Y) → length xs ≡ length ys → slice_get ys k ≡ Some y → (x : X) × (slice_get xs k ≡ Some x)
 records_at xs ys k y same at = (let lt = slice_get_within ys k y at in get_there xs k (omega (arith, lt, same)))
 
-pub own_is_within : CleanFramesHaveALink → LinksAreFound → LinksAreAtTheirPlaces → (w : Watch) (t : Content) (r : Recordings) (captures : List (List Record)) (arrivals : List Arrival) (l : Link) (place : ℕ)
+pub own_is_within : CleanFramesHaveALink → LinksAreFound → LinksAreAtTheirPlaces
+    → (w : Watch) (t : Content) (r : Recordings) (captures : List (List Record)) (arrivals : List Arrival) (l : Link) (place : ℕ)
     → Rises t.ports → has_port t.ports l.from ≡ true → AllByRecursion (λ rs. AllByRecursion (λ x. x.stamp ≤ last_instant) rs) captures → IsMergeOf (sources_of t r).clocks captures arrivals
     → IsPlaced t l place → own_of w t place (sources_of t r).captures arrivals ≡ own_within w t l (came_in t.ports captures)
 own_is_within clean found places w t r captures arrivals l place rise has bound merge at =

@@ -150,8 +150,10 @@ next_read remaining r s first now later m new least greatest great waits rest st
       };
     }
 
-pub read_out : {R Z : Type 0} (remaining : R → Option (List ℕ)) (r : Recordings) (s : Sources) (first now : List R) (m : Merging Z) (least greatest : Option ℕ) (waits : List Arrival) (start c : Comparison)
-    → (has : HasRead remaining r s first now m least greatest waits start c) → AreMerged remaining s.clocks first has.came → least_at_hand m.lanes.items ≡ None → IsReadOut remaining r s first least greatest waits start c
+pub read_out : {R Z : Type 0} (remaining : R → Option (List ℕ)) (r : Recordings) (s : Sources) (first now : List R) (m : Merging Z) (least greatest : Option ℕ) (waits : List Arrival)
+    (start c : Comparison)
+    → (has : HasRead remaining r s first now m least greatest waits start c) → AreMerged remaining s.clocks first has.came → least_at_hand m.lanes.items ≡ None
+    → IsReadOut remaining r s first least greatest waits start c
 read_out remaining r s first now m least greatest waits start c has merged none = record {
   came = has.came;
   merged = merged;
@@ -163,7 +165,8 @@ read_out remaining r s first now m least greatest waits start c has merged none 
 
 -- ---- the end is known
 
-told_until : {R : Type 0} (remaining : R → Option (List ℕ)) (r : Recordings) (s : Sources) (first : List R) (least greatest : Option ℕ) (waits : List Arrival) (start c : Comparison) → IsReady r s start
+told_until : {R : Type 0} (remaining : R → Option (List ℕ)) (r : Recordings) (s : Sources) (first : List R) (least greatest : Option ℕ) (waits : List Arrival) (start c : Comparison)
+    → IsReady r s start
     → (out : IsReadOut remaining r s first least greatest waits start c)
     → with_until (instant_of (option_or r.until greatest)) c ≡ with_arrivals s.captures out.taken.taken (with_until (instant_of (option_or r.until greatest)) start)
 told_until remaining r s first least greatest waits start c ready out =
@@ -182,7 +185,8 @@ end_may remaining ports r s first least greatest waits start c ready out =
     (told_until remaining r s first least greatest waits start c ready out)
     (subst (λ (xs : List Arrival). AreInOrder xs) out.taken.all out.merged.merge.in_order) (subst (λ (xs : List Arrival). AreClocked s.clocks xs) out.taken.all out.clocked)
 
-pub end_told : {R : Type 0} (remaining : R → Option (List ℕ)) (r : Recordings) (s : Sources) (first : List R) (least greatest : Option ℕ) (waits : List Arrival) (start c : Comparison) → IsReady r s start
+pub end_told : {R : Type 0} (remaining : R → Option (List ℕ)) (r : Recordings) (s : Sources) (first : List R) (least greatest : Option ℕ) (waits : List Arrival) (start c : Comparison)
+    → IsReady r s start
     → (out : IsReadOut remaining r s first least greatest waits start c) → with_end (with_arrivals s.captures waits (with_until (instant_of (option_or r.until greatest)) c))
     ≡ with_end (with_arrivals s.captures out.came (with_until (instant_of (option_or r.until greatest)) start))
 end_told remaining r s first least greatest waits start c ready out =

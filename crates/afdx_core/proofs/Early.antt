@@ -56,14 +56,16 @@ may_be_asked r accounts asked place at l has le same = subst (λ xs. MayBeAsked 
 
 -- and says it
 pub says : (r : Run) (accounts asked : List Account) (place : ℕ) (l : Link) (at size early : ℕ) → HasAccount r accounts place l → asked ≡ accounts
-    → ((a : Account) → IsEarlyBy (account_terms (get_or asked place a)) (account_since (get_or asked place a)) (account_level (get_or asked place a) (account_since (get_or asked place a))) at size early)
+    → ((a : Account) → IsEarlyBy (account_terms (get_or asked place a)) (account_since (get_or asked place a))
+    (account_level (get_or asked place a) (account_since (get_or asked place a))) at size early)
     → early ≡ early_in r (slice_get r.table.links place) (record { stamp = at; size = size })
 says r accounts asked place l at size early has same answer =
     let d = some_of accounts place has.within in
     let a = get_or accounts place d in
     let own = has.agrees d in
     let left = subst (λ (t : Terms). IsLevelAfter t (account_since a) (account_level a (account_since a)) (account_frames l.id r.rows)) (sym own.terms) own.level in
-    let by_account = subst (λ (xs : List Account). IsEarlyBy (account_terms (get_or xs place d)) (account_since (get_or xs place d)) (account_level (get_or xs place d) (account_since (get_or xs place d))) at
+    let by_account = subst (λ (xs : List Account). IsEarlyBy (account_terms (get_or xs place d)) (account_since (get_or xs place d))
+    (account_level (get_or xs place d) (account_since (get_or xs place d))) at
     size early) same (answer d) in
     by_account (account_frames l.id r.rows) left
     ∙ ap (λ (t : Terms). early_by t (passed_frames t (account_frames l.id r.rows)) (record { stamp = at; size = size })) own.terms

@@ -121,7 +121,8 @@ module _ (links : LinksAreFound) (have_link : CleanFramesHaveALink) (t : Content
     by (Some rounding) keeps =
         subst (KeepsToLineWithin rounding q.speed) (sym (copies_over [] rows ∙ ap (map frame_of_row) (all_here rows arrivals))) (parts frame_of_row rounding q.speed counts (filter is_here rows) keeps)
 
-pub lined_keep_bounds : LinksAreFound → CleanFramesHaveALink → OffersWhatThePolicingPasses → AcceptedLinesKeepBounds → PartsKeepToTheLine Row → (r : Run) → IsRun r → IsWellFormed r.table → IsAccepted r.table
+pub lined_keep_bounds : LinksAreFound → CleanFramesHaveALink → OffersWhatThePolicingPasses → AcceptedLinesKeepBounds → PartsKeepToTheLine Row → (r : Run) → IsRun r → IsWellFormed r.table
+    → IsAccepted r.table
     → (rounding_at : ℕ → Option ℕ) → RowsKeepToLines r.table rounding_at r.rows → (p : PortRow) → Contains r.table.ports p → (burst high_burst : ℕ) → AreLesser r.table p rounding_at burst high_burst
     → All (IsInLesserBound r.table p burst high_burst) (sent_in r (Some p))
 lined_keep_bounds links have_link offers keeps parts r run well accepted rounding_at rows p among burst high_burst less =

@@ -52,7 +52,8 @@ module _ {Z : Type 0} (e : Engine Z) (kept : IsKeptEngine e) (is_open : e.finish
   answers n lt says =
       let d = some_of e.output_ports.items place lt in
       let h = follows d lt in
-      says d ∙ ap (λ (xs : List (OutletValue Z)). occupied (get_or xs place d).port.content.settings (reach (get_or xs place d).port.content.settings e.latest) (get_or xs place d).port.content.admitted) same
+      says d ∙ ap (λ (xs : List (OutletValue Z)). occupied (get_or xs place d).port.content.settings (reach (get_or xs place d).port.content.settings e.latest)
+      (get_or xs place d).port.content.admitted) same
       ∙ (λ i. occupied (h.settings i) (reach (h.settings i) e.latest) (h.admitted i)) ∙ sym (ap (occupied_in (run_of e)) (row_at e place d kept lt))
 
 pub none_answers : {Z : Type 0} (e : Engine Z) (place : ℕ) → IsKeptEngine e → length e.output_ports.items ≤ place → 0 ≡ occupied_in (run_of e) (slice_get e.table.ports place)

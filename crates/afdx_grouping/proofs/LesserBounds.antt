@@ -112,7 +112,8 @@ each_line : {X : Type 0} (f : PortRow → Option KnownLine → X) (rounding_at o
     → map (λ q. f q (line_at rounding_at q)) ports ≡ map (λ q. f q (line_at other q)) ports
 each_line f rounding_at other [] same = refl
 each_line f rounding_at other (q ∷ ports) same =
-    let here : line_at rounding_at q ≡ line_at other q = ap (option_map (λ (rounding : ℕ). let line : KnownLine = record { speed = q.speed; rounding = rounding } in line)) (All-head (λ p. rounding_at p.id ≡ other p.id) q ports same) in
+    let here : line_at rounding_at q ≡ line_at other q = ap (option_map (λ (rounding : ℕ). let line : KnownLine = record { speed = q.speed; rounding = rounding } in line))
+    (All-head (λ p. rounding_at p.id ≡ other p.id) q ports same) in
     let rest = each_line f rounding_at other ports (All-tail (λ p. rounding_at p.id ≡ other p.id) q ports same) in
     ap (λ line. f q line ∷ map (λ r. f r (line_at rounding_at r)) ports) here ∙ ap (λ more. f q (line_at other q) ∷ more) rest
 

@@ -107,7 +107,8 @@ pub groups_within : (to : ℕ) (f : Link → ℕ) (ports : List PortRow) → Ris
     → sum_by (λ (q : PortRow). sum_by f (filter (goes_over q.id to) links)) ports ≤ sum_by f (filter (leads_to to) links)
 groups_within to f ports rise [] = omega (arith, none_sum to f ports)
 groups_within to f ports rise (l ∷ links) =
-    let split = both_sums (λ (q : PortRow). cond (goes_over q.id to l) (f l) 0) (λ (q : PortRow). sum_by f (filter (goes_over q.id to) links)) (λ (q : PortRow). sum_by f (filter (goes_over q.id to) (l ∷ links))) ports
+    let split = both_sums (λ (q : PortRow). cond (goes_over q.id to l) (f l) 0) (λ (q : PortRow). sum_by f (filter (goes_over q.id to) links))
+    (λ (q : PortRow). sum_by f (filter (goes_over q.id to) (l ∷ links))) ports
     (λ q. kept_sum f (goes_over q.id to) l links) in
     omega (arith, split, kept_sum f (leads_to to) l links, one_link to f l ports rise, groups_within to f ports rise links)
 
@@ -132,7 +133,8 @@ filters_commute p q (l ∷ links) = by (filters_commute p q links) (p l) (q l) r
 high_within : (to : ℕ) (f : Link → ℕ) (ports : List PortRow) → Rises ports → (links : List Link)
     → sum_by (λ (q : PortRow). sum_by f (filter is_high_link (filter (goes_over q.id to) links))) ports ≤ sum_by f (filter is_high_link (filter (leads_to to) links))
 high_within to f ports rise links =
-    let turned = each_same (λ (q : PortRow). sum_by f (filter is_high_link (filter (goes_over q.id to) links))) (λ (q : PortRow). sum_by f (filter (goes_over q.id to) (filter is_high_link links))) ports
+    let turned = each_same (λ (q : PortRow). sum_by f (filter is_high_link (filter (goes_over q.id to) links)))
+    (λ (q : PortRow). sum_by f (filter (goes_over q.id to) (filter is_high_link links))) ports
     (λ q. ap (sum_by f) (filters_commute is_high_link (goes_over q.id to) links)) in
     let whole = ap (sum_by f) (filters_commute is_high_link (leads_to to) links) in
     omega (arith, turned, whole, groups_within to f ports rise (filter is_high_link links))

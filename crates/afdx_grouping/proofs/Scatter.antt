@@ -72,7 +72,8 @@ less_carried d e le row load h =
     record {
       rate = h.rate;
       buffer = less (load.rate * d) (load.rate * e) load.burst (parts * load.largest) (byte_time row.speed row.buffer) all h.buffer;
-      high = sooner (nat_lt 0 load.highs) (load.high_burst + load.high_rate * d + parts * load.low_largest) (load.high_burst + load.high_rate * e + parts * load.low_largest) parts load.latency row.max_delay
+      high = sooner (nat_lt 0 load.highs) (load.high_burst + load.high_rate * d + parts * load.low_largest)
+          (load.high_burst + load.high_rate * e + parts * load.low_largest) parts load.latency row.max_delay
           (more (load.high_rate * d) (load.high_rate * e) load.high_burst (parts * load.low_largest) high) (λ _. omega arith) h.high;
       low = sooner (nat_lt 0 load.lows && nat_lt load.high_rate parts) (load.burst + load.rate * d) (load.burst + load.rate * e) (parts - load.high_rate) load.latency row.max_delay
           (plus load.burst (load.rate * d) (load.rate * e) all) (leaves (nat_lt 0 load.lows) load.high_rate) h.low;

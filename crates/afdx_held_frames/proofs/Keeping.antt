@@ -72,7 +72,8 @@ kept_gone {Z} p keys low kept same room first le within none = record {
   low_within = rw same within;
   above = λ key slot at. ⊎_elim
       (λ lt. let is = get_or_from_slice_get p.keys.items slot.number key 0 (kept.named key slot at).at in
-      let no = sym (none slot.number (kept.above key slot at) lt) ∙ ap (λ k. is_some (seen_at slot.number (get p.slots k))) is ∙ ap (λ o. is_some (seen_at slot.number o)) at ∙ seen_some slot slot.number refl in
+      let no = sym (none slot.number (kept.above key slot at) lt) ∙ ap (λ k. is_some (seen_at slot.number (get p.slots k))) is ∙ ap (λ o. is_some (seen_at slot.number o)) at
+      ∙ seen_some slot slot.number refl in
       absurd (let both : false ≡ true = no in (cc)))
       (λ ge. ge)
       (cases_lt slot.number low);
@@ -95,7 +96,8 @@ skipped p kept key =
 named_push : {Z : Type 0} (keys : List ℕ) (key k : ℕ) (slot : Slot Z) → IsNamed keys k slot → IsNamed (keys ++ key ∷ []) k slot
 named_push keys key k slot named = record { at = grind (arith, common_steps, gets, named.at); left = named.left }
 
-pub kept_skipped : {Z : Type 0} (p : Inside Z) (keys : Seen ℕ) (key : ℕ) (room : ℕ) → IsKeptStore p → keys.items ≡ p.keys.items ++ key ∷ [] → room + 1 ≡ p.room → keys.first ≡ p.keys.first → keys.room + 1 ≡ p.keys.room
+pub kept_skipped : {Z : Type 0} (p : Inside Z) (keys : Seen ℕ) (key : ℕ) (room : ℕ) → IsKeptStore p → keys.items ≡ p.keys.items ++ key ∷ [] → room + 1 ≡ p.room → keys.first ≡ p.keys.first
+    → keys.room + 1 ≡ p.keys.room
     → IsKeptStore (record { slots = p.slots; keys = keys; low = p.low; room = room })
 kept_skipped p keys key room kept is less first fewer = record {
   left = omega (arith, first, kept.left);

@@ -9,7 +9,8 @@ use Rattle.afdx_isolation.specs.Inner.Flow.{Flow, high_flows, bursts}
 use Rattle.afdx_isolation.specs.Inner.Lines.{flows_on, limited, paid_in, all_in, high_in, full, all_at_hand, high_at_hand}
 use Rattle.afdx_isolation.specs.Inner.LineCurves.{brought_by, paid_by, all_curve, high_curve, CurvesAreEnough}
 
-limited_is : (known : Option KnownLine) (here : Speed) (at_hand spare window : ℕ) (flows : List Flow) → limited known here at_hand spare window (paid_in full flows window) ≡ lesser_at (paid_by flows) (brought_by known here at_hand spare) window
+limited_is : (known : Option KnownLine) (here : Speed) (at_hand spare window : ℕ) (flows : List Flow)
+    → limited known here at_hand spare window (paid_in full flows window) ≡ lesser_at (paid_by flows) (brought_by known here at_hand spare) window
 limited_is None here at_hand spare window flows = refl
 limited_is (Some there) here at_hand spare window flows = omega arith
 

@@ -17,7 +17,8 @@ use Rattle.afdx_isolation.specs.Inner.Flow.{Flow, IsPaidFor, high_flows, rates, 
 use Rattle.afdx_isolation.specs.Inner.Potential.{held}
 use Rattle.afdx_isolation.specs.Inner.Account.{AreWithinCaps, Grow, AreDebited, IsOfAFlow, charge}
 use Rattle.afdx_isolation.specs.Inner.Supply.{GoesOnTo, IsTakenFrom}
-use Rattle.afdx_isolation.specs.Inner.Lines.{Line, flows_on, line_weight, limited, paid_in, all_in, high_in, full, all_at_hand, high_at_hand, AreEnough, demand_by, supply_of, AreOnLines, AreCredited, AreCharged}
+use Rattle.afdx_isolation.specs.Inner.Lines.{Line, flows_on, line_weight, limited, paid_in, all_in, high_in, full, all_at_hand, high_at_hand, AreEnough, demand_by, supply_of, AreOnLines}
+use Rattle.afdx_isolation.specs.Inner.Lines.{AreCredited, AreCharged}
 use Rattle.afdx_isolation.proofs.Sums.{grown, capped, pays, falls, among_filter, high_part}
 
 -- ---- sums over lines
@@ -68,7 +69,8 @@ limited_pays : (known : Option KnownLine) (here : Speed) (size level level' spar
 limited_pays None here size level level' spare window accounts accounts' pay charged = pay
 limited_pays (Some there) here size level level' spare window accounts accounts' pay charged =
     let w = line_weight here there.speed in
-    let some : w * (cost_of there.speed size + level' + window) ≤ w * (level + window) = let le : cost_of there.speed size + level' + window ≤ level + window = omega (arith, charged) in mul-le-mul_left w le in
+    let some : w * (cost_of there.speed size + level' + window) ≤ w * (level + window) = let le : cost_of there.speed size + level' + window ≤ level + window = omega (arith, charged) in
+    mul-le-mul_left w le in
     let split : w * (cost_of there.speed size + level' + window) ≡ w * cost_of there.speed size + w * (level' + window) = spread w (cost_of there.speed size) level' window in
     omega (arith, some, split, weighs here there.speed size, pay) where
       spread : (w a b c : ℕ) → w * (a + b + c) ≡ w * a + w * (b + c)
@@ -97,7 +99,8 @@ module _ (s : Settings) (flows : List Flow) (lines : List Line) where
         → sum_by (all_in s flows after hand' (v - to)) lines ≤ sum_by (all_in s flows level hand (v - now)) lines
     all_fall hand hand' v later credited =
         sums_fall (all_in s flows level hand (v - now)) (all_in s flows after hand' (v - to)) lines
-        (All-weaker (λ (line : Line). (hand' line ≤ all_at_hand flows line) × (hand' line ≤ hand line + (to - now))) (λ line. all_in s flows after hand' (v - to) line ≤ all_in s flows level hand (v - now) line)
+        (All-weaker (λ (line : Line). (hand' line ≤ all_at_hand flows line) × (hand' line ≤ hand line + (to - now)))
+        (λ line. all_in s flows after hand' (v - to) line ≤ all_in s flows level hand (v - now) line)
         (λ line more.
         let on = flows_on line flows in
         let window : (to - now) + (v - to) ≡ v - now = omega (arith, le, later) in
@@ -110,7 +113,8 @@ module _ (s : Settings) (flows : List Flow) (lines : List Line) where
         → sum_by (high_in s flows after hand' (v - to)) lines ≤ sum_by (high_in s flows level hand (v - now)) lines
     high_fall hand hand' v later credited =
         sums_fall (high_in s flows level hand (v - now)) (high_in s flows after hand' (v - to)) lines
-        (All-weaker (λ (line : Line). (hand' line ≤ high_at_hand flows line) × (hand' line ≤ hand line + (to - now))) (λ line. high_in s flows after hand' (v - to) line ≤ high_in s flows level hand (v - now) line)
+        (All-weaker (λ (line : Line). (hand' line ≤ high_at_hand flows line) × (hand' line ≤ hand line + (to - now)))
+        (λ line. high_in s flows after hand' (v - to) line ≤ high_in s flows level hand (v - now) line)
         (λ line more.
         let on = high_flows (flows_on line flows) in
         let window : (to - now) + (v - to) ≡ v - now = omega (arith, le, later) in
@@ -161,9 +165,11 @@ module _ (s : Settings) (flows : List Flow) (lines : List Line) where
         high_falls = λ v later. high_fall now to le level after grow high_hand high_hand' v later high_credited;
         level_grows = grown (high_flows flows) (to - now) level after (high_grow flows (to - now) level after grow);
         all_covered = λ v later. all_cover burst high_burst enough after caps to v all_hand' later
-            (All-weaker (λ (line : Line). (all_hand' line ≤ all_at_hand flows line) × (all_hand' line ≤ all_hand line + (to - now))) (λ line. all_hand' line ≤ all_at_hand flows line) (λ line both. both.0) lines credited);
+            (All-weaker (λ (line : Line). (all_hand' line ≤ all_at_hand flows line) × (all_hand' line ≤ all_hand line + (to - now))) (λ line. all_hand' line ≤ all_at_hand flows line)
+            (λ line both. both.0) lines credited);
         high_covered = λ v later. high_cover burst high_burst enough after caps to v high_hand' later
-            (All-weaker (λ (line : Line). (high_hand' line ≤ high_at_hand flows line) × (high_hand' line ≤ high_hand line + (to - now))) (λ line. high_hand' line ≤ high_at_hand flows line) (λ line both. both.0) lines high_credited);
+            (All-weaker (λ (line : Line). (high_hand' line ≤ high_at_hand flows line) × (high_hand' line ≤ high_hand line + (to - now))) (λ line. high_hand' line ≤ high_at_hand flows line)
+            (λ line both. both.0) lines high_credited);
       }
 
   -- ---- an item comes
@@ -195,7 +201,8 @@ module _ (s : Settings) (flows : List Flow) (lines : List Line) where
     all_pay now v hand hand' charged =
         let one = own_line.0 in
         let on = flows_on one flows in
-        let here = All-contains (λ line. (hand' line ≤ hand line) × (true ≡ true → line.has x.link ≡ true → IfSome line.known (λ there. cost_of there.speed x.size + hand' line ≤ hand line))) lines one charged own_line.1 in
+        let here = All-contains (λ line. (hand' line ≤ hand line) × (true ≡ true → line.has x.link ≡ true → IfSome line.known (λ there. cost_of there.speed x.size + hand' line ≤ hand line)))
+        lines one charged own_line.1 in
         let gives = pays on x r.flow on_own r.same level after (on_debits one) in
         sums_pay (all_in s flows level hand (v - now)) (all_in s flows after hand' (v - now)) cost lines one
         (All-weaker (λ (line : Line). (hand' line ≤ hand line) × (true ≡ true → line.has x.link ≡ true → IfSome line.known (λ there. cost_of there.speed x.size + hand' line ≤ hand line)))
@@ -205,15 +212,18 @@ module _ (s : Settings) (flows : List Flow) (lines : List Line) where
         limited_later line.known s.speed (hand line) (hand' line) (bursts (high_flows (flows_on line flows))) (v - now) (v - now) (paid_in level (flows_on line flows) (v - now))
         (paid_in after (flows_on line flows) (v - now)) (omega (arith, most)) (omega (arith, less.0))) lines charged)
         own_line.1
-        (limited_pays one.known s.speed x.size (hand one) (hand' one) (bursts (high_flows on)) (v - now) (paid_in level on (v - now)) (paid_in after on (v - now)) (omega (arith, gives, price)) (here.1 refl own_has))
+        (limited_pays one.known s.speed x.size (hand one) (hand' one) (bursts (high_flows on)) (v - now) (paid_in level on (v - now)) (paid_in after on (v - now)) (omega (arith, gives, price))
+        (here.1 refl own_has))
 
     pub high_pay : is_high x.priority ≡ true → (now v : ℕ) (hand hand' : Line → ℕ) → AreCharged lines x true hand hand'
         → cost + sum_by (high_in s flows after hand' (v - now)) lines ≤ sum_by (high_in s flows level hand (v - now)) lines
     high_pay is now v hand hand' charged =
         let one = own_line.0 in
         let on = high_flows (flows_on one flows) in
-        let here = All-contains (λ line. (hand' line ≤ hand line) × (true ≡ true → line.has x.link ≡ true → IfSome line.known (λ there. cost_of there.speed x.size + hand' line ≤ hand line))) lines one charged own_line.1 in
-        let gives = pays on x r.flow (among_filter (λ flow. is_high flow.priority) (flows_on one flows) r.flow on_own (ap is_high r.priority ∙ is)) r.same level after (high_debits (flows_on one flows) (on_debits one)) in
+        let here = All-contains (λ line. (hand' line ≤ hand line) × (true ≡ true → line.has x.link ≡ true → IfSome line.known (λ there. cost_of there.speed x.size + hand' line ≤ hand line)))
+        lines one charged own_line.1 in
+        let gives = pays on x r.flow (among_filter (λ flow. is_high flow.priority) (flows_on one flows) r.flow on_own (ap is_high r.priority ∙ is)) r.same level after
+        (high_debits (flows_on one flows) (on_debits one)) in
         sums_pay (high_in s flows level hand (v - now)) (high_in s flows after hand' (v - now)) cost lines one
         (All-weaker (λ (line : Line). (hand' line ≤ hand line) × (true ≡ true → line.has x.link ≡ true → IfSome line.known (λ there. cost_of there.speed x.size + hand' line ≤ hand line)))
         (λ line. high_in s flows after hand' (v - now) line ≤ high_in s flows level hand (v - now) line)
@@ -274,7 +284,8 @@ module _ (s : Settings) (flows : List Flow) (lines : List Line) where
         adds : (k : Flow) (some : List Flow) (line : Line) → line.has k.id ≡ true → is_high k.priority ≡ true → k.weight * after k + high_held after line some ≤ high_held after line (k ∷ some)
         adds k some line has is =
             let h = grows k some line in
-            let front : cond (line.has k.id) (cond (is_high k.priority) (k.weight * after k) 0) 0 ≡ k.weight * after k = ap (λ v. cond v (cond (is_high k.priority) (k.weight * after k) 0) 0) has ∙ ap (λ v. cond v (k.weight * after k) 0) is in
+            let front : cond (line.has k.id) (cond (is_high k.priority) (k.weight * after k) 0) 0 ≡ k.weight * after k = ap (λ v. cond v (cond (is_high k.priority) (k.weight * after k) 0) 0) has
+            ∙ ap (λ v. cond v (k.weight * after k) 0) is in
             omega (arith, h, front)
 
   -- no less may come over a line than a number within both
@@ -299,7 +310,8 @@ module _ (s : Settings) (flows : List Flow) (lines : List Line) where
         let more = sums_fall (all_in s flows after all_hand' (now - now)) (λ line. high_held after line flows) lines (λ i d lt.
         let line = get_or lines i d in
         let on = flows_on line flows in
-        let most = capped (high_flows on) after (All-filter (λ flow. is_high flow.priority) (λ flow. after flow ≤ flow.terms.cap) on (All-filter (λ flow. line.has flow.id) (λ flow. after flow ≤ flow.terms.cap) flows caps)) in
+        let most = capped (high_flows on) after (All-filter (λ flow. is_high flow.priority) (λ flow. after flow ≤ flow.terms.cap) on
+        (All-filter (λ flow. line.has flow.id) (λ flow. after flow ≤ flow.terms.cap) flows caps)) in
         limited_most line.known s.speed (all_hand' line) (bursts (high_flows on)) (now - now) (paid_in after on (now - now)) (high_held after line flows)
         (omega (arith, high_part (λ flow. flow.weight * after flow) on)) (omega (arith, most))) in
         omega (arith, held', more);

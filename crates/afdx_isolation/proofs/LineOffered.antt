@@ -20,7 +20,8 @@ use Rattle.afdx_port.specs.Inner.Work.{item_cost}
 use Rattle.afdx_isolation.specs.Inner.Flow.{Flow, Demand, IsPaidFor, AreDistinct, high_flows, low_flows, bound}
 use Rattle.afdx_isolation.specs.Inner.Account.{AreWithinCaps, Grow, IsOfAFlow}
 use Rattle.afdx_isolation.specs.Inner.Supply.{Supply, IsKeptSupply}
-use Rattle.afdx_isolation.specs.Inner.Lines.{Line, flows_on, largest_of, line_cap, all_at_hand, high_at_hand, AreEnough, demand_by, supply_of, AreOnLines, frames_over, KeepToLines, AreCredited, AreCharged}
+use Rattle.afdx_isolation.specs.Inner.Lines.{Line, flows_on, largest_of, line_cap, all_at_hand, high_at_hand, AreEnough, demand_by, supply_of, AreOnLines, frames_over, KeepToLines}
+use Rattle.afdx_isolation.specs.Inner.Lines.{AreCredited, AreCharged}
 use Rattle.afdx_isolation.specs.Inner.LineClaims.{CarriesLines, IsIsolatedBy}
 use Rattle.afdx_isolation.specs.Arrivals.{own, frame_of_item}
 use Rattle.afdx_isolation.specs.Inner.Arrivals.{IsClean, joins, feed_after, feed_of, level_after}
@@ -113,7 +114,8 @@ module _ (g : Ground) (laws : LineLaws) where
         below m n h = grind (arith, nat_tests)
 
   -- where the item may count or not
-  charge_if : (known : Option KnownLine) (largest : ℕ) (p : Item → Bool) (items : List Item) (x : Item) → NoneLater (counted p items) x.stamp → AreOn known largest (counted p items) → AreOn known largest (counted p (items ++ x ∷ []))
+  charge_if : (known : Option KnownLine) (largest : ℕ) (p : Item → Bool) (items : List Item) (x : Item) → NoneLater (counted p items) x.stamp → AreOn known largest (counted p items)
+      → AreOn known largest (counted p (items ++ x ∷ []))
       → (hand_of known largest (counted p (items ++ x ∷ [])) x.stamp ≤ hand_of known largest (counted p items) x.stamp)
       × (p x ≡ true → IfSome known (λ there. cost_of there.speed x.size + hand_of known largest (counted p (items ++ x ∷ [])) x.stamp ≤ hand_of known largest (counted p items) x.stamp))
   charge_if known largest p items x early on more = ⊎_elim
@@ -156,7 +158,8 @@ front_keeps first (Some there) p items rest keeps =
     first there.rounding there.speed (counted p items) (counted p rest)
     (subst (KeepsToLineWithin there.rounding there.speed) (ap (map frame_of_item) (filter-append p items rest) ∙ map-append frame_of_item (filter p items) (filter p rest)) keeps)
 
-skip_keeps : OthersKeepToTheLine → (known : Option KnownLine) (p : Item → Bool) (items : List Item) (x : Item) (rest : List Item) → Kept known (counted p (items ++ x ∷ rest)) → Kept known (counted p (items ++ rest))
+skip_keeps : OthersKeepToTheLine → (known : Option KnownLine) (p : Item → Bool) (items : List Item) (x : Item) (rest : List Item) → Kept known (counted p (items ++ x ∷ rest))
+    → Kept known (counted p (items ++ rest))
 skip_keeps others None p items x rest keeps = tt
 skip_keeps others (Some there) p items x rest keeps =
     subst (KeepsToLineWithin there.rounding there.speed) (sym (joined items rest)) (by (p x) (subst (KeepsToLineWithin there.rounding there.speed) (joined items (x ∷ rest)) keeps)) where
@@ -213,7 +216,8 @@ module _ (g : Ground) (laws : LineLaws) (s : Settings) (flows : List Flow) (line
   cost_most x r = within_longest s flows r.flow x.size r.among r.largest
 
   cost_most_low : (x : Item) → IsOfAFlow flows x → is_high x.priority ≡ false → item_cost s x ≤ demand.low_largest
-  cost_most_low x r low = within_longest s (low_flows flows) r.flow x.size (among_filter (λ flow. Rattle.std.specs.Prelude.not (is_high flow.priority)) flows r.flow r.among (ap Rattle.std.specs.Prelude.not (ap is_high r.priority ∙ low))) r.largest
+  cost_most_low x r low = within_longest s (low_flows flows) r.flow x.size
+      (among_filter (λ flow. Rattle.std.specs.Prelude.not (is_high flow.priority)) flows r.flow r.among (ap Rattle.std.specs.Prelude.not (ap is_high r.priority ∙ low))) r.largest
 
   -- the items over a line keep to it, where that is known
   abbrev Keep : Line → List Item → Type 0
@@ -250,7 +254,8 @@ module _ (g : Ground) (laws : LineLaws) (s : Settings) (flows : List Flow) (line
       let c = credit g laws line.known (largest_of (flows_on line flows)) (counted (p_all line) items) now later le (early_of (p_all line) items now soon) in
       (omega (arith, c.0, cap_is line.known (flows_on line flows)), omega (arith, c.1, reach-gap s now later))
 
-  high_credited : (items : List Item) (now later : ℕ) → now ≤ later → Soon items now → AreCredited lines (high_at_hand flows) (reach s later - reach s now) (high_hand items now) (high_hand items later)
+  high_credited : (items : List Item) (now later : ℕ) → now ≤ later → Soon items now
+      → AreCredited lines (high_at_hand flows) (reach s later - reach s now) (high_hand items now) (high_hand items later)
   high_credited items now later le soon i d lt =
       let line = get_or lines i d in
       let c = credit g laws line.known (largest_of (high_flows (flows_on line flows))) (counted (p_high line) items) now later le (early_of (p_high line) items now soon) in
@@ -266,7 +271,8 @@ module _ (g : Ground) (laws : LineLaws) (s : Settings) (flows : List Flow) (line
 
   until : (before items : List Item) (now later : ℕ) → now ≤ later → Early before now → Soon items now → Keeps before items now → Keeps before items later
   until before items now later le early soon h =
-      moves before before items now later le (subst (λ d. Grow flows d (level_after before now) (level_after before later)) (sym (reach-gap s now later)) (grow_by g flows before now later le early)) soon h
+      moves before before items now later le (subst (λ d. Grow flows d (level_after before now) (level_after before later)) (sym (reach-gap s now later))
+      (grow_by g flows before now later le early)) soon h
 
   charged : (items : List Item) (x : Item) → Soon items x.stamp → KeepToLines lines (items ++ x ∷ []) → All (IsOfAFlow flows) items → All (IsOfAFlow flows) (items ++ x ∷ [])
       → AreCharged lines x true (all_hand items x.stamp) (all_hand (items ++ x ∷ []) x.stamp)
@@ -286,7 +292,8 @@ module _ (g : Ground) (laws : LineLaws) (s : Settings) (flows : List Flow) (line
       (on_high line items (front_keeps laws.first line.known (p_all line) items (x ∷ []) p) of_flows) (on_high line (items ++ x ∷ []) p of_all) in
       (c.0, λ is has. c.1 (both_of_two (line.has x.link) (is_high x.priority) has is))
 
-  taking : (before items : List Item) (x : Item) → IsClean flows x → Early before x.stamp → Soon items x.stamp → KeepToLines lines (items ++ x ∷ []) → All (IsOfAFlow flows) items → joins flows before x ≡ true
+  taking : (before items : List Item) (x : Item) → IsClean flows x → Early before x.stamp → Soon items x.stamp → KeepToLines lines (items ++ x ∷ []) → All (IsOfAFlow flows) items
+      → joins flows before x ≡ true
       → Rattle.afdx_isolation.specs.Inner.Supply.IsTakenFrom parts s (came s x) x (supply before items x.stamp) (supply (before ++ x ∷ []) (items ++ x ∷ []) x.stamp)
   taking before items x clean early soon keeps of_flows is =
       let r = of_a_flow flows before x clean is in
@@ -351,12 +358,14 @@ module _ (g : Ground) (laws : LineLaws) (s : Settings) (flows : List Flow) (line
   room_for : HasRoom → (before items : List Item) (x : Item) → IsClean flows x → Early before x.stamp → Soon items x.stamp → KeepToLines lines (items ++ x ∷ []) → Keeps before items x.stamp
       → (v : Bool) → joins flows before x ≡ v → (rest : List Item) → admit_all s items (cond v (x ∷ rest) rest) ≡ admit_all s (cond v (items ++ x ∷ []) items) rest
   room_for buffer before items x clean early soon keeps h true is rest =
-      let room = has_room g s flows demand cost_most cost_most_low buffer items x (supply before items x.stamp) (supply (before ++ x ∷ []) (items ++ x ∷ []) x.stamp) (of_a_flow flows before x clean is)
+      let room = has_room g s flows demand cost_most cost_most_low buffer items x (supply before items x.stamp) (supply (before ++ x ∷ []) (items ++ x ∷ []) x.stamp)
+      (of_a_flow flows before x clean is)
       (taking before items x clean early soon keeps h.of_flows is) h in
       ap (λ v. admit_all s (cond v (items ++ x ∷ []) items) rest) room
   room_for buffer before items x clean early soon keeps h false is rest = refl
 
-  pub full_none : HasRoom → (before arrivals items : List Item) (now : ℕ) → Early before now → Soon items now → KeepToLines lines (items ++ arrivals) → InOrder now (map frame_of_item arrivals) → All (IsClean flows) arrivals
+  pub full_none : HasRoom → (before arrivals items : List Item) (now : ℕ) → Early before now → Soon items now → KeepToLines lines (items ++ arrivals) → InOrder now (map frame_of_item arrivals)
+      → All (IsClean flows) arrivals
       → Keeps before items now → admit_all s items (feed_after flows before arrivals) ≡ items ++ feed_after flows before arrivals
   full_none buffer before [] items now early soon keeps order clean h = sym (append-nil items)
   full_none buffer before (x ∷ arrivals) items now early soon keeps order clean h =
@@ -370,7 +379,8 @@ module _ (g : Ground) (laws : LineLaws) (s : Settings) (flows : List Flow) (line
       let lines' = lines_here items x arrivals keeps in
       let after = taken before items x own-clean early' soon' lines' here v refl in
       room_for buffer before items x own-clean early' soon' lines' here v refl rest
-      ∙ full_none buffer next arrivals (cond v (items ++ x ∷ []) items) x.stamp (early_push before x early') (soon_next v x items soon') (lines_next v items x arrivals keeps) order.1 (All-tail (IsClean flows) x arrivals clean) after
+      ∙ full_none buffer next arrivals (cond v (items ++ x ∷ []) items) x.stamp (early_push before x early') (soon_next v x items soon') (lines_next v items x arrivals keeps) order.1
+      (All-tail (IsClean flows) x arrivals clean) after
       ∙ gathered v x items rest
 
   -- at first
@@ -391,9 +401,11 @@ lines_isolate g laws s flows lines burst high_burst arrivals arrive apart carrie
     let feed = feed_of flows arrivals in
     let start = first g laws s flows lines burst high_burst arrive.paid arrive.distinct carries.on_lines carries.enough in
     let none : All (λ (x : Item). x.stamp ≤ 0) [] = All-nil (λ (x : Item). x.stamp ≤ 0) in
-    let all = kept_all g laws s flows lines burst high_burst arrive.paid arrive.distinct carries.on_lines carries.enough [] arrivals [] 0 (latest arrivals) (λ id. tt) none apart (omega arith) arrive.stamps
+    let all = kept_all g laws s flows lines burst high_burst arrive.paid arrive.distinct carries.on_lines carries.enough [] arrivals [] 0 (latest arrivals) (λ id. tt) none apart
+    (omega arith) arrive.stamps
     (by_latest arrivals (latest arrivals) (omega arith)) arrive.clean start in
-    let room : admitted s feed ≡ feed = full_none g laws s flows lines burst high_burst arrive.paid arrive.distinct carries.on_lines carries.enough carries.buffer [] arrivals [] 0 (λ id. tt) none apart arrive.stamps arrive.clean start in
+    let room : admitted s feed ≡ feed = full_none g laws s flows lines burst high_burst arrive.paid arrive.distinct carries.on_lines carries.enough carries.buffer [] arrivals [] 0
+    (λ id. tt) none apart arrive.stamps arrive.clean start in
     let old = kept g s flows arrivals arrive carries.rate in
     record {
       none_full = room;

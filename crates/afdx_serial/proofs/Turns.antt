@@ -83,7 +83,8 @@ turn_is_enough n burst turn curves fast slow here next window = ⊎_elim
       before' d there (inr fast) =
           let h = before_all curves window d in
           let fast' : n ≤ sum_by (rate_before (window + d)) curves = subst (λ w. n ≤ sum_by (rate_before w) curves) (Rattle.std.proofs.Common.sym there) fast in
-          let here' : sum_by (λ c. curve_at c (window + d)) curves ≤ n * (window + d) + burst = subst (λ w. sum_by (λ c. curve_at c w) curves ≤ n * w + burst) (Rattle.std.proofs.Common.sym there) here in
+          let here' : sum_by (λ c. curve_at c (window + d)) curves ≤ n * (window + d) + burst =
+          subst (λ w. sum_by (λ c. curve_at c w) curves ≤ n * w + burst) (Rattle.std.proofs.Common.sym there) here in
           sooner n window d burst _ _ _ h here' (mul-le-mul_right d fast')
 
 pub bursts_are_enough : (n : ℕ) (curves : List Curve) → sum_by (λ c. c.paid.rate) curves ≤ n → IsEnough n (sum_by (λ c. c.paid.burst) curves) curves
@@ -101,4 +102,5 @@ bursts_are_enough n curves slow window =
       paid_all : (curves : List Curve) (u : ℕ) → sum_by (λ c. curve_at c u) curves ≤ sum_by (λ c. c.paid.burst) curves + sum_by (λ c. c.paid.rate) curves * u
       paid_all [] u = omega arith
       paid_all (c ∷ curves) u =
-          adds _ _ _ _ _ _ _ _ _ u (sum_by-cons (λ c. c.paid.burst) c curves) (sum_by-cons (λ c. c.paid.rate) c curves) (sum_by-cons (λ c. curve_at c u) c curves) (least c.paid c.brought u) (paid_all curves u)
+          adds _ _ _ _ _ _ _ _ _ u (sum_by-cons (λ c. c.paid.burst) c curves) (sum_by-cons (λ c. c.paid.rate) c curves) (sum_by-cons (λ c. curve_at c u) c curves) (least c.paid c.brought u)
+          (paid_all curves u)

@@ -348,7 +348,8 @@ hands_on {Z} m next start now carrying hands is grown out lanes counts = record 
     of = touched_table m next touched same carrying.of;
     handed = handed_stays m.switch next.switch same carrying.handed;
     going = subst (λ (c : Content). IsGoing c next.lanes.items next.switch next.counts) (sym hands.table)
-        (subst (λ n. IsGoing t next.lanes.items next.switch n) (sym counts) (drained_going t m.lanes.items next.lanes.items m.switch next.switch m.counts carrying.going (grown_off m.lanes.items next.lanes.items all) hands outs));
+        (subst (λ n. IsGoing t next.lanes.items next.switch n) (sym counts)
+        (drained_going t m.lanes.items next.lanes.items m.switch next.switch m.counts carrying.going (grown_off m.lanes.items next.lanes.items all) hands outs));
     over = all_over_grown m.lanes.items next.lanes.items all carrying.over;
   };
   same = same;

@@ -256,7 +256,18 @@ drained_on port start now new out place s len d handed =
     }
 
 pub starts_drained : (port : ℕ) (start : State) → IsDrained port start start
-starts_drained port start = record { table = refl; rows = refl; finished = refl; accepted = refl; keeps = refl; latest = refl; handed = refl; others = λ place other. refl; frames = λ arrivals len has. has }
+starts_drained port start = record {
+  table = refl;
+  rows = refl;
+  finished = refl;
+  accepted = refl;
+  keeps = refl;
+  latest = refl;
+  handed = refl;
+  others = λ place other. refl;
+  frames =
+      λ arrivals len has. has;
+}
 
 pub as_before : (port : ℕ) (start now : State) → IsDrained port start now → IsAsBefore start now
 as_before port start now d = record { table = d.table; rows = d.rows; latest = d.latest; finished = d.finished; accepted = d.accepted }

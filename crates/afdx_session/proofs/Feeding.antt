@@ -119,7 +119,8 @@ goes_on_into {F} {Z} contents old start mid next files now begun k lane new i of
   here : (r : IsRunning next.switch.run.table next.lanes.items next.switch next.counts)
       × HavePut contents next.switch.run.table r.going.given r.going.since old.lanes.items next.lanes.items files now
   here =
-      subst (λ (s : State). (r : IsRunning s.run.table next.lanes.items s next.counts) × HavePut contents s.run.table r.going.given r.going.since old.lanes.items next.lanes.items files now) (sym switch)
+      subst (λ (s : State). (r : IsRunning s.run.table next.lanes.items s next.counts) × HavePut contents s.run.table r.going.given r.going.since old.lanes.items next.lanes.items files now)
+      (sym switch)
       (subst (λ (c : Tally). (r : IsRunning t next.lanes.items mid.switch c) × HavePut contents t r.going.given r.going.since old.lanes.items next.lanes.items files now) (sym counts)
       (ran.0, put))
 

@@ -216,7 +216,8 @@ length-zeros [] = refl
 length-zeros (p ∷ ports) = ap suc (length-zeros ports)
 
 -- what is true of each session is true of it
-pub fresh_kept : {Z : Type 0} → StartsWithNone → (accepted keeps : Bool) (t : Content) (m : Machine Z) → IsWellFormed t → (accepted ≡ true → IsAccepted t) → m.switch ≡ fresh_state accepted keeps t → m.counts
+pub fresh_kept : {Z : Type 0} → StartsWithNone → (accepted keeps : Bool) (t : Content) (m : Machine Z) → IsWellFormed t → (accepted ≡ true → IsAccepted t)
+    → m.switch ≡ fresh_state accepted keeps t → m.counts
     ≡ fresh t → AreFreshLanes t.ports m.lanes.items
     → IsKeptMachine m false false
 fresh_kept starts accepted keeps t m formed is_accepted switch counts fresh = record {

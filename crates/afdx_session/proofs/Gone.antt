@@ -23,7 +23,8 @@ use Rattle.afdx_session.specs.Streams.{Stream, merged_so_far, frontier, sent_up_
 use Rattle.afdx_session.specs.Inner.Settled.{IsSettling, IsGiven, IsAt, HandsOut, Draws}
 use Rattle.afdx_session.specs.Inner.Lanes.{waiting_of}
 use Rattle.afdx_pcap.specs.Reading.{HasTaken}
-use Rattle.afdx_session.specs.Inner.Kept.{IsLaneOf, AreLanesOf, AreOfTable, come_to, text_up_to, IsOutAt, IsOut, AreOut, Every, IsGoing, HasCome, IsRunning, IsTouched, IsGrown, AreGrown, IsDrawnOff, AreDrawnOff}
+use Rattle.afdx_session.specs.Inner.Kept.{IsLaneOf, AreLanesOf, AreOfTable, come_to, text_up_to, IsOutAt, IsOut, AreOut, Every, IsGoing, HasCome, IsRunning, IsTouched, IsGrown, AreGrown}
+use Rattle.afdx_session.specs.Inner.Kept.{IsDrawnOff, AreDrawnOff}
 use Rattle.afdx_session.proofs.Joining.{AllFrom}
 use Rattle.afdx_session.proofs.Settling.{all_prefix, all_back}
 use Rattle.afdx_session.proofs.Later.{same_sent, same_bytes}

@@ -285,7 +285,8 @@ done_before cleared t texts old new done before = record {
   table = before.table ∙ done.table;
   rows = before.rows ∙ done.rows;
   is_run = record {
-    arrivals = subst (λ (u : Content). All (IsOfAnArrival u) new.run.rows) (sym before.table) (subst (λ (rows : List Row). All (IsOfAnArrival old.run.table) rows) (sym before.rows) done.is_run.arrivals);
+    arrivals = subst (λ (u : Content). All (IsOfAnArrival u) new.run.rows) (sym before.table)
+        (subst (λ (rows : List Row). All (IsOfAnArrival old.run.table) rows) (sym before.rows) done.is_run.arrivals);
     stamps = subst (λ (rows : List Row). InOrder 0 (map frame_of_row rows)) (sym before.rows) done.is_run.stamps;
     latest = subst (λ (n : ℕ). All (λ (row : Row). row.stamp ≤ n) new.run.rows) (sym before.latest)
         (subst (λ (rows : List Row). All (λ (row : Row). row.stamp ≤ old.run.latest) rows) (sym before.rows) done.is_run.latest);

@@ -130,7 +130,8 @@ lined_sent ordered ground merge isolate keeps t texts results formed accepted ou
 
 pub outcomes_isolate : ByStampIsOrdered → Ground → AdmittedInParts → MergedIsAMerge → AcceptedTablesIsolate → OutcomesIsolate
 unfolding headline
-outcomes_isolate ordered ground in_parts merge isolate t texts results formed accepted outcome p at = (headline ordered ground in_parts merge isolate t texts results formed accepted outcome).isolated p at
+outcomes_isolate ordered ground in_parts merge isolate t texts results formed accepted outcome p at =
+    (headline ordered ground in_parts merge isolate t texts results formed accepted outcome).isolated p at
 
 pub plain_headlines : ByStampIsOrdered → Ground → AdmittedInParts → MergedIsAMerge → AcceptedTablesIsolate → PlainHeadlines
 unfolding headline

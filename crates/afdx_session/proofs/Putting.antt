@@ -1,5 +1,6 @@
 -- What has left goes out to the lanes, and from there to the files, in parts.
-use Rattle.std.proofs.Common.{◌≡◌, ◌≢◌, ◌⊎◌, ℕ, zero, suc, ◌+◌, ◌<◌, ◌≤◌, ◌^◌, ◌==◌, List, [], ◌∷◌, ◌++◌, map, length, drop, set, slice_get, Option, Some, None, refl, ap, sym, ◌∙◌, arith, subst, append_assoc}
+use Rattle.std.proofs.Common.{◌≡◌, ◌≢◌, ◌⊎◌, ℕ, zero, suc, ◌+◌, ◌<◌, ◌≤◌, ◌^◌, ◌==◌, List, [], ◌∷◌, ◌++◌, map, length, drop, set, slice_get, Option, Some, None, refl, ap, sym, ◌∙◌, arith}
+use Rattle.std.proofs.Common.{subst, append_assoc}
 use Rattle.std.proofs.Common.{inl, inr, length-set, Vec}
 use Rattle.std.specs.List.{flat_map, position}
 use Rattle.std.specs.Io.KnownBytes.{Appends}
@@ -29,7 +30,8 @@ use Rattle.afdx_session.specs.Inner.Files.{HandsOver}
 use Rattle.afdx_session.specs.Inner.Parts.{CanTake, DrainsInto, HasPut, HavePut, RunsInto}
 use Rattle.afdx_session.proofs.Bounded.{text_bound_at}
 use Rattle.afdx_session.proofs.Drawing.{draws_start, draws_on, drained_on as port_drained_on, starts_drained, long_behind}
-use Rattle.afdx_session.proofs.Gone.{AreDrained, drained_none, drained_all, drained_on, hands_none, hands_on, hands_at, off_none, off_on, off_ports, out_here, place_here, port_of_lane, runs_with, with_out}
+use Rattle.afdx_session.proofs.Gone.{AreDrained, drained_none, drained_all, drained_on, hands_none, hands_on, hands_at, off_none, off_on, off_ports, out_here, place_here, port_of_lane}
+use Rattle.afdx_session.proofs.Gone.{runs_with, with_out}
 use Rattle.afdx_session.proofs.Intakes.{still_of_table}
 use Rattle.afdx_session.proofs.Parts.{at_set}
 use Rattle.afdx_session.proofs.Rounds.{same_both}
@@ -148,12 +150,14 @@ into_end contents start now next first l out f g same items was = subst (λ (s :
 -- ---- one port after the other
 
 -- those before a place have put what has left, the others are as they were
-pub record ArePutUpTo {F Z : Type 0} (contents : F → Option (List ℕ)) (t : Content) (given : List Arrival) (h k : ℕ) (now : State) (lanes new : List (Lane Z)) (files written : List F) (n : ℕ) : Type 0 where
+pub record ArePutUpTo {F Z : Type 0} (contents : F → Option (List ℕ)) (t : Content) (given : List Arrival) (h k : ℕ) (now : State) (lanes new : List (Lane Z)) (files written : List F)
+    (n : ℕ) : Type 0 where
   pub drained : AreDrained t given h k now new n
   pub put : (place : ℕ) (p : PortRow) (l m : Lane Z) (f g : F) → place < n → slice_get t.ports place ≡ Some p → slice_get lanes place ≡ Some l → slice_get new place ≡ Some m
       → slice_get files place ≡ Some f → slice_get written place ≡ Some g → HasPut contents t given k p l m f g
 
-pub record PutsUpTo {F Z : Type 0} (contents : F → Option (List ℕ)) (start : State) (lanes : List (Lane Z)) (files : List F) (now : State) (new : List (Lane Z)) (written : List F) (n : ℕ) : Type 0 where
+pub record PutsUpTo {F Z : Type 0} (contents : F → Option (List ℕ)) (start : State) (lanes : List (Lane Z)) (files : List F) (now : State) (new : List (Lane Z)) (written : List F)
+    (n : ℕ) : Type 0 where
   pub hands : HandsOut start now
   pub off : AreDrawnOff lanes new
   pub long : length written ≡ length files

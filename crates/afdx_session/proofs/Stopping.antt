@@ -92,7 +92,8 @@ pub out_more : {R Z : Type 0} (remaining : R → Option (List ℕ)) (n : ℕ) (l
     → AreReadOut remaining (take (n + 1) lanes) (take (n + 1) readers) (texts ++ (l.port, l.reader.bytes ++ more) ∷ [])
 out_more {R} {Z} remaining n lanes readers texts l r more out lane reader given =
     subst (λ k. AreReadOut remaining (take k lanes) (take k readers) (texts ++ (l.port, l.reader.bytes ++ more) ∷ [])) (suc-eq-add-one n) (by n lanes readers texts out lane reader) where
-      by : (n : ℕ) (lanes : List (Lane Z)) (readers : List R) (texts : List Text) → AreReadOut remaining (take n lanes) (take n readers) texts → slice_get lanes n ≡ Some l → slice_get readers n ≡ Some r
+      by : (n : ℕ) (lanes : List (Lane Z)) (readers : List R) (texts : List Text) → AreReadOut remaining (take n lanes) (take n readers) texts → slice_get lanes n ≡ Some l
+          → slice_get readers n ≡ Some r
           → AreReadOut remaining (take (suc n) lanes) (take (suc n) readers) (texts ++ (l.port, l.reader.bytes ++ more) ∷ [])
       by n [] readers texts out lane reader = absurd cc
       by n (x ∷ lanes) [] texts out lane reader = absurd cc
@@ -230,7 +231,8 @@ whole_read {R} remaining first came texts all = record { many = long first came 
   long (f ∷ first) (c ∷ came) [] all = absurd all
   long (f ∷ first) (c ∷ came) (text ∷ texts) all = ap suc (long first came texts all.2)
 
-  each : (first : List R) (came texts : List Text) → AreWhole remaining first came texts → (place : ℕ) (reader : R) (text : Text) → slice_get first place ≡ Some reader → slice_get texts place ≡ Some text
+  each : (first : List R) (came texts : List Text) → AreWhole remaining first came texts → (place : ℕ) (reader : R) (text : Text) → slice_get first place ≡ Some reader
+      → slice_get texts place ≡ Some text
       → AreGiven (remaining reader) text.1
   each [] came texts all place reader text is at = absurd cc
   each (f ∷ first) [] texts all place reader text is at = absurd all

@@ -17,7 +17,8 @@ ghost use Rattle.afdx_session.specs.Inner.Lanes.{limit_at, heads_of, NoneGoes, I
 ghost use Rattle.afdx_session.specs.Inner.Lent.{texts_over, taken_by, left_in, IsOneFault, IsCarrying, CarriesOn, HandsOn, HaveGone};
 ghost use Rattle.afdx_session.specs.Inner.Files.{PutsOut, Proceeds, HasEndedInto};
 ghost use Rattle.afdx_session.specs.Inner.Parts.{RunsInto, IsFedInto, IsEndedInto, StopsAt};
-ghost use Rattle.afdx_session.specs.Inner.View.{IsRound, IsReady, IsOpenAt, IsFed, IsNotFed, IsEnded, IsNotEnded, OthersStay, AreSettledLanes, AreFreshLanes, AreHalfDone, AreEndedLanes, AreLent, texts_at};
+ghost use Rattle.afdx_session.specs.Inner.View.{IsRound, IsReady, IsOpenAt, IsFed, IsNotFed, IsEnded, IsNotEnded, OthersStay, AreSettledLanes, AreFreshLanes, AreHalfDone, AreEndedLanes};
+ghost use Rattle.afdx_session.specs.Inner.View.{AreLent, texts_at};
 ghost use Rattle.afdx_session.specs.Texts.{texts_of, AreOfPorts};
 ghost use Rattle.afdx_session.specs.Reading.{IsReadFault};
 

@@ -21,7 +21,8 @@ is_instant : (at : Option ℕ) → unwrap_or at 0 ≡ instant_of at
 is_instant None = refl
 is_instant (Some x) = refl
 
-may_at : (captures : List Source) (waits : List Arrival) (at other : ℕ) (c new : Comparison) → at ≡ other → new ≡ with_until at c → MayGoOn captures waits (with_until other c) → MayGoOn captures waits new
+may_at : (captures : List Source) (waits : List Arrival) (at other : ℕ) (c new : Comparison) → at ≡ other → new ≡ with_until at c → MayGoOn captures waits (with_until other c)
+    → MayGoOn captures waits new
 may_at captures waits at other c new same is may =
     subst (λ (x : Comparison). MayGoOn captures waits x) (sym (is ∙ ap (λ n. with_until n c) same)) may
 

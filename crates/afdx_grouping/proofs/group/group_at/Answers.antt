@@ -10,6 +10,7 @@ added-group-requires-clause-room c = less_small c.loop-index.index 4095 c.loop-i
 
 pub loop-index-preserved : goal.loop-index-preserved
 loop-index-preserved c = record {
-  so_far = group_more c.args.table.now.links c.loop-index.index c.args.from c.args.to.now c.link_at.result.now c.loop-index.group _ (omega arith) c.link_at.ensures.link c.loop-index.invariant.so_far c.added-group.ensures.added;
+  so_far = group_more c.args.table.now.links c.loop-index.index c.args.from c.args.to.now c.link_at.result.now c.loop-index.group _
+      (omega arith) c.link_at.ensures.link c.loop-index.invariant.so_far c.added-group.ensures.added;
   small = c.added-group.ensures.small c.loop-index.index c.loop-index.invariant.small;
 }

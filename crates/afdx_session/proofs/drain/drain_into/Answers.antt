@@ -14,7 +14,8 @@ hand_over-requires g c =
     let takes = takes_out first.port c.loop-lane.switch c.next_out_into.new.self c.loop-lane.lane c.next_out_into.new.capture was.off.alike.port
     (c.in_ok-next_out_into.ensures.ok.text c.if-branch.true) in
     record {
-      bound = into_bound g.F.NewFile.contents c.args.switch.now c.loop-lane.switch c.next_out_into.new.self first c.loop-lane.lane (with_out c.next_out_into.new.capture c.loop-lane.lane) c.args.file.now c.loop-lane.file
+      bound = into_bound g.F.NewFile.contents c.args.switch.now c.loop-lane.switch c.next_out_into.new.self first c.loop-lane.lane
+          (with_out c.next_out_into.new.capture c.loop-lane.lane) c.args.file.now c.loop-lane.file
           c.requires.room.0 c.requires.room.1 c.requires.handed was takes;
     }
 
@@ -25,7 +26,8 @@ loop-lane-preserved g c =
     let takes = takes_out first.port c.loop-lane.switch c.next_out_into.new.self c.loop-lane.lane c.next_out_into.new.capture was.off.alike.port
     (c.in_ok-next_out_into.ensures.ok.text c.if-branch.true) in
     let over = c.in_ok-hand_over.ensures in
-    into_one g.F.NewFile.contents c.args.switch.now c.loop-lane.switch c.next_out_into.new.self first c.loop-lane.lane (with_out c.next_out_into.new.capture c.loop-lane.lane) c.hand_over.new.self c.args.file.now
+    into_one g.F.NewFile.contents c.args.switch.now c.loop-lane.switch c.next_out_into.new.self first c.loop-lane.lane
+    (with_out c.next_out_into.new.capture c.loop-lane.lane) c.hand_over.new.self c.args.file.now
     c.loop-lane.file c.hand_over.new.file over.0 c.requires.handed was takes over.1 over.2
 
 pub loop-lane-smaller : goal.loop-lane-smaller
@@ -40,5 +42,6 @@ loop-lane-smaller g c =
 pub returns-clause-into : goal.returns-clause-into
 returns-clause-into g c =
     let none = c.in_ok-next_out_into.ensures.ok.none c.if-branch.false in
-    into_end g.F.NewFile.contents c.args.switch.now c.loop-lane.switch c.next_out_into.new.self c.args.lane.now c.loop-lane.lane c.next_out_into.new.capture c.args.file.now c.loop-lane.file none.0.1 none.1
+    into_end g.F.NewFile.contents c.args.switch.now c.loop-lane.switch c.next_out_into.new.self c.args.lane.now c.loop-lane.lane c.next_out_into.new.capture c.args.file.now c.loop-lane.file
+    none.0.1 none.1
     c.loop-lane.invariant

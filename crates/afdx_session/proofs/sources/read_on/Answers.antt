@@ -38,7 +38,8 @@ returns-in-Ok-close_into-clause-ok g c =
     let there = reader_at v c.args.ports.now readers c.args.port place d c.requires.of c.requires.ports c.requires.readers c.requires.next.place_is in
     let end = end_found _ _ c.in-Ok-eq0.field-0 (length c.args.piece.now) c.read.new.buf c.in-Ok-eq0.ensures.bytes c.in-Ok-eq0.field-0-test c.read.auto.buf c.requires.room in
     let mid = after_close v c.args.port in
-    reads_into c.takes_join_to_the_output.ensures.calls rem g.F.NewFile.contents v mid c.in-Ok-close_into.session readers (set readers place c.read.new.self) c.args.files.now c.close_into.new.files true
+    reads_into c.takes_join_to_the_output.ensures.calls rem g.F.NewFile.contents v mid c.in-Ok-close_into.session readers
+    (set readers place c.read.new.self) c.args.files.now c.close_into.new.files true
     c.requires.of
     (reads_end c.takes_join_to_the_output.ensures.calls rem v mid readers c.args.port place (slice_index_or readers place d) c.read.new.self c.requires.of there end.0 end.1 refl)
     c.in-Ok-close_into.ensures.ok

@@ -19,6 +19,7 @@ returns-clause-ok g c =
       accepted = ap (λ (s : State). s.accepted) made.fresh.0;
       lists = ap (λ (s : State). s.keeps) made.fresh.0;
       fresh = subst (λ (s : State). AreFreshLanes s.run.table.ports c.in_ok-machine.machine.lanes.items) (sym made.fresh.0) made.fresh.2;
-      kept = fresh_kept c.starts_with_none.ensures (is_cleared c.args.plan) (keeps_lists c.args.wanted) (table_in c.args.plan) c.in_ok-machine.machine made.formed made.accepted made.fresh.0 made.fresh.1
+      kept = fresh_kept c.starts_with_none.ensures (is_cleared c.args.plan) (keeps_lists c.args.wanted)
+          (table_in c.args.plan) c.in_ok-machine.machine made.formed made.accepted made.fresh.0 made.fresh.1
           made.fresh.2;
     }

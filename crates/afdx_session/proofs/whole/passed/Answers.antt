@@ -22,7 +22,8 @@ returns-in_err-carry_captures-clause-err g c =
     let begun = c.in_ok-machine.ensures.ok in
     let fault = c.in_err-carry_captures.field-0.0 in
     let ports = subst (λ (u : Content). AreOfPorts u texts) begun.table begun.ports in
-    of_error (λ e. IsRefusal t texts e) c.from_residual-in_err-carry_captures.result fault c.from_residual-in_err-carry_captures.ensures (is_refusal t texts fault ports c.in_err-carry_captures.ensures.err)
+    of_error (λ e. IsRefusal t texts e) c.from_residual-in_err-carry_captures.result fault c.from_residual-in_err-carry_captures.ensures
+    (is_refusal t texts fault ports c.in_err-carry_captures.ensures.err)
 
 pub returns-clause-ok : goal.returns-clause-ok
 returns-clause-ok g c =

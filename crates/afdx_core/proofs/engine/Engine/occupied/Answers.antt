@@ -9,7 +9,8 @@ occupied_at-requires g c =
     record { place = asked.within; still_open = asked.still_open; in_order = asked.in_order; none_due = asked.none_due }
 
 pub returns-then-place-len : goal.returns-then-place-len
-returns-then-place-len g c = answers c.args.self.now c.requires.kept c.requires.still_open c.args.place c.deref.result.now c.deref.ensures.value c.occupied_at.result (omega arith) c.occupied_at.ensures
+returns-then-place-len g c = answers c.args.self.now c.requires.kept c.requires.still_open c.args.place c.deref.result.now c.deref.ensures.value c.occupied_at.result
+    (omega arith) c.occupied_at.ensures
 
 pub returns-else-place-len : goal.returns-else-place-len
 returns-else-place-len g c = none_answers c.args.self.now c.args.place c.requires.kept (omega arith)

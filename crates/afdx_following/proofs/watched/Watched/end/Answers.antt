@@ -21,7 +21,8 @@ returns-clause-ok g c =
       latest = i.latest;
     } in
     let ended = (with_items i.outputs c.end_all.new.outputs).items in
-    IfOk-weaker c.end_all.result (λ u. c.end_all.new.outputs ≡ map (λ (o : Output). with_end c.args.last o) c.deref_mut.result.now) (λ u. record f { outputs = ended } ≡ with_ends c.args.last c.args.self.now)
+    IfOk-weaker c.end_all.result (λ u. c.end_all.new.outputs ≡ map (λ (o : Output). with_end c.args.last o) c.deref_mut.result.now)
+    (λ u. record f { outputs = ended } ≡ with_ends c.args.last c.args.self.now)
     (λ u is. ends_made c.args.last c.args.self.now f ended (c.self.view_is ∙ c.in_ok-settle.ensures.ok)
     (mapped_back i.outputs (λ (o : Output). with_end c.args.last o) c.deref_mut.result.now c.end_all.new.outputs c.deref_mut.ensures.value is))
     c.end_all.ensures

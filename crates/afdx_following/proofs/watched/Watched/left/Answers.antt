@@ -21,7 +21,8 @@ settle-requires g c =
     let o = c.index_mut.result.now in
     let lt = subst (λ (x : Watched). c.args.place < length x.outputs) (sym c.self.view_is) c.requires.place in
     let get = item_there f.outputs c.args.place o lt c.index_mut.ensures.value in
-    let at : c.left_by-at.result ≡ left_by c.args.left o = c.left_by-at.ensures ∙ ap (λ (x : Output). left_by c.args.left x) (same_item f.outputs c.args.place c.index.result.now o lt c.index.ensures c.index_mut.ensures.value) in
+    let at : c.left_by-at.result ≡ left_by c.args.left o = c.left_by-at.ensures
+    ∙ ap (λ (x : Output). left_by c.args.left x) (same_item f.outputs c.args.place c.index.result.now o lt c.index.ensures c.index_mut.ensures.value) in
     let changed : set f.outputs c.args.place c.left.new.self ≡ set f.outputs c.args.place (with_waiting c.args.left o) =
     ap (λ (x : Output). set f.outputs c.args.place x) c.in_ok-left.ensures in
     record_made_in_step f c.args.place c.args.left o c.left_by-at.result (set f.outputs c.args.place c.left.new.self) get at changed
@@ -43,7 +44,8 @@ returns-clause-ok g c =
     let o = c.index_mut.result.now in
     let lt = subst (λ (x : Watched). c.args.place < length x.outputs) (sym c.self.view_is) c.requires.place in
     let get = item_there f.outputs c.args.place o lt c.index_mut.ensures.value in
-    let at : c.left_by-at.result ≡ left_by c.args.left o = c.left_by-at.ensures ∙ ap (λ (x : Output). left_by c.args.left x) (same_item f.outputs c.args.place c.index.result.now o lt c.index.ensures c.index_mut.ensures.value) in
+    let at : c.left_by-at.result ≡ left_by c.args.left o = c.left_by-at.ensures
+    ∙ ap (λ (x : Output). left_by c.args.left x) (same_item f.outputs c.args.place c.index.result.now o lt c.index.ensures c.index_mut.ensures.value) in
     let by : c.stamped_by-by.result ≡ stamped_by c.args.left o =
     c.stamped_by-by.ensures ∙ ap (λ (x : Output). stamped_by c.args.left x) (same_item f.outputs c.args.place c.index-2.result.now o lt c.index-2.ensures c.index_mut.ensures.value) in
     let changed : set f.outputs c.args.place c.left.new.self ≡ set f.outputs c.args.place (with_waiting c.args.left o) =

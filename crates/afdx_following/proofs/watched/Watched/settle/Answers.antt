@@ -45,7 +45,8 @@ returns-in-Some-clause-in_step g c =
     let unknown : c.first_unknown-unknown.result ≡ first_unknown f.undecided = search rules in
     IfOk-weaker c.go_on_all.result (λ u. c.go_on_all.new.outputs ≡ map (λ (o : Output). gone_on c.in-Some.at o) c.deref_mut-in-Some.result.now)
     (λ u. IsInStep (record f { outputs = (with_items (with_items i.outputs c.pair_all.new.outputs) c.go_on_all.new.outputs).items }))
-    (λ u is. subst (λ (x : Watched). IsInStep x) (sym (settled_back c.in-Some.at c.args.self.now f c.first_unknown-unknown.result i.outputs c.deref_mut.result.now c.pair_all.new.outputs c.deref_mut-in-Some.result.now
+    (λ u is. subst (λ (x : Watched). IsInStep x) (sym (settled_back c.in-Some.at c.args.self.now f c.first_unknown-unknown.result i.outputs c.deref_mut.result.now c.pair_all.new.outputs
+    c.deref_mut-in-Some.result.now
     c.go_on_all.new.outputs decided_is unknown c.deref_mut.ensures.value c.in_ok-pair_all.ensures c.deref_mut-in-Some.ensures.value is
     ∙ ap (λ (at : Option ℕ). settled_by at c.args.self.now) (sym c.in-Some.is))) (settled_in_step c.args.at c.args.self.now c.requires))
     c.go_on_all.ensures

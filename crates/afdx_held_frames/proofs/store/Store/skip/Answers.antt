@@ -9,7 +9,8 @@ pub invariant_of-self : goal.invariant_of-self
 invariant_of-self g c =
     let p = c.self.inside in
     let some = ap (λ (v : StoreValue). v.room) c.self.view_is in
-    kept_skipped p c.push.new.self 0 (p.room - 1) c.self.invariant (ap (λ (h : Seen ℕ). h.items) c.push.ensures) (omega (arith, some, c.requires)) (ap (λ (h : Seen ℕ). h.first) c.push.ensures) (let r = ap (λ (h : Seen ℕ). h.room) c.push.ensures in omega (arith, r, c.self.invariant.keys_room, some, c.requires))
+    kept_skipped p c.push.new.self 0 (p.room - 1) c.self.invariant (ap (λ (h : Seen ℕ). h.items) c.push.ensures) (omega (arith, some, c.requires)) (ap (λ (h : Seen ℕ). h.first) c.push.ensures)
+    (let r = ap (λ (h : Seen ℕ). h.room) c.push.ensures in omega (arith, r, c.self.invariant.keys_room, some, c.requires))
 
 pub returns : goal.returns
 returns g c =

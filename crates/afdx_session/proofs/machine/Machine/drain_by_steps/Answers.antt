@@ -15,7 +15,8 @@ returns-then-not-advance_to g c =
 
 pub drain_and_hand_over-requires-clause-files : goal.drain_and_hand_over-requires-clause-files
 drain_and_hand_over-requires-clause-files g c =
-    let on = proceeds_hands g.F.NewFile.contents c.args.self.now c.loop-instant.self c.advance_to.new.self c.args.files.now c.loop-instant.files c.loop-instant.invariant.proceeds c.advance_to.ensures in
+    let on = proceeds_hands g.F.NewFile.contents c.args.self.now c.loop-instant.self c.advance_to.new.self c.args.files.now c.loop-instant.files c.loop-instant.invariant.proceeds
+    c.advance_to.ensures in
     on.long ∙ c.requires.files ∙ sym on.many
 
 pub loop-instant-preserved : goal.loop-instant-preserved

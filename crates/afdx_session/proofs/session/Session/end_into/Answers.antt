@@ -69,6 +69,7 @@ returns-clause-ok g c =
           (finished_into c.takes_join_to_the_output.ensures.stays c.takes_join_to_the_output.ensures.prefix c.accepted_runs_isolate.ensures g.F.NewFile.contents m c.end_into.new.self s.begun
           rest.result read c.args.files.now c.end_into.new.files c.write_all.new.files now.counts kept ended.0 left.0 ended.1 rest.ensures.taken left.1.many all.0.counts all.1),
       subst (λ (v : Seen). IsDoneOf v.accepted v.table (texts_in v) now.state) seen
-          (session_done c.taken_records_are_the_first.ensures.ends m c.end_into.new.self rest.result.state now.state s.begun kept ended.0 ended.1.gone rest.ensures.run rest.ensures.keeps rest.ensures.is_run
+          (session_done c.taken_records_are_the_first.ensures.ends m c.end_into.new.self rest.result.state now.state s.begun kept ended.0 ended.1.gone rest.ensures.run rest.ensures.keeps
+          rest.ensures.is_run
           c.in_ok-write_all.ensures.before),
     )

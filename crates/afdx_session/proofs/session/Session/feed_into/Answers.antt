@@ -40,7 +40,8 @@ returns-in-Ok-feed_into-clause-ok g c =
     let not_failed = ap (λ (v : Seen). v.failed) c.self.view_is ∙ has_not_failed c.args.self c.args.port c.requires.may in
     let is_open = open_at c.deref.result.now s.machine.lanes.items c.args.port c.in-Ok.place c.deref.ensures.value c.in-Ok.ensures.ok in
     fed_parts c.by_stamp_is_ordered.ensures c.arrivals_change_nothing_earlier.ensures.admission c.stamps_keep_their_order.ensures.instants c.all_start_before_the_last_instant.ensures
-    laws.stays laws.joins g.F.NewFile.contents s.machine c.feed_into.new.self s.begun s.failed c.args.self c.args.port c.in-Ok.place c.args.piece.now c.args.files.now c.feed_into.new.files c.self.view_is not_failed
+    laws.stays laws.joins g.F.NewFile.contents s.machine c.feed_into.new.self s.begun s.failed c.args.self c.args.port c.in-Ok.place c.args.piece.now c.args.files.now c.feed_into.new.files
+    c.self.view_is not_failed
     c.self.invariant.of is_open c.in-Ok-feed_into.ensures.ok
 
 pub returns-in-Err-clause-err : goal.returns-in-Err-clause-err
@@ -52,5 +53,6 @@ returns-in-Err-clause-err g c =
     let not_failed = ap (λ (w : Seen). w.failed) c.self.view_is ∙ has_not_failed v port c.requires.may in
     let is_open = open_at c.deref.result.now s.machine.lanes.items port c.in-Ok.place c.deref.ensures.value c.in-Ok.ensures.ok in
     subst (λ ls. IsStoppedBy v port fault ls.items (IsPieceFault (fed_bytes v port ++ c.args.piece.now) port fault)) (sym c.into_lanes.ensures)
-    (fed_stops s.machine c.feed_into.new.self.lanes.items s.begun s.failed v port c.in-Ok.place c.args.piece.now fault c.self.view_is not_failed c.self.invariant.of (c.self.invariant.ready not_failed) is_open
+    (fed_stops s.machine c.feed_into.new.self.lanes.items s.begun s.failed v port c.in-Ok.place c.args.piece.now fault c.self.view_is not_failed c.self.invariant.of
+    (c.self.invariant.ready not_failed) is_open
     c.in-Err.ensures.err)
