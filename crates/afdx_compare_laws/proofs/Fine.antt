@@ -1,5 +1,5 @@
 -- Where the records of a port are what left of the passed frames, nothing that is told of it speaks against the switch.
-use Rattle.std.proofs.Common.{◌≡◌, ℕ, suc, ◌+◌, ◌*◌, ◌-◌, ◌<◌, ◌≤◌, nat_le, nat_lt, not, Bool, true, false, ◌&&◌, cond}
+use Rattle.std.proofs.Common.{◌≡◌, ℕ, ◌+◌, ◌*◌, ◌-◌, ◌<◌, ◌≤◌, nat_le, nat_lt, not, Bool, true, false, ◌&&◌, cond}
 use Rattle.std.proofs.Common.{List, [], ◌∷◌, ◌++◌, map, take, drop, length, Option, Some, None, refl, sym, ap, subst, ◌∙◌, arith}
 use Rattle.std.specs.List.{AllByRecursion, AllZip, position, position_or_len, list_any, find}
 use Rattle.std.specs.Option.{option_or, option_map}
@@ -16,25 +16,13 @@ use Rattle.afdx_pairing.specs.declared.event.Event.{Event}
 use Rattle.afdx_pairing.specs.declared.event.Event.TheVariants.{Kept, Early, Late, Missing, After, Extra, Before}
 use Rattle.afdx_pairing.specs.Events.{Numbered, mark_of}
 use Rattle.afdx_pairing.specs.Limits.{left_at, most_of, is_early, is_late, in_bound, came_within, stays}
-use Rattle.afdx_pairing.specs.Pairing.{Pairing, gone_by, partner, missing, paired, pairing_told, ended, end_told}
+use Rattle.afdx_pairing.specs.Pairing.{gone_by, partner, missing, paired, pairing_told, ended, end_told}
 use Rattle.afdx_pairing.specs.Kept.{IsInBound, Apart, MayCome, bytes_of, Sight, Came, Left, Until, own_of, passed_of, left_of, AreInOrder, after_all, told_by_all, all_told, IsFine}
-use Rattle.afdx_pairing.proofs.Keeping.{Keeps}
+use Rattle.afdx_pairing.proofs.Firsts.{first_here, first_later, placed, not_placed}
+use Rattle.afdx_pairing.proofs.Keeping.{AllFine, frames, state, pushed, AllApart, all_parts, all_join, Keeps}
 use Rattle.afdx_compare_laws.specs.Fine.{LeavesLater, IsByEnd, AreByEnd, KeptIsFine}
 
-abbrev AllFine : List Event → Type 0
-AllFine events = AllByRecursion IsFine events
-
-abbrev frames : List Numbered → List Record
-frames ns = map (λ n. n.frame) ns
-
-abbrev state : Limits → List Numbered → List Numbered → Bool → Pairing
-state m waiting policed begun = record { limits = m; waiting = waiting; policed = policed; begun = begun }
-
 -- ---- lists
-
-pushed : (ns : List Numbered) (n : Numbered) (rs : List Record) → frames (ns ++ n ∷ []) ++ rs ≡ frames ns ++ n.frame ∷ rs
-pushed [] n rs = refl
-pushed (x ∷ ns) n rs = ap (λ (ys : List Record). x.frame ∷ ys) (pushed ns n rs)
 
 all_more : (P : Record → Type 0) (ns : List Numbered) (n : Numbered) → AllByRecursion P (frames ns) → P n.frame → AllByRecursion P (frames (ns ++ n ∷ []))
 all_more P [] n all one = (one, tt)
@@ -57,15 +45,6 @@ pub none_gone : (seen gone : List Record) → seen ≡ [] → bytes_of seen ≡ 
 none_gone seen [] none same = refl
 none_gone seen (g ∷ gone) none same = absurd (none_is g.bytes (bytes_of gone) (sym (ap (λ (rs : List Record). bytes_of rs) none) ∙ same))
 
-position_first : {X : Type 0} (p : X → Bool) (x : X) (xs : List X) → p x ≡ true → position_or_len p (x ∷ xs) ≡ 0
-position_first p x xs is = rw is refl
-
-found_first : {X : Type 0} (p : X → Bool) (x : X) (xs : List X) → p x ≡ true → position p (x ∷ xs) ≡ Some 0
-found_first p x xs is =
-    let first = position_first p x xs is in
-    let less : position_or_len p (x ∷ xs) < length (x ∷ xs) = omega (arith, first) in
-    ap (λ (b : Bool). cond b (Some (position_or_len p (x ∷ xs))) None) (lt-ltb (position_or_len p (x ∷ xs)) (length (x ∷ xs)) less) ∙ ap (λ (n : ℕ). Some n) first
-
 all_passed : (P : Record → Type 0) (sights : List Sight) → AllByRecursion P (own_of sights) → AllByRecursion P (passed_of sights)
 all_passed P [] all = tt
 all_passed P (Came n true ∷ sights) all = (all.0, all_passed P sights all.1)
@@ -75,25 +54,10 @@ all_passed P (Until at ∷ sights) all = all_passed P sights all
 
 -- ---- apart from frames
 
-apart_parts : (m : Limits) (xs ys : List Numbered) (left : Record) → Apart m (frames (xs ++ ys)) left → Apart m (frames xs) left × Apart m (frames ys) left
-apart_parts m [] ys left all = (tt, all)
-apart_parts m (x ∷ xs) ys left all = let both = apart_parts m xs ys left all.1 in ((all.0, both.0), both.1)
-
-abbrev AllApart : Limits → List Record → List Record → Type 0
-AllApart m own before = AllByRecursion (Apart m own) before
-
-all_last : (m : Limits) (xs ys : List Numbered) (before : List Record) → AllApart m (frames (xs ++ ys)) before → AllApart m (frames ys) before
-all_last m xs ys [] all = tt
-all_last m xs ys (r ∷ before) all = ((apart_parts m xs ys r all.0).1, all_last m xs ys before all.1)
-
-apart_more : (m : Limits) (ns : List Numbered) (n : Numbered) (left : Record) → Apart m (frames ns) left → came_within m 2 n.frame left ≡ false → Apart m (frames (ns ++ n ∷ [])) left
-apart_more m [] n left all one = (one, tt)
-apart_more m (x ∷ ns) n left all one = (all.0, apart_more m ns n left all.1 one)
-
-all_apart_more : (m : Limits) (ns : List Numbered) (n : Numbered) (own before : List Record) → AllApart m (frames ns) before → AllApart m (n.frame ∷ own) before
-    → AllApart m (frames (ns ++ n ∷ [])) before
-all_apart_more m ns n own [] all more = tt
-all_apart_more m ns n own (r ∷ before) all more = (apart_more m ns n r all.0 more.0.0, all_apart_more m ns n own before all.1 more.1)
+-- of the first frame alone
+all_first : (m : Limits) (f : Record) (own before : List Record) → AllApart m (f ∷ own) before → AllApart m (f ∷ []) before
+all_first m f own [] all = tt
+all_first m f own (r ∷ before) all = ((all.0.0, tt), all_first m f own before all.1)
 
 all_rest : (m : Limits) (f : Record) (own before : List Record) → AllApart m (f ∷ own) before → AllApart m own before
 all_rest m f own [] all = tt
@@ -105,16 +69,10 @@ none_any m (n ∷ ns) left all = or_from (came_within m 2 n.frame left) (list_an
 
 passed_over : {X : Type 0} (p : X → Bool) (xs : List X) → AllByRecursion (λ x. p x ≡ false) xs → position_or_len p xs ≡ length xs
 passed_over p [] all = refl
-passed_over p (x ∷ xs) all =
-    let fails = all.0 in
-    let rest = passed_over p xs all.1 in
-    let next : 1 + position_or_len p xs ≡ suc (length xs) = omega (arith, rest) in
-    rw fails next
+passed_over p (x ∷ xs) all = omega (arith, passed_over p xs all.1, first_later p x xs all.0)
 
 none_found : {X : Type 0} (p : X → Bool) (xs : List X) → AllByRecursion (λ x. p x ≡ false) xs → position p xs ≡ None
-none_found p xs all =
-    let over = passed_over p xs all in
-    ap (λ (b : Bool). cond b (Some (position_or_len p xs)) None) (le-ltb (position_or_len p xs) (length xs) (omega (arith, over)))
+none_found p xs all = not_placed p xs (passed_over p xs all)
 
 pub early_least : (m : Limits) (f left : Record) (b : Bool) → is_early m f left ≡ b → not b ≡ true
     → f.stamp + m.least + cost_of m.speed (size_of (length f.bytes)) ≤ left_at m left + m.tolerance
@@ -165,7 +123,7 @@ module _ (m : Limits) (last : Option ℕ) where
   none_gone_by at [] passed seen gone after passed_is same within late comes up = refl
   none_gone_by at (x ∷ ws) passed seen gone after passed_is same within late comes up =
       let by = waits_by at x.frame (frames ws ++ passed) seen gone after passed_is same within late comes up in
-      position_first (λ (n : Numbered). stays m at n.frame) x ws (le-leb at (x.frame.stamp + 2 * most_of m) by)
+      first_here (λ (n : Numbered). stays m at n.frame) x ws (le-leb at (x.frame.stamp + 2 * most_of m) by)
 
   -- ---- what is still to be told
 
@@ -200,7 +158,7 @@ module _ (m : Limits) (last : Option ℕ) where
     same_bytes = k.same_bytes;
     in_bound = k.in_bound;
     from_before = k.from_before;
-    none_waiting = all_apart_more m waiting n (own_of sights) k.before k.none_waiting k.none_to_come;
+    none_waiting = all_join m waiting (n ∷ []) k.before k.none_waiting (all_first m n.frame (own_of sights) k.before k.none_to_come);
     none_policed = k.none_policed;
     none_to_come = all_rest m n.frame (own_of sights) k.before k.none_to_come;
     to_come = k.to_come;
@@ -219,7 +177,7 @@ module _ (m : Limits) (last : Option ℕ) where
     in_bound = k.in_bound;
     from_before = k.from_before;
     none_waiting = k.none_waiting;
-    none_policed = all_apart_more m policed n (own_of sights) k.before k.none_policed k.none_to_come;
+    none_policed = all_join m policed (n ∷ []) k.before k.none_policed (all_first m n.frame (own_of sights) k.before k.none_to_come);
     none_to_come = all_rest m n.frame (own_of sights) k.before k.none_to_come;
     to_come = k.to_come;
     once = k.once;
@@ -241,8 +199,8 @@ module _ (m : Limits) (last : Option ℕ) where
         in_bound = k.in_bound;
         from_before = k.from_before;
         none_waiting = k.none_waiting;
-        none_policed = all_last m (take g policed) (drop g policed) k.before
-            (subst (λ (ns : List Numbered). AllApart m (frames ns) k.before) (sym (take-append-drop g policed)) k.none_policed);
+        none_policed = (all_parts m (take g policed) (drop g policed) k.before
+            (subst (λ (ns : List Numbered). AllApart m (frames ns) k.before) (sym (take-append-drop g policed)) k.none_policed)).1;
         none_to_come = k.none_to_come;
         to_come = k.to_come;
         once = k.once;
@@ -358,7 +316,8 @@ module _ (m : Limits) (last : Option ℕ) where
       and_from (bytes_eq x.frame.bytes n.frame.bytes && not (is_early m x.frame n.frame)) (nat_le (left_at m n.frame) (x.frame.stamp + most_of m))
       (and_from (bytes_eq x.frame.bytes n.frame.bytes) (not (is_early m x.frame n.frame)) ((bytes_eq-Decides x.frame.bytes n.frame.bytes).1 bytes) (not_from_false (is_early m x.frame n.frame) early))
       (le-leb (left_at m n.frame) (x.frame.stamp + most_of m) most) in
-      let found = found_first (λ (k : Numbered). in_bound m k.frame n.frame) x ws is in
+      let first = first_here (λ (k : Numbered). in_bound m k.frame n.frame) x ws is in
+      let found = placed (λ (k : Numbered). in_bound m k.frame n.frame) (x ∷ ws) 0 first (omega arith) in
       let to : partner (state m (x ∷ ws) policed begun) n.frame ≡ Some 0 =
       ap (λ (o : Option ℕ). option_or o (position (λ (k : Numbered). came_within m 2 k.frame n.frame) (x ∷ ws))) found in
       let rest = follows ws policed true later.1 (record {

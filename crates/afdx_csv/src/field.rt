@@ -16,6 +16,18 @@ pub enum Field<'a> {
     Word(&'a str),
 }
 
+impl Field<'static> {
+    /// Returns a field with a number of 64 bits, where there is one. O(1).
+    pub fn of(number: Option<u64>) -> Field<'static>
+        ensures { result ≡ Field.Number number }
+    {
+        match number {
+            Some(number) => Field::Number(Some(u128::from(number))),
+            None => Field::Number(None),
+        }
+    }
+}
+
 /// Appends a number; nothing where there is none.
 fn put_number<A: Allocator + Copy>(
     text: &mut String<A>,

@@ -1,6 +1,7 @@
 -- The delays of what a port sent for a link (profile).
 use Rattle.std.specs.Prelude.{◌≡◌, ℕ, ◌-◌, ◌≤◌, ◌==◌, min, max, List, [], ◌∷◌, length, map, filter, Option, Some, None, All, Contains, MatchOption}
 use Rattle.std.specs.List.{fold}
+use Rattle.std.specs.Option.{option_map}
 use Rattle.afdx_port.specs.declared.Sent.{Sent}
 use Rattle.afdx_measure.specs.declared.delays.Delays.{Delays}
 use Rattle.afdx_measure.specs.declared.delays.Range.{Range}
@@ -21,6 +22,13 @@ range_of (n ∷ ns) = Some (record { least = fold min n ns; greatest = fold max 
 -- what is reported of them
 abbrev pub summary_of : List ℕ → Delays
 summary_of ns = record { count = length ns; range = range_of ns }
+
+-- the least and the greatest of those of which this is reported
+abbrev pub least_of : Delays → Option ℕ
+least_of d = option_map (λ r. r.least) d.range
+
+abbrev pub greatest_of : Delays → Option ℕ
+greatest_of d = option_map (λ r. r.greatest) d.range
 
 -- ---- the law: they are one of them, and no other is less or greater
 

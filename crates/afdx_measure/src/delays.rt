@@ -1,7 +1,7 @@
 //! The delays of what a port sent.
 
 ghost use Rattle.std.specs.Prelude.{◌≡◌, ℕ, List, [], ◌∷◌, ◌++◌, IfOk};
-ghost use Rattle.afdx_measure.specs.Delays.{delay_of, summary_of};
+ghost use Rattle.afdx_measure.specs.Delays.{delay_of, summary_of, least_of, greatest_of};
 
 use afdx_port::Sent;
 use std::alloc::AllocError;
@@ -21,7 +21,7 @@ pub struct Delays {
 }
 
 impl Range {
-    /// That of one delay.
+    /// Makes that of one delay.
     fn of(delay: u64) -> Range
         ensures { result ≡ record { least = delay; greatest = delay } }
     {
@@ -33,7 +33,7 @@ impl Range {
 }
 
 impl Delays {
-    /// Those of no copies.
+    /// Makes those of no copies.
     pub fn none() -> Delays
         ensures { result ≡ summary_of [] }
     {
@@ -43,7 +43,27 @@ impl Delays {
         }
     }
 
-    /// The same with one copy more, which had this delay.
+    /// Returns the least of them, in nanoseconds, if there is one. O(1).
+    pub fn least(&self) -> Option<u64>
+        ensures { result ≡ least_of self.now }
+    {
+        match self.range {
+            Some(range) => Some(range.least),
+            None => None,
+        }
+    }
+
+    /// Returns the greatest of them, in nanoseconds, if there is one. O(1).
+    pub fn greatest(&self) -> Option<u64>
+        ensures { result ≡ greatest_of self.now }
+    {
+        match self.range {
+            Some(range) => Some(range.greatest),
+            None => None,
+        }
+    }
+
+    /// Adds a copy, which had this delay.
     ///
     /// An error says that there would be more than 2^64 - 1.
     pub fn with(self, delay: u64) -> Result<Delays, AllocError>
@@ -65,7 +85,7 @@ impl Delays {
         })
     }
 
-    /// The same with one copy more, which was sent as this.
+    /// Adds a copy, which was sent as this.
     pub(crate) fn with_sent(self, sent: &Sent) -> Result<Delays, AllocError>
         ensures { (ns : List ℕ) → self ≡ summary_of ns → IfOk result (λ d. d ≡ summary_of (ns ++ delay_of sent.now ∷ [])) }
     {
@@ -73,7 +93,7 @@ impl Delays {
     }
 }
 
-/// The delay of a copy: from the stamp of its frame to the instant from which the line is free again.
+/// Takes the delay of a copy: from the stamp of its frame to the instant from which the line is free again.
 fn delay_of(sent: &Sent) -> u64
     ensures { result ≡ delay_of sent.now }
 {

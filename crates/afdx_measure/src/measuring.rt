@@ -444,15 +444,15 @@ impl<'a, A: Allocator + Copy> Measured<'a, A> {
         self.relayed.into_done()
     }
 
-    /// What was noted at the ports; none where it was not wanted, where memory ran out for it, and where a port has not handed out all that
-    /// it sent. O(ports).
+    /// Returns what was noted at the ports; none where it was not wanted, where memory ran out for it, and where a port has not handed out
+    /// all that it sent. O(ports).
     pub fn into_measures(self) -> Option<Measures<'a, A>>
         ensures { IfSome result (λ measures. measures ≡ self.entry) }
     {
         measures_of(self.relayed, self.gauges)
     }
 
-    /// The same, and what was noted of links' policing. O(ports).
+    /// Returns the same, and what was noted of links' policing. O(ports).
     pub fn into_survey(self) -> Option<Survey<'a, A>>
         ensures { IfSome result (λ survey. survey ≡ self.entry) }
     {
@@ -479,7 +479,7 @@ impl<'a, A: Allocator + Copy> Measures<'a, A> {
         self.relayed.table()
     }
 
-    /// What was noted at a port.
+    /// Finds what was noted at a port.
     fn at(&self, port: u8) -> Option<&AtPort<A>>
         ensures at { MatchOption result (port_row self.now.run.table port ≡ None) (λ at. IsOfPort self.now.run port at.now) }
         ensures all { AllHandedOut self.now.run }
@@ -490,8 +490,8 @@ impl<'a, A: Allocator + Copy> Measures<'a, A> {
         }
     }
 
-    /// The delays of the copies of the link at a place of the table that a port sent; those of none where there is no such port or link.
-    /// O(1).
+    /// Returns the delays of the copies of the link at a place of the table that a port sent; those of none where there is no such port or
+    /// link. O(1).
     pub fn delays_at(&self, link: usize, port: u8) -> Delays
         ensures { (l : Link) → slice_get self.now.run.table.links link ≡ Some l
             → result ≡ summary_of (delays_of l.id (sent_in self.now.run (port_row self.now.run.table port))) }
@@ -502,8 +502,8 @@ impl<'a, A: Allocator + Copy> Measures<'a, A> {
         }
     }
 
-    /// The greatest number of bytes that the buffer of a port held when a frame had been admitted, at the first admission that reached
-    /// it; none where none was admitted, or there is no such port. O(1).
+    /// Returns the greatest number of bytes that the buffer of a port held when a frame had been admitted, at the first admission that
+    /// reached it; none where none was admitted, or there is no such port. O(1).
     pub fn peak_at(&self, port: u8) -> Option<Filling>
         ensures { (p : PortRow) → port_row self.now.run.table port ≡ Some p → result ≡ peak_at self.now.run p }
     {
@@ -512,35 +512,35 @@ impl<'a, A: Allocator + Copy> Measures<'a, A> {
 }
 
 impl<'a, A: Allocator + Copy> Survey<'a, A> {
-    /// What was noted at the ports. O(1).
+    /// Lends what was noted at the ports. O(1).
     pub fn measures(&self) -> &Measures<'a, A>
         ensures { result.now ≡ self.now }
     {
         &self.measures
     }
 
-    /// The spells in which the link at a place of the table was policed, in order. O(1).
+    /// Lends the spells in which the link at a place of the table was policed, in order. O(1).
     pub fn spells_at(&self, place: usize) -> &[Spell]
         ensures { (l : Link) → slice_get self.now.run.table.links place ≡ Some l → result.now ≡ spells_in self.now.run l }
     {
         self.policing.spells_at(place)
     }
 
-    /// How many frames came. O(1).
+    /// Returns how many frames came. O(1).
     pub fn frames(&self) -> usize
         ensures { result ≡ length self.now.run.rows }
     {
         self.policing.span().count()
     }
 
-    /// The stamp of the first of them, if there is one. O(1).
+    /// Returns the stamp of the first of them, if there is one. O(1).
     pub fn first(&self) -> Option<Stamp>
         ensures { result ≡ stamp_at 0 self.now.run.rows }
     {
         self.policing.span().first()
     }
 
-    /// That of the last. O(1).
+    /// Returns that of the last. O(1).
     pub fn last(&self) -> Option<Stamp>
         ensures { result ≡ stamp_at (length self.now.run.rows - 1) self.now.run.rows }
     {

@@ -26,14 +26,14 @@ pub(crate) struct Span {
 }
 
 impl Span {
-    /// How many frames came.
+    /// Returns how many frames came.
     pub(crate) fn count(self) -> usize
         ensures { result ≡ self.count }
     {
         self.count
     }
 
-    /// The stamp of the first.
+    /// Returns the stamp of the first.
     pub(crate) fn first(self) -> Option<Stamp>
         ensures { (r : Run) → EndsAre self.ends r → result ≡ stamp_at 0 r.rows }
     {
@@ -43,7 +43,7 @@ impl Span {
         }
     }
 
-    /// The stamp of the last.
+    /// Returns the stamp of the last.
     pub(crate) fn last(self) -> Option<Stamp>
         ensures { (r : Run) → EndsAre self.ends r → result ≡ stamp_at (length r.rows - 1) r.rows }
     {
@@ -53,7 +53,7 @@ impl Span {
         }
     }
 
-    /// The same with one frame more, which came after so many others.
+    /// Adds a frame, which came after so many others.
     ///
     /// An error says that there would be more than 2^64 - 1.
     fn with(self, number: usize, at: Stamp) -> Result<Span, AllocError>
@@ -81,7 +81,7 @@ pub(crate) struct Policing<A: Allocator> {
     span: Span,
 }
 
-/// The spells of a table's links, in its order, none so far.
+/// Makes lists for the spells of a table's links, in its order, none of which has any so far.
 fn fresh_spells<A: Allocator + Copy>(
     alloc: A,
     table: &Table,
@@ -112,7 +112,7 @@ fn note_at<A: Allocator + Copy>(
 }
 
 impl<A: Allocator + Copy> Policing<A> {
-    /// Of a run that has taken nothing.
+    /// Makes that of a run that has taken nothing.
     ///
     /// An error says that memory ran out. O(links).
     pub(crate) fn new(alloc: A, table: &Table) -> Result<Policing<A>, AllocError>
@@ -155,14 +155,14 @@ impl<A: Allocator + Copy> Policing<A> {
         }
     }
 
-    /// How many frames came, and when.
+    /// Returns how many frames came, and when.
     pub(crate) fn span(&self) -> Span
         ensures { result ≡ self.now.span }
     {
         self.span
     }
 
-    /// The spells of the link at a place.
+    /// Lends the spells of the link at a place.
     pub(crate) fn spells_at(&self, place: usize) -> &[Spell]
         ensures { (r : Run) (l : Link) → IsPoliced r self.now → slice_get r.table.links place ≡ Some l → result.now ≡ spells_in r l }
     {

@@ -1,7 +1,7 @@
 -- What the calls answer, as contracts see it.
-use Rattle.std.proofs.Common.{◌≡◌, ℕ, ◌<◌, ◌≤◌, ◌||◌, ◌==◌, nat_lt, Bool, true, false, cond, List, [], ◌∷◌, map, length, set, get_or, Some, None, Ok, Err, refl, ap}
+use Rattle.std.proofs.Common.{◌≡◌, ℕ, ◌<◌, ◌≤◌, ◌||◌, ◌==◌, nat_lt, Bool, true, false, cond, List, [], ◌∷◌, map, length, set, get_or, Some, None, refl, ap}
 use Rattle.std.proofs.Common.{sym, ◌∙◌, subst}
-use Rattle.std.specs.Prelude.{find, position, Result, IfErr, IsErr, IsErrAnd}
+use Rattle.std.specs.Prelude.{find, position}
 use Rattle.std.proofs.lemmas.Bool.{ltb-false}
 use Rattle.std.proofs.lemmas.Option.{same_Some, slice_get-get_or, slice_get_within}
 use Rattle.afdx_pcap.specs.Record.{Record}
@@ -9,6 +9,7 @@ use Rattle.afdx_pcap.specs.Fault.{last_stamp}
 use Rattle.afdx_table.specs.declared.rows.PortRow.{PortRow}
 use Rattle.afdx_table.specs.Content.{Content}
 use Rattle.afdx_core.specs.State.{State, fresh_state}
+use Rattle.afdx_session.proofs.Places.{position_at, position_none}
 use Rattle.afdx_paced.specs.declared.paced.PacedFault.TheVariants.{NoSuchPort, Early}
 use Rattle.afdx_paced.specs.Paced.{Lane, Paced, fresh_lane, fresh_paced, early_at, refusal_by, put_refusal, after_put, after_going, after_leaving}
 use Rattle.afdx_paced.specs.Inner.Parts.{Parts, lane_of, lanes_of, joined, departed}
@@ -16,7 +17,7 @@ use Rattle.afdx_paced.specs.Inner.Kept.{paced_of, IsOfTable, IsSameTable, ComesT
 use Rattle.afdx_paced.specs.declared.feeder.Feeder.{Feeder}
 use Rattle.afdx_paced.proofs.Lists.{all_at}
 use Rattle.afdx_paced.proofs.Fresh.{fresh_all}
-use Rattle.afdx_paced.proofs.Places.{is_of, IsPlaceOf, position_at, position_none, place_of_port, no_such_lane}
+use Rattle.afdx_paced.proofs.Places.{is_of, IsPlaceOf, place_of_port, no_such_lane}
 use Rattle.afdx_paced.proofs.Putting.{lanes_more}
 use Rattle.afdx_paced.proofs.Handing.{lanes_left}
 
@@ -109,9 +110,3 @@ gone_seen old new since failed h v view going same comes =
     ∙ ap (λ (ls : List Lane). made old.switch.run.table old.switch.keeps ls false) comes.lanes
     ∙ ap (made old.switch.run.table old.switch.keeps (lanes_of old.lanes.items)) (sym (going_is old since failed v view going))
     ∙ ap (after_going h) view
-
--- ---- where memory ran out
-
-pub of_error : {T E : Type 0} (P : E → Type 0) (r : Result T E) (e : E) → IsErr r × IsErrAnd r (λ x. x ≡ e) → P e → IfErr r P
-of_error P (Ok x) e is holds = absurd is.1
-of_error P (Err x) e is holds = subst P (sym is.1) holds

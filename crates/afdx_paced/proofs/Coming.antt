@@ -13,6 +13,7 @@ use Rattle.afdx_core.specs.Inner.Merge.{ByStampIsOrdered}
 use Rattle.afdx_count.specs.Run.{counts_so_far}
 use Rattle.afdx_session.specs.Output.{rows_of}
 use Rattle.afdx_session.specs.Inner.Settled.{IsGiven, IsAt}
+use Rattle.afdx_session.proofs.Drawing.{comes}
 use Rattle.afdx_paced.specs.Paced.{Lane, Paced, captures_of, out_up_to}
 use Rattle.afdx_paced.specs.Laws.{MergesAreCut, OutGoesOn}
 use Rattle.afdx_paced.specs.Inner.Parts.{Parts, lane_of, lanes_of, waiting_of}
@@ -21,7 +22,6 @@ use Rattle.afdx_paced.specs.declared.feeder.Feeder.{Feeder}
 use Rattle.afdx_paced.proofs.Puts.{AllFrom, out_by}
 use Rattle.afdx_paced.proofs.Lists.{all_weaker, same_starts}
 use Rattle.afdx_paced.proofs.Cutting.{parted_whole, given_before, waits_from, cut_parted}
-use Rattle.afdx_paced.proofs.Given.{comes}
 
 -- ---- a call begins
 

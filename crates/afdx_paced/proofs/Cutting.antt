@@ -6,12 +6,14 @@ use Rattle.std.proofs.lemmas.List.{map-append, append-nil}
 use Rattle.afdx_pcap.specs.Record.{Record}
 use Rattle.afdx_core.specs.Merge.{Arrival, arrivals_of, by_stamp, merged}
 use Rattle.afdx_core.specs.Inner.Merge.{ByStampIsOrdered}
+use Rattle.afdx_session.proofs.Settling.{arrived, all_arrived}
+use Rattle.afdx_session.proofs.Numbered.{all_append}
+use Rattle.afdx_session.proofs.Joining.{by_stamp_every}
 use Rattle.afdx_paced.specs.Paced.{captures_of}
 use Rattle.afdx_paced.specs.Laws.{from, below, MergesAreCut}
 use Rattle.afdx_paced.specs.Inner.Parts.{Parts, lanes_of, gone_of, waiting_of}
 use Rattle.afdx_paced.specs.Inner.Kept.{IsCut, given_of}
-use Rattle.afdx_paced.proofs.Puts.{AllFrom, arrived, below-append}
-use Rattle.afdx_paced.proofs.Lists.{all_append, all_arrived, by_stamp_every}
+use Rattle.afdx_paced.proofs.Puts.{AllFrom, below-append}
 
 from-append : (h : ℕ) (xs ys : List Arrival) → from h (xs ++ ys) ≡ from h xs ++ from h ys
 from-append h [] ys = refl

@@ -12,12 +12,12 @@ use Rattle.afdx_count.specs.Tally.{Tally, ended_tally}
 use Rattle.afdx_count.specs.Run.{counts_so_far, counts_of}
 use Rattle.afdx_count.specs.Inner.Laws.{EndCountsTheRun}
 use Rattle.afdx_session.specs.Output.{rows_of}
+use Rattle.afdx_session.proofs.Settling.{all_back}
 use Rattle.afdx_paced.specs.Paced.{Lane, Paced, captures_of, arrivals, HasTakenAll}
 use Rattle.afdx_paced.specs.Laws.{MergesAreCut}
 use Rattle.afdx_paced.specs.Inner.Parts.{Parts, lanes_of, waiting_of}
 use Rattle.afdx_paced.specs.Inner.Kept.{paced_of, IsOfTable, IsSameTable, ComesTo, IsCut, given_of, IsGoing}
 use Rattle.afdx_paced.specs.declared.feeder.Feeder.{Feeder}
-use Rattle.afdx_paced.proofs.Lists.{all_back}
 use Rattle.afdx_paced.proofs.Cutting.{parted_whole, cut_parted}
 
 -- no record comes as late as the last instant

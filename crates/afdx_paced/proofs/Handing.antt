@@ -1,5 +1,5 @@
 -- A record leaves.
-use Rattle.std.proofs.Common.{◌≡◌, ℕ, zero, suc, ◌+◌, ◌<◌, ◌≤◌, ◌==◌, Bool, true, false, cond, nat_lt, List, [], ◌∷◌, ◌++◌, map, length, set, slice_get, slice_index, Option, Some, None}
+use Rattle.std.proofs.Common.{◌≡◌, ℕ, zero, suc, ◌+◌, ◌<◌, ◌≤◌, ◌==◌, false, cond, nat_lt, List, [], ◌∷◌, ◌++◌, map, length, set, slice_get, slice_index, Option, Some, None}
 use Rattle.std.proofs.Common.{refl, ap, sym, ◌∙◌, arith, inl, inr, subst}
 use Rattle.std.proofs.Common.{append_assoc, get_or-set_same, get_or-set_other}
 use Rattle.std.specs.Option.{option_map}
@@ -11,41 +11,33 @@ use Rattle.afdx_pcap.specs.Record.{Record}
 use Rattle.afdx_table.specs.declared.rows.PortRow.{PortRow}
 use Rattle.afdx_table.specs.Content.{Content}
 use Rattle.afdx_port.specs.declared.Sent.{Sent}
-use Rattle.afdx_port.specs.Service.{sent_of}
-use Rattle.afdx_port.specs.Content.{done}
-use Rattle.afdx_core.specs.declared.step.Row.{Row}
-use Rattle.afdx_core.specs.State.{Run, State, port_after, sent_in, place_of, next_by, out_of}
+use Rattle.afdx_core.specs.State.{Run, State, sent_in, place_of, next_by, out_of}
 use Rattle.afdx_core.specs.Held.{IsHanded}
 use Rattle.afdx_core.specs.Merge.{Arrival, merged}
 use Rattle.afdx_core.specs.Inner.Merge.{ByStampIsOrdered}
 use Rattle.afdx_count.specs.Run.{counts_so_far}
 use Rattle.afdx_session.specs.Output.{rows_of, bytes_at, written}
-use Rattle.afdx_session.specs.Streams.{sent_up_to, LaterArrivalsChangeNothing}
+use Rattle.afdx_session.specs.Streams.{LaterArrivalsChangeNothing}
 use Rattle.afdx_session.specs.Inner.Replay.{HasBytesOf}
 use Rattle.afdx_session.specs.Inner.Settled.{IsGiven, IsAt}
+use Rattle.afdx_session.proofs.Showing.{sent_is}
+use Rattle.afdx_session.proofs.Numbered.{set_same, set_here}
+use Rattle.afdx_session.proofs.Going.{get-set}
+use Rattle.afdx_session.proofs.Replaying.{bytes_stay}
 use Rattle.afdx_paced.specs.Paced.{Paced, capture_of, captures_of, out_up_to, changed, went_out}
 use Rattle.afdx_paced.specs.Laws.{MergesAreCut}
 use Rattle.afdx_paced.specs.Inner.Parts.{Parts, lane_of, lanes_of, gone_of, waiting_of, departed}
 use Rattle.afdx_paced.specs.Inner.Kept.{paced_of, IsOfTable, IsCut, given_of, HasLeft, HaveLeft, IsGoing}
 use Rattle.afdx_paced.specs.declared.feeder.Feeder.{Feeder}
 use Rattle.afdx_paced.proofs.Puts.{out_by, out_without}
-use Rattle.afdx_paced.proofs.Lists.{all_weaker, all_set, all_at, set_same, set_here, get_set}
+use Rattle.afdx_paced.proofs.Lists.{all_weaker, all_set, all_at}
 use Rattle.afdx_paced.proofs.Cutting.{parted_whole, waits_from, cut_parted}
 use Rattle.afdx_port.specs.Inner.Course.{SentIsOfItems}
-use Rattle.afdx_paced.proofs.Given.{bytes_stay, long_rows}
+use Rattle.afdx_paced.proofs.Passing.{long_rows}
 use Rattle.afdx_paced.proofs.Numbered.{sent_numbered}
 use Rattle.afdx_paced.proofs.Places.{IsPlaceOf}
 
 -- ---- what the switch sent
-
--- what an open switch sent is what is sent up to the instant that it came to
-pub sent_is : (t : Content) (given : List Arrival) (h : ℕ) (s : State) (p : PortRow) → IsAt t given h s → sent_in s.run (Some p) ≡ sent_up_to t given (Some h) p
-unfolding sent_up_to
-sent_is t given h s p at =
-    ap (λ (c : Content). sent_of (done (port_after c s.run.rows s.run.latest s.run.finished p))) at.is_given.table
-    ∙ ap (λ (rows : List Row). sent_of (done (port_after t rows s.run.latest s.run.finished p))) at.is_given.rows
-    ∙ ap (λ n. sent_of (done (port_after t (rows_of t given) n s.run.finished p))) at.latest
-    ∙ ap (λ b. sent_of (done (port_after t (rows_of t given) h b p))) at.is_given.still_open
 
 -- so is what leaves up to there of all that came in
 pub out_is : {Z : Type 0} → LaterArrivalsChangeNothing → MergesAreCut → ByStampIsOrdered → (h : ℕ) (f : Feeder Z) (p : PortRow) → IsGoing h f
@@ -80,10 +72,6 @@ written_out arrivals now out s has within is =
     written_is arrivals s found.0.bytes (has s.item.number found.0 within found.1) ∙ sym found.2
 
 -- ---- the place of what is handed out
-
-passed_within : (b : Bool) (n most k : ℕ) → nat_lt n most ≡ b → cond b (Some n) None ≡ Some k → n ≡ k
-passed_within true n most k lt is = same_Some n k is
-passed_within false n most k lt is = absurd cc
 
 -- the switch knows the port's place as the lanes do
 pub same_place : (r : Run) (lanes : List Parts) (port place : ℕ) → IsPlaceOf r.table.ports lanes port place → place_of r port ≡ Some place
@@ -273,7 +261,7 @@ leaves {Z} h old new port place frame s is of going handed out counts lanes = re
             same_Some (departed frame is.lane) l (sym (set_here old.lanes.items place is.lane (departed frame is.lane) is.at)
             ∙ ap (slice_get (set old.lanes.items place (departed frame is.lane))) (sym same) ∙ now) in
             subst (λ (m : Parts). HasLeft h new k p m) lane (subst (λ n. HasLeft h new n p (departed frame is.lane)) (sym same) (here p (ap (slice_get t.ports) (sym same) ∙ is_row)))
-        | inr other ↦ elim (get_set old.lanes.items place k is.lane (departed frame is.lane) l is.at now) [
+        | inr other ↦ elim (get-set old.lanes.items place k is.lane (departed frame is.lane) l is.at now) [
           | inl same ↦ absurd (other same.0)
           | inr was ↦ there k p l other is_row was
         ]

@@ -27,10 +27,10 @@ use Rattle.afdx_core.specs.Inner.Agreement.{VerdictsNameLinks}
 use Rattle.afdx_core.specs.Merge.{Arrival}
 use Rattle.afdx_session.specs.Output.{rows_of, written}
 use Rattle.afdx_session.specs.Streams.{sent_up_to}
+use Rattle.afdx_session.proofs.Numbered.{all_append, all_cond, admit_all_of}
 use Rattle.afdx_paced.specs.Paced.{arrivals}
 use Rattle.afdx_paced.specs.Laws.{NothingEndsBefore, NothingLeavesBefore}
-use Rattle.afdx_paced.proofs.Lists.{all_append}
-use Rattle.afdx_paced.proofs.Numbered.{all_cond, admitted_of, each_at}
+use Rattle.afdx_paced.proofs.Numbered.{each_at}
 
 -- ---- lists
 
@@ -97,7 +97,7 @@ module _ (ends : NothingEndsBefore) (have_link : CleanFramesHaveALink) (verdicts
       let whole : All (λ (y : Sent). Contains items y.item) (sent_of (service s 0 items)) = of_items (record { settings = s; admitted = items; horizon = 0; finished = true }) in
       let among : Contains items x.item = each_at (λ (y : Sent). Contains items y.item) (sent_of (service s 0 items)) k x whole is in
       let sized = All-contains IsSized items x.item (All-from_recursion IsSized items
-      (admitted_of IsSized s [] (feed_of t p.id (rows_of t came)) tt (whole_feed_sized have_link verdicts t p.id came))) among in
+      (admit_all_of IsSized s [] (feed_of t p.id (rows_of t came)) tt (whole_feed_sized have_link verdicts t p.id came))) among in
       let cost = cost_grows p.speed x.item.size sized in
       omega (arith, late, cost)
 

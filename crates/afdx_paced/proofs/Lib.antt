@@ -9,7 +9,6 @@ pub mod Leaves
 pub mod Cutting
 pub mod Heads
 pub mod Goes
-pub mod Given
 pub mod Passing
 pub mod Steps
 pub mod Coming

@@ -1,5 +1,5 @@
 -- What a port sends came with an arrival: the numbers of its frames are below that of the arrivals.
-use Rattle.std.proofs.Common.{◌≡◌, ℕ, ◌+◌, ◌<◌, ◌≤◌, Bool, true, false, cond, List, [], ◌∷◌, ◌++◌, length, slice_get, Option, Some, None, arith, subst}
+use Rattle.std.proofs.Common.{◌≡◌, ℕ, ◌+◌, ◌<◌, ◌≤◌, List, [], ◌∷◌, ◌++◌, length, slice_get, Option, Some, None, arith, subst}
 use Rattle.std.specs.Prelude.{All, Contains}
 use Rattle.std.specs.List.{AllByRecursion}
 use Rattle.std.proofs.lemmas.List.{length_push}
@@ -8,27 +8,15 @@ use Rattle.std.proofs.lemmas.Option.{slice_get_within, get_or_from_slice_get}
 use Rattle.afdx_table.specs.declared.rows.PortRow.{PortRow}
 use Rattle.afdx_table.specs.Link.{Link}
 use Rattle.afdx_table.specs.Content.{Content}
-use Rattle.afdx_port.specs.declared.Settings.{Settings}
 use Rattle.afdx_port.specs.declared.Item.{Item}
 use Rattle.afdx_port.specs.declared.Sent.{Sent}
 use Rattle.afdx_port.specs.Service.{sent_of}
-use Rattle.afdx_port.specs.Admission.{fits, admit, admit_all}
 use Rattle.afdx_port.specs.Content.{done}
 use Rattle.afdx_port.specs.Inner.Course.{SentIsOfItems}
 use Rattle.afdx_core.specs.declared.step.Row.{Row}
 use Rattle.afdx_core.specs.Rows.{named, copy_of, copies_by, copies, each_after, feed_of}
 use Rattle.afdx_core.specs.State.{Run, port_in, sent_in}
-use Rattle.afdx_paced.proofs.Lists.{all_append}
-
-pub all_cond : {X : Type 0} (P : X → Type 0) (b : Bool) (xs ys : List X) → AllByRecursion P xs → AllByRecursion P ys → AllByRecursion P (cond b xs ys)
-all_cond P true xs ys all more = all
-all_cond P false xs ys all more = more
-
--- what holds of each item that is offered holds of each that is admitted
-pub admitted_of : (P : Item → Type 0) (s : Settings) (earlier feed : List Item) → AllByRecursion P earlier → AllByRecursion P feed → AllByRecursion P (admit_all s earlier feed)
-admitted_of P s earlier [] all more = all
-admitted_of P s earlier (x ∷ feed) all more =
-    admitted_of P s (admit s earlier x) feed (all_cond P (fits s earlier x) (earlier ++ x ∷ []) earlier (all_append P earlier (x ∷ []) all (more.0, tt)) all) more.1
+use Rattle.afdx_session.proofs.Numbered.{all_cond, admit_all_of, all_append}
 
 -- what holds at each place
 pub each_at : {X : Type 0} (P : X → Type 0) (xs : List X) (k : ℕ) (x : X) → All P xs → slice_get xs k ≡ Some x → P x
@@ -55,6 +43,6 @@ feed_numbered t port rows = copies_numbered (length rows) t port [] rows (omega 
 pub sent_numbered : SentIsOfItems → (r : Run) (p : PortRow) (k : ℕ) (x : Sent) → slice_get (sent_in r (Some p)) k ≡ Some x → x.item.number < length r.rows
 sent_numbered of_items r p k x at =
     let c = port_in r p in
-    let items = admitted_of (Below (length r.rows)) c.settings [] (feed_of r.table p.id r.rows) tt (feed_numbered r.table p.id r.rows) in
+    let items = admit_all_of (Below (length r.rows)) c.settings [] (feed_of r.table p.id r.rows) tt (feed_numbered r.table p.id r.rows) in
     All-contains (Below (length r.rows)) c.admitted x.item (All-from_recursion (Below (length r.rows)) c.admitted items)
     (each_at (λ (s : Sent). Contains c.admitted s.item) (sent_of (done c)) k x (of_items c) at)

@@ -1,11 +1,10 @@
 -- A record goes from its lane to the switch.
 use Rattle.std.proofs.Common.{◌≡◌, ℕ, ◌<◌, ◌≤◌, ◌^◌, true, false, List, [], ◌∷◌, ◌++◌, map, length, set, get_or, slice_get, Option, Some, None, refl, ap, sym, ◌∙◌}
 use Rattle.std.proofs.Common.{arith, subst, append_assoc}
-use Rattle.std.specs.Prelude.{is_none, find, ◌==◌}
+use Rattle.std.specs.Prelude.{is_none}
 use Rattle.std.specs.Option.{option_map}
 use Rattle.std.specs.List.{AllByRecursion}
-use Rattle.std.proofs.lemmas.Bool.{le-ltb, cases_Bool, eq-eqb}
-use Rattle.std.proofs.Common.{inl, inr}
+use Rattle.std.proofs.lemmas.Bool.{le-ltb}
 use Rattle.std.proofs.lemmas.List.{map-set, length-append, length-map}
 use Rattle.std.proofs.lemmas.Option.{slice_get-map, slice_get-get_or, same_Some}
 use Rattle.afdx_units.specs.Time.{last_second}
@@ -18,7 +17,7 @@ use Rattle.afdx_table.specs.WellFormed.{IsWellFormed, Rises as PortsRise}
 use Rattle.afdx_core.specs.declared.step.Row.{Row}
 use Rattle.afdx_core.specs.Step.{Step}
 use Rattle.afdx_core.specs.Rows.{row_of}
-use Rattle.afdx_core.specs.State.{Run, refusal_of, step_of}
+use Rattle.afdx_core.specs.State.{Run, State, refusal_of, step_of}
 use Rattle.afdx_core.specs.Held.{IsTaken}
 use Rattle.afdx_core.specs.Merge.{Arrival, Capture, Rises, arrivals_of, merged}
 use Rattle.afdx_core.specs.Inner.Merge.{AreInOrder, ByStampIsOrdered}
@@ -27,15 +26,18 @@ use Rattle.afdx_count.specs.Run.{counts_so_far}
 use Rattle.afdx_count.specs.Inner.Laws.{NoteCountsOneMore}
 use Rattle.afdx_session.specs.Output.{rows_of}
 use Rattle.afdx_session.specs.Inner.Settled.{Ascend, ports_of, AllRise, IsGiven, SettledRecordsGo}
+use Rattle.afdx_session.proofs.Gathering.{Known, all_known}
+use Rattle.afdx_session.proofs.Numbered.{all_append, set_same}
+use Rattle.afdx_session.proofs.Settling.{all_back}
+use Rattle.afdx_session.proofs.Drawing.{gives}
 use Rattle.afdx_paced.specs.Paced.{Lane, captures_of}
 use Rattle.afdx_paced.specs.Inner.Parts.{Parts, lanes_of, lane_of, waiting_of, head_of, heads_of, taken, Takes}
 use Rattle.afdx_paced.specs.Inner.Kept.{IsOfTable, IsSameTable, IsSorted, IsPassing, PassesOn}
 use Rattle.afdx_paced.specs.declared.feeder.Feeder.{Feeder}
 use Rattle.afdx_paced.proofs.Puts.{AllFrom}
-use Rattle.afdx_paced.proofs.Lists.{all_append, all_back, all_weaker, all_set, all_at, set_same}
+use Rattle.afdx_paced.proofs.Lists.{all_weaker, all_set, all_at}
 use Rattle.afdx_paced.proofs.Heads.{first_comes}
 use Rattle.afdx_paced.proofs.Goes.{first_goes}
-use Rattle.afdx_paced.proofs.Given.{long_rows, gives}
 
 -- ---- the ports
 
@@ -99,27 +101,11 @@ frames-from : (n : ℕ) (arrivals : List Arrival) → AllByRecursion (λ (r : Re
 frames-from n [] all = tt
 frames-from n (a ∷ arrivals) all = (all.0, frames-from n arrivals all.1)
 
+-- as many rows as arrivals were given
+pub long_rows : (t : Content) (given : List Arrival) (s : State) → IsGiven t given s → length s.run.rows ≡ length given
+long_rows t given s is = ap length is.rows ∙ length-map given (λ (b : Arrival). row_of t b.port b.frame)
+
 -- ---- its port is the table's
-
-abbrev Known : List PortRow → ℕ → Type 0
-Known ports n = is_none (find (λ (p : PortRow). p.id == n) ports) ≡ false
-
-known_here : (p : PortRow) (ports : List PortRow) → Known (p ∷ ports) p.id
-known_here p ports = rw (eq-eqb p.id p.id refl) refl
-
-known_later : (p : PortRow) (ports : List PortRow) (n : ℕ) → Known ports n → Known (p ∷ ports) n
-known_later p ports n known = elim (cases_Bool (p.id == n)) [
-  | inl here ↦ rw here refl
-  | inr other ↦ rw other known
-]
-
-all_later : (p : PortRow) (ports : List PortRow) (ns : List ℕ) → AllByRecursion (Known ports) ns → AllByRecursion (Known (p ∷ ports)) ns
-all_later p ports [] all = tt
-all_later p ports (n ∷ ns) all = (known_later p ports n all.0, all_later p ports ns all.1)
-
-all_known : (ports : List PortRow) → AllByRecursion (Known ports) (map (λ (p : PortRow). p.id) ports)
-all_known [] = tt
-all_known (p ∷ ports) = (known_here p ports, all_later p ports (map (λ (q : PortRow). q.id) ports) (all_known ports))
 
 known : {Z : Type 0} (f : Feeder Z) (k : ℕ) (l : Parts) → IsOfTable f → slice_get f.lanes.items k ≡ Some l → is_none (port_row f.switch.run.table l.port) ≡ false
 known f k l of at =

@@ -1,35 +1,11 @@
 -- A port's place: that of its lane and of its row.
-use Rattle.std.proofs.Common.{◌≡◌, ℕ, zero, suc, ◌+◌, ◌<◌, ◌≤◌, ◌==◌, nat_lt, Bool, true, false, cond, not, List, [], ◌∷◌, map, length, set, slice_get, Option, Some, None, refl, ap, sym, ◌∙◌}
+use Rattle.std.proofs.Common.{◌≡◌, ℕ, zero, suc, ◌+◌, ◌<◌, ◌≤◌, ◌==◌, Bool, true, false, cond, not, List, [], ◌∷◌, map, length, set, slice_get, Some, None, refl, ap, sym, ◌∙◌}
 use Rattle.std.proofs.Common.{get_or, drop, arith, subst}
 use Rattle.std.specs.Prelude.{find}
-use Rattle.std.specs.List.{position, position_or_len}
-use Rattle.std.proofs.lemmas.Bool.{ltb-true, ltb-false}
-use Rattle.std.proofs.lemmas.Option.{same_Some}
+use Rattle.std.specs.List.{position_or_len}
 use Rattle.afdx_table.specs.declared.rows.PortRow.{PortRow}
 use Rattle.afdx_paced.specs.Paced.{Lane, changed}
 use Rattle.afdx_paced.specs.Inner.Parts.{Parts, lane_of, lanes_of}
-
--- ---- positions
-
-abbrev found_by : Bool → ℕ → Option ℕ
-found_by b n = cond b (Some n) None
-
-place_is : (b : Bool) (n k : ℕ) → found_by b n ≡ Some k → (b ≡ true) × (n ≡ k)
-place_is true n k is = (refl, same_Some n k is)
-place_is false n k is = absurd cc
-
-no_place : (b : Bool) (n : ℕ) → found_by b n ≡ None → b ≡ false
-no_place true n is = absurd cc
-no_place false n is = refl
-
-pub position_at : {X : Type 0} (test : X → Bool) (xs : List X) (k : ℕ) → position test xs ≡ Some k → (position_or_len test xs ≡ k) × (k < length xs)
-position_at test xs k is =
-    let both = place_is (nat_lt (position_or_len test xs) (length xs)) (position_or_len test xs) k is in
-    let lt = ltb-true (position_or_len test xs) (length xs) both.0 in
-    (both.1, subst (λ n. n < length xs) both.1 lt)
-
-pub position_none : {X : Type 0} (test : X → Bool) (xs : List X) → position test xs ≡ None → length xs ≤ position_or_len test xs
-position_none test xs is = ltb-false (position_or_len test xs) (length xs) (no_place (nat_lt (position_or_len test xs) (length xs)) (position_or_len test xs) is)
 
 -- ---- what is there
 

@@ -9,6 +9,7 @@ use Rattle.afdx_table.specs.Content.{Content}
 use Rattle.afdx_core.specs.Merge.{Arrival, arrivals_of, by_stamp}
 use Rattle.afdx_session.specs.Output.{written}
 use Rattle.afdx_session.specs.Streams.{sent_up_to, LaterArrivalsChangeNothing}
+use Rattle.afdx_session.proofs.Settling.{arrived}
 use Rattle.afdx_paced.specs.Paced.{Lane, Paced, captures_of, arrivals, out_up_to, changed, came_in, after_put}
 use Rattle.afdx_paced.specs.Laws.{from, below, MergesAreCut, LaterRecordsChangeNothing}
 use Rattle.afdx_paced.proofs.Cut.{all_high}
@@ -40,9 +41,6 @@ below-append h (a ∷ xs) ys = elim (cases_Bool (nat_le h a.frame.stamp)) [
   | inl late ↦ rw late (below-append h xs ys)
   | inr early ↦ rw early (ap (λ (rest : List Arrival). a ∷ rest) (below-append h xs ys))
 ]
-
-abbrev pub arrived : ℕ → List Record → List Arrival
-arrived port rs = map (λ (r : Record). record { port = port; frame = r }) rs
 
 -- it lies at the instant or later
 one_later : (h port : ℕ) (frame : Record) → h ≤ frame.stamp → below h (arrived port (frame ∷ [])) ≡ []

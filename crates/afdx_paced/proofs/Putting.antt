@@ -15,12 +15,14 @@ use Rattle.afdx_core.specs.State.{State}
 use Rattle.afdx_count.specs.Run.{counts_so_far}
 use Rattle.afdx_session.specs.Output.{rows_of}
 use Rattle.afdx_session.specs.Inner.Settled.{IsGiven}
+use Rattle.afdx_session.proofs.Numbered.{all_append, set_same}
+use Rattle.afdx_session.proofs.Going.{get-set}
 use Rattle.afdx_paced.specs.Paced.{Lane, Paced, out_up_to, changed, came_in}
 use Rattle.afdx_paced.specs.Laws.{LaterRecordsChangeNothing}
 use Rattle.afdx_paced.specs.Inner.Parts.{Parts, lane_of, lanes_of, gone_of, joined}
 use Rattle.afdx_paced.specs.Inner.Kept.{paced_of, IsOfTable, IsSorted, IsCut, given_of, HasLeft, HaveLeft, IsGoing}
 use Rattle.afdx_paced.specs.declared.feeder.Feeder.{Feeder}
-use Rattle.afdx_paced.proofs.Lists.{all_append, all_set, all_at, set_same, get_set}
+use Rattle.afdx_paced.proofs.Lists.{all_set, all_at}
 use Rattle.afdx_paced.proofs.Places.{IsPlaceOf}
 
 -- ---- one more record behind others
@@ -132,7 +134,7 @@ puts {Z} law h old new port place frame is early here le switch counts lanes goi
   left : HaveLeft h new
   left k p l is_port is_lane =
       let is_row = ap (λ (s : State). slice_get s.run.table.ports k) (sym switch) ∙ is_port in
-      elim (get_set old.lanes.items place k is.lane (joined frame is.lane) l is.at (ap (λ (ls : List Parts). slice_get ls k) (sym lanes) ∙ is_lane)) [
+      elim (get-set old.lanes.items place k is.lane (joined frame is.lane) l is.at (ap (λ (ls : List Parts). slice_get ls k) (sym lanes) ∙ is_lane)) [
         | inl same ↦ at_place k p l is.lane is_row (ap (slice_get old.lanes.items) same.0 ∙ is.at) (ap (λ (x : Parts). x.left) (sym same.1))
         | inr other ↦ at_place k p l l is_row other refl
       ]

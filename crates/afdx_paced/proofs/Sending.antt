@@ -15,6 +15,7 @@ use Rattle.afdx_core.specs.Merge.{Arrival, arrivals_of, by_stamp, merged}
 use Rattle.afdx_core.specs.Inner.Merge.{ByStampIsOrdered}
 use Rattle.afdx_session.specs.Streams.{sent_up_to, LaterArrivalsChangeNothing}
 use Rattle.afdx_session.specs.Inner.Settled.{IsAt}
+use Rattle.afdx_session.proofs.Showing.{sent_is}
 use Rattle.afdx_paced.specs.Paced.{Lane, Paced, arrivals, captures_of, sends_up_to, lane_at, after_put, IsNextSent}
 use Rattle.afdx_paced.specs.Laws.{from, below, MergesAreCut, LaterRecordsSendNothing, SendsGoOn}
 use Rattle.afdx_paced.specs.Inner.Parts.{Parts, lane_of, lanes_of, waiting_of}
@@ -26,7 +27,7 @@ use Rattle.afdx_paced.proofs.Cutting.{parted_whole, waits_from, cut_parted}
 use Rattle.afdx_paced.proofs.Places.{is_of, IsPlaceOf, place_of_port, no_such_lane}
 use Rattle.afdx_paced.proofs.Puts.{same_below}
 use Rattle.afdx_paced.proofs.Growing.{sent_until, sent_in_the_end}
-use Rattle.afdx_paced.proofs.Handing.{sent_is, same_place}
+use Rattle.afdx_paced.proofs.Handing.{same_place}
 
 -- ---- the laws
 

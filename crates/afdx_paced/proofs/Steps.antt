@@ -1,6 +1,5 @@
 -- Records go to the switch, one after the other.
 use Rattle.std.proofs.Common.{◌≡◌, ℕ, suc, ◌≤◌, true, false, List, [], ◌∷◌, Option, Some, refl, ◌∙◌, arith, subst}
-use Rattle.std.specs.Prelude.{Result, Ok, Err, is_err, OnOk, IfErr}
 use Rattle.std.specs.List.{AllByRecursion}
 use Rattle.afdx_pcap.specs.Record.{Record}
 use Rattle.afdx_core.specs.State.{State}
@@ -69,12 +68,3 @@ waits_by until (l ∷ lanes) rise none = (
 pub none_before : {Z : Type 0} (until : ℕ) (f : Feeder Z) (heads : List (Option ℕ)) → IsPassing until f → heads ≡ heads_of f.lanes.items → NoneBefore until heads → PassesOn until false f f
 none_before until f heads passing are none =
     stays until f passing (waits_by until f.lanes.items (waiting_rise f.lanes.items passing.sorted) (subst (NoneBefore until) are none))
-
--- what a call's answer says
-pub ok_reported : {T E : Type 0} (r : Result T E) (P : Type 0) → is_err r ≡ false → OnOk r P → P
-ok_reported (Ok x) P reported holds = holds
-ok_reported (Err e) P reported holds = absurd cc
-
-pub err_reported : {T E : Type 0} (r : Result T E) (P : E → Type 0) (Q : Type 0) → is_err r ≡ true → IfErr r P → ((e : E) → P e → Q) → Q
-err_reported (Ok x) P Q reported holds use_it = absurd cc
-err_reported (Err e) P Q reported holds use_it = use_it e holds

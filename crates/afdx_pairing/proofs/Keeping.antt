@@ -20,10 +20,10 @@ use Rattle.afdx_pairing.specs.Limits.{left_at, most_of, is_early, is_late, in_bo
 use Rattle.afdx_pairing.specs.Pairing.{Pairing, gone_by, partner, missing, paired, pairing_told, ended, end_told}
 use Rattle.afdx_pairing.specs.Kept.{IsInBound, Apart, MayCome, bytes_of, Sight, Came, Left, Until, own_of, passed_of, left_of, AreInOrder, after_all, told_by_all, all_told, IsFine, FineIsKept}
 
-abbrev AllFine : List Event → Type 0
+abbrev pub AllFine : List Event → Type 0
 AllFine events = AllByRecursion IsFine events
 
-abbrev frames : List Numbered → List Record
+abbrev pub frames : List Numbered → List Record
 frames ns = map (λ n. n.frame) ns
 
 -- ---- lists
@@ -35,7 +35,7 @@ fine_parts (x ∷ xs) ys all = let both = fine_parts xs ys all.1 in ((all.0, bot
 grouped : (xs ys zs : List Event) → AllFine ((xs ++ ys) ++ zs) → AllFine (xs ++ (ys ++ zs))
 grouped xs ys zs fine = subst (λ (events : List Event). AllFine events) (append_assoc xs ys zs) fine
 
-pushed : (ns : List Numbered) (n : Numbered) (rs : List Record) → frames (ns ++ n ∷ []) ++ rs ≡ frames ns ++ n.frame ∷ rs
+pub pushed : (ns : List Numbered) (n : Numbered) (rs : List Record) → frames (ns ++ n ∷ []) ++ rs ≡ frames ns ++ n.frame ∷ rs
 pushed [] n rs = refl
 pushed (x ∷ ns) n rs = ap (λ (ys : List Record). x.frame ∷ ys) (pushed ns n rs)
 
@@ -124,17 +124,17 @@ apart_parts m [] ys left all = (tt, all)
 apart_parts m (x ∷ xs) ys left all = let both = apart_parts m xs ys left all.1 in ((all.0, both.0), both.1)
 
 -- the same of several records
-abbrev AllApart : Limits → List Record → List Record → Type 0
+abbrev pub AllApart : Limits → List Record → List Record → Type 0
 AllApart m own before = AllByRecursion (Apart m own) before
 
-all_parts : (m : Limits) (xs ys : List Numbered) (before : List Record) → AllApart m (frames (xs ++ ys)) before → AllApart m (frames xs) before × AllApart m (frames ys) before
+pub all_parts : (m : Limits) (xs ys : List Numbered) (before : List Record) → AllApart m (frames (xs ++ ys)) before → AllApart m (frames xs) before × AllApart m (frames ys) before
 all_parts m xs ys [] all = (tt, tt)
 all_parts m xs ys (r ∷ before) all =
     let here = apart_parts m xs ys r all.0 in
     let rest = all_parts m xs ys before all.1 in
     ((here.0, rest.0), (here.1, rest.1))
 
-all_join : (m : Limits) (xs ys : List Numbered) (before : List Record) → AllApart m (frames xs) before → AllApart m (frames ys) before → AllApart m (frames (xs ++ ys)) before
+pub all_join : (m : Limits) (xs ys : List Numbered) (before : List Record) → AllApart m (frames xs) before → AllApart m (frames ys) before → AllApart m (frames (xs ++ ys)) before
 all_join m xs ys [] first second = tt
 all_join m xs ys (r ∷ before) first second = (apart_join m xs ys r first.0 second.0, all_join m xs ys before first.1 second.1)
 
@@ -190,7 +190,7 @@ three_parts a b c all = let outer = and_parts (a && b) c all in let inner = and_
 
 -- ---- what is kept from a state on
 
-abbrev state : Limits → List Numbered → List Numbered → Bool → Pairing
+abbrev pub state : Limits → List Numbered → List Numbered → Bool → Pairing
 state m waiting policed begun = record { limits = m; waiting = waiting; policed = policed; begun = begun }
 
 pub record Keeps (m : Limits) (last : Option ℕ) (waiting policed : List Numbered) (begun : Bool) (sights : List Sight) : Type 0 where

@@ -7,7 +7,7 @@ use Rattle.afdx_table.specs.Content.{port_row}
 use Rattle.afdx_core.specs.State.{Run, sent_in}
 use Rattle.afdx_measure.specs.declared.delays.Delays.{Delays}
 use Rattle.afdx_measure.specs.declared.filling.Filling.{Filling}
-use Rattle.afdx_measure.specs.Delays.{delays_of, summary_of}
+use Rattle.afdx_measure.specs.Delays.{delays_of, summary_of, least_of, greatest_of}
 use Rattle.afdx_measure.specs.Ports.{peak_at}
 use Rattle.afdx_measure.specs.Report.{bound_at}
 use Rattle.afdx_csv.specs.Csv.{optional, row}
@@ -26,12 +26,6 @@ abbrev pub network_measure_columns : List (List ℕ)
 network_measure_columns = codes "switch" ∷ codes "kind" ∷ codes "port" ∷ codes "link" ∷ codes "from" ∷ codes "to" ∷ codes "sent" ∷ end_columns
 
 -- ---- rows under some columns
-
-abbrev pub least_of : Delays → Option ℕ
-least_of d = option_map (λ r. r.least) d.range
-
-abbrev pub greatest_of : Delays → Option ℕ
-greatest_of d = option_map (λ r. r.greatest) d.range
 
 -- the delays of a link's copies at a port, in nanoseconds, beside the port's bound for the link's priority, and what they left of it
 abbrev pub delays_row : List (List ℕ) → ℕ → ℕ → Delays → Option ℕ → List ℕ

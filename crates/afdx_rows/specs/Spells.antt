@@ -19,25 +19,25 @@ abbrev pub network_survey_columns : List (List ℕ)
 network_survey_columns = network_run_columns ++ (codes "from" ∷ codes "to" ∷ end_columns)
     ++ codes "first" ∷ codes "last" ∷ codes "least_early" ∷ codes "greatest_early" ∷ codes "frames" ∷ []
 
--- ---- rows of the switch of a name, under some columns; those with stamps have the names of these two
+-- ---- rows of the switch of a name, under some columns, of which two have the stamps
 
 -- how many frames of a link were policed in a spell, the stamps of the first and of the last, and how early they came, in ns
 abbrev pub spell_row : List (List ℕ) → List ℕ → List ℕ × List ℕ → ℕ → Spell → List ℕ
-spell_row columns switch stamps link s = row columns ((codes "switch", switch) ∷ (codes "kind", codes "spell") ∷ (codes "link", decimal link)
-    ∷ (codes "policed", decimal s.count) ∷ (stamps.0, decimal s.first) ∷ (stamps.1, decimal s.last) ∷ (codes "least_early", decimal s.least)
+spell_row columns switch stamp_columns link s = row columns ((codes "switch", switch) ∷ (codes "kind", codes "spell") ∷ (codes "link", decimal link)
+    ∷ (codes "policed", decimal s.count) ∷ (stamp_columns.0, decimal s.first) ∷ (stamp_columns.1, decimal s.last) ∷ (codes "least_early", decimal s.least)
     ∷ (codes "greatest_early", decimal s.greatest) ∷ [])
 
 abbrev pub spell_rows : List (List ℕ) → List ℕ → List ℕ × List ℕ → Run → Link → List ℕ
-spell_rows columns switch stamps r l = flat_map (spell_row columns switch stamps l.id) (spells_in r l)
+spell_rows columns switch stamp_columns r l = flat_map (spell_row columns switch stamp_columns l.id) (spells_in r l)
 
 -- the stamps of the first and of the last frame that came, and how many came
 abbrev pub span_row : List (List ℕ) → List ℕ → List ℕ × List ℕ → List Row → List ℕ
-span_row columns switch stamps rows = row columns ((codes "switch", switch) ∷ (codes "kind", codes "span") ∷ (stamps.0, optional (stamp_at 0 rows))
-    ∷ (stamps.1, optional (stamp_at (length rows - 1) rows)) ∷ (codes "frames", decimal (length rows)) ∷ [])
+span_row columns switch stamp_columns rows = row columns ((codes "switch", switch) ∷ (codes "kind", codes "span") ∷ (stamp_columns.0, optional (stamp_at 0 rows))
+    ∷ (stamp_columns.1, optional (stamp_at (length rows - 1) rows)) ∷ (codes "frames", decimal (length rows)) ∷ [])
 
 -- each spell of each link, and when frames came
 abbrev pub stamped_rows : List (List ℕ) → List ℕ → List ℕ × List ℕ → Run → List ℕ
-stamped_rows columns switch stamps r = flat_map (spell_rows columns switch stamps r) r.table.links ++ span_row columns switch stamps r.rows
+stamped_rows columns switch stamp_columns r = flat_map (spell_rows columns switch stamp_columns r) r.table.links ++ span_row columns switch stamp_columns r.rows
 
 -- of a switch of a network
 abbrev pub policing_rows : List ℕ → Run → List ℕ

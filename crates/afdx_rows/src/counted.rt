@@ -58,7 +58,7 @@ pub const NETWORK_RUN: &[&str] = &[
     "sent",
 ];
 
-/// A field with a counter.
+/// Returns a field with a counter.
 fn count(number: u64) -> Field<'static>
     ensures { result ≡ Field.Number (Some number) }
 {

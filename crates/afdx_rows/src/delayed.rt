@@ -3,7 +3,7 @@
 ghost use Rattle.std.specs.Prelude.{◌≡◌, ◌++◌, map, flat_map, slice_get, Some, string_bytes, OnOk};
 ghost use Rattle.afdx_table.specs.Content.{port_row};
 ghost use Rattle.afdx_measure.specs.Report.{bound_at};
-ghost use Rattle.afdx_rows.specs.Delays.{least_of, greatest_of, delays_row, buffer_row, link_rows, port_row_of, buffers_rows, measures_rows};
+ghost use Rattle.afdx_rows.specs.Delays.{delays_row, buffer_row, link_rows, port_row_of, buffers_rows, measures_rows};
 
 use afdx_csv::{Field, put_row, slack, slack_per_mille};
 use afdx_load::{Loads, bounds, loads};
@@ -49,36 +49,6 @@ pub const NETWORK_MEASURE: &[&str] = &[
     "at",
 ];
 
-/// A field with a number of 64 bits, where there is one.
-pub(crate) fn optional(number: Option<u64>) -> Field<'static>
-    ensures { result ≡ Field.Number number }
-{
-    match number {
-        Some(number) => Field::Number(Some(u128::from(number))),
-        None => Field::Number(None),
-    }
-}
-
-/// The least of some delays, if there is one.
-fn least_of(delays: &Delays) -> Option<u64>
-    ensures { result ≡ least_of delays.now }
-{
-    match delays.range {
-        Some(range) => Some(range.least),
-        None => None,
-    }
-}
-
-/// The greatest of them.
-fn greatest_of(delays: &Delays) -> Option<u64>
-    ensures { result ≡ greatest_of delays.now }
-{
-    match delays.range {
-        Some(range) => Some(range.greatest),
-        None => None,
-    }
-}
-
 /// Appends the row of a link at a port, whose bound for the link's priority is this, where one is promised.
 fn put_delays<A: Allocator + Copy>(
     text: &mut String<A>,
@@ -91,7 +61,7 @@ fn put_delays<A: Allocator + Copy>(
     ensures { OnOk result (string_bytes text.new
         ≡ string_bytes text.old ++ delays_row (map (λ name. name.now) columns.now) link port delays.now bound) }
 {
-    let greatest = greatest_of(delays);
+    let greatest = delays.greatest();
     put_row(
         text,
         columns,
@@ -100,8 +70,8 @@ fn put_delays<A: Allocator + Copy>(
             ("link", Field::Number(Some(u128::from(link)))),
             ("port", Field::Number(Some(u128::from(port)))),
             ("sent", Field::Number(Some(delays.count as u128))),
-            ("least", optional(least_of(delays))),
-            ("greatest", optional(greatest)),
+            ("least", Field::of(delays.least())),
+            ("greatest", Field::of(greatest)),
             ("bound", Field::Number(bound)),
             ("slack", slack(greatest, bound)),
             ("slack_per_mille", slack_per_mille(greatest, bound)),
@@ -134,12 +104,12 @@ fn put_buffer<A: Allocator + Copy>(
             ("port", Field::Number(Some(u128::from(port)))),
             ("occupied", Field::Number(Some(u128::from(bytes)))),
             ("buffer", Field::Number(Some(u128::from(buffer)))),
-            ("at", optional(at)),
+            ("at", Field::of(at)),
         ],
     )
 }
 
-/// The port's bound for a priority, where bounds are promised.
+/// Returns the port's bound for a priority, where bounds are promised.
 fn bound_at(promised: bool, loads: &Loads<'_>, port: u8, priority: Priority) -> Option<u128>
     ensures { result ≡ bound_at promised loads.now port priority }
 {
@@ -212,7 +182,7 @@ fn put_port<A: Allocator + Copy, B: Allocator + Copy>(
     put_buffer(text, columns, switch, row.id, row.buffer, peak)
 }
 
-/// Appends, under these columns, a row for each port of a finished switch of this name, by rising number: how full its buffer was.
+/// Appends, under these columns, a row for each port of a finished switch of this name, by rising number: how full its buffer was, in bytes.
 ///
 /// An error says that memory ran out; the text is then of no use. O(ports) for each row, beside its columns.
 pub fn put_buffers<A: Allocator + Copy, B: Allocator + Copy>(

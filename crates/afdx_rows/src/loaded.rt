@@ -67,7 +67,7 @@ pub fn put_check(
     )
 }
 
-/// The letter of a rule.
+/// Returns the letter of a rule.
 fn letter_of(rule: Rule) -> &'static str
     ensures { result.now ≡ letter_of rule }
 {
@@ -105,7 +105,7 @@ fn put_broken(
     Ok(())
 }
 
-/// The letters of all rules that the load breaks.
+/// Gathers the letters of all rules that the load breaks.
 fn letters(alloc: Global, row: &PortRow, load: &Load) -> Result<String, AllocError>
     ensures { IfOk result (λ text. string_bytes text ≡ breaks_text (broken_rules row.now load.now)) }
 {
@@ -117,7 +117,7 @@ fn letters(alloc: Global, row: &PortRow, load: &Load) -> Result<String, AllocErr
     Ok(letters)
 }
 
-/// The greatest delay, for a priority that has so many links; none where it has none.
+/// Returns the greatest delay, for a priority that has so many links; none where it has none.
 fn limit_of(links: u32, row: &PortRow) -> Option<u128>
     ensures { result ≡ limit_of links row.now }
 {

@@ -3,7 +3,7 @@
 ghost use Rattle.std.specs.Prelude.{◌≡◌, ◌++◌, map, flat_map, slice_get, Some, string_bytes, OnOk};
 ghost use Rattle.afdx_rows.specs.Spells.{spell_row, spell_rows, span_row, stamped_rows, policing_rows, survey_rows};
 
-use crate::delayed::{optional, put_measures};
+use crate::delayed::put_measures;
 use afdx_csv::{Field, put_row};
 use afdx_measure::Survey;
 use afdx_spells::Spell;
@@ -86,7 +86,7 @@ pub const NETWORK_SURVEY: &[&str] = &[
     "frames",
 ];
 
-/// A field with a stamp in nanoseconds, where there is one.
+/// Returns a field with a stamp in nanoseconds, where there is one.
 fn stamp(at: Option<Stamp>) -> Field<'static>
     ensures { result ≡ Field.Number at }
 {
@@ -96,19 +96,19 @@ fn stamp(at: Option<Stamp>) -> Field<'static>
     }
 }
 
-/// Appends the row of a spell of a link of the switch of this name; the columns with its stamps have the names of these two.
+/// Appends the row of a spell of a link of the switch of this name; its stamps go into these two columns.
 fn put_spell<'x, A: Allocator + Copy>(
     text: &mut String<A>,
     columns: &[&str],
     switch: &'x str,
-    stamps: (&'x str, &'x str),
+    stamp_columns: (&'x str, &'x str),
     link: u16,
     spell: &Spell,
 ) -> Result<(), AllocError>
     ensures { OnOk result (string_bytes text.new
-        ≡ string_bytes text.old ++ spell_row (map (λ name. name.now) columns.now) switch.now (stamps.entry.0.now, stamps.entry.1.now) link spell.now) }
+        ≡ string_bytes text.old ++ spell_row (map (λ name. name.now) columns.now) switch.now (stamp_columns.entry.0.now, stamp_columns.entry.1.now) link spell.now) }
 {
-    let (first, last) = stamps;
+    let (first, last) = stamp_columns;
     put_row(
         text,
         columns,
@@ -116,11 +116,11 @@ fn put_spell<'x, A: Allocator + Copy>(
             ("switch", Field::Word(switch)),
             ("kind", Field::Word("spell")),
             ("link", Field::Number(Some(u128::from(link)))),
-            ("policed", optional(Some(spell.count))),
+            ("policed", Field::of(Some(spell.count))),
             (first, stamp(Some(spell.first))),
             (last, stamp(Some(spell.last))),
-            ("least_early", optional(Some(spell.least))),
-            ("greatest_early", optional(Some(spell.greatest))),
+            ("least_early", Field::of(Some(spell.least))),
+            ("greatest_early", Field::of(Some(spell.greatest))),
         ],
     )
 }
@@ -130,15 +130,15 @@ fn put_spells<A: Allocator + Copy>(
     text: &mut String<A>,
     columns: &[&str],
     switch: &str,
-    stamps: (&str, &str),
+    stamp_columns: (&str, &str),
     link: u16,
     spells: &[Spell],
 ) -> Result<(), AllocError>
     ensures { OnOk result (string_bytes text.new
-        ≡ string_bytes text.old ++ flat_map (spell_row (map (λ name. name.now) columns.now) switch.now (stamps.entry.0.now, stamps.entry.1.now) link) spells.now) }
+        ≡ string_bytes text.old ++ flat_map (spell_row (map (λ name. name.now) columns.now) switch.now (stamp_columns.entry.0.now, stamp_columns.entry.1.now) link) spells.now) }
 {
     for spell in spells {
-        put_spell(text, columns, switch, stamps, link, spell)?;
+        put_spell(text, columns, switch, stamp_columns, link, spell)?;
     }
     Ok(())
 }
@@ -148,17 +148,18 @@ fn put_all_spells<A: Allocator + Copy, B: Allocator + Copy>(
     text: &mut String<A>,
     columns: &[&str],
     switch: &str,
-    stamps: (&str, &str),
+    stamp_columns: (&str, &str),
     survey: &Survey<'_, B>,
 ) -> Result<(), AllocError>
     ensures { OnOk result (string_bytes text.new
-        ≡ string_bytes text.old ++ flat_map (spell_rows (map (λ name. name.now) columns.now) switch.now (stamps.entry.0.now, stamps.entry.1.now) survey.now.run) survey.now.run.table.links) }
+        ≡ string_bytes text.old
+        ++ flat_map (spell_rows (map (λ name. name.now) columns.now) switch.now (stamp_columns.entry.0.now, stamp_columns.entry.1.now) survey.now.run) survey.now.run.table.links) }
 {
     let table = survey.measures().table();
     for place in 0..table.link_count() {
         let link = table.link_at(place).unwrap();
         let spells = survey.spells_at(place);
-        put_spells(text, columns, switch, stamps, link.id, spells)?;
+        put_spells(text, columns, switch, stamp_columns, link.id, spells)?;
     }
     Ok(())
 }
@@ -168,13 +169,13 @@ fn put_span<'x, A: Allocator + Copy, B: Allocator + Copy>(
     text: &mut String<A>,
     columns: &[&str],
     switch: &'x str,
-    stamps: (&'x str, &'x str),
+    stamp_columns: (&'x str, &'x str),
     survey: &Survey<'_, B>,
 ) -> Result<(), AllocError>
     ensures { OnOk result (string_bytes text.new
-        ≡ string_bytes text.old ++ span_row (map (λ name. name.now) columns.now) switch.now (stamps.entry.0.now, stamps.entry.1.now) survey.now.run.rows) }
+        ≡ string_bytes text.old ++ span_row (map (λ name. name.now) columns.now) switch.now (stamp_columns.entry.0.now, stamp_columns.entry.1.now) survey.now.run.rows) }
 {
-    let (first, last) = stamps;
+    let (first, last) = stamp_columns;
     put_row(
         text,
         columns,
@@ -193,14 +194,14 @@ fn put_stamped<A: Allocator + Copy, B: Allocator + Copy>(
     text: &mut String<A>,
     columns: &[&str],
     switch: &str,
-    stamps: (&str, &str),
+    stamp_columns: (&str, &str),
     survey: &Survey<'_, B>,
 ) -> Result<(), AllocError>
     ensures { OnOk result (string_bytes text.new
-        ≡ string_bytes text.old ++ stamped_rows (map (λ name. name.now) columns.now) switch.now (stamps.entry.0.now, stamps.entry.1.now) survey.now.run) }
+        ≡ string_bytes text.old ++ stamped_rows (map (λ name. name.now) columns.now) switch.now (stamp_columns.entry.0.now, stamp_columns.entry.1.now) survey.now.run) }
 {
-    put_all_spells(text, columns, switch, stamps, survey)?;
-    put_span(text, columns, switch, stamps, survey)
+    put_all_spells(text, columns, switch, stamp_columns, survey)?;
+    put_span(text, columns, switch, stamp_columns, survey)
 }
 
 /// Appends, under the columns of `network survey`, a row for each spell in which a link of the switch of this name was policed, and one that

@@ -6,5 +6,5 @@ use Rattle.afdx_rows.proofs.surveyed.put_all_spells.Given as goal
 
 abbrev pub invariant-loop-place : goal.invariant-loop-place
 invariant-loop-place g l =
-    string_bytes l.initial.text ++ flat_map (spell_rows (names_in l.columns) l.switch (l.stamps.0.now, l.stamps.1.now) l.survey.run) l.survey.run.table.links
-    ≡ string_bytes l.text ++ flat_map (spell_rows (names_in l.columns) l.switch (l.stamps.0.now, l.stamps.1.now) l.survey.run) (drop l.place l.survey.run.table.links)
+    string_bytes l.initial.text ++ flat_map (spell_rows (names_in l.columns) l.switch (l.stamp_columns.0.now, l.stamp_columns.1.now) l.survey.run) l.survey.run.table.links
+    ≡ string_bytes l.text ++ flat_map (spell_rows (names_in l.columns) l.switch (l.stamp_columns.0.now, l.stamp_columns.1.now) l.survey.run) (drop l.place l.survey.run.table.links)

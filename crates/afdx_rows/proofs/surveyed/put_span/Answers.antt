@@ -10,6 +10,6 @@ returns g c =
     let first = c.stamp.ensures ∙ ap (λ (o : Option ℕ). Number o) c.first.ensures in
     let last = c.stamp-2.ensures ∙ ap (λ (o : Option ℕ). Number o) c.last.ensures in
     subst (λ (fields : List (List ℕ × List ℕ)). OnOk c.put_row.result (string_bytes c.put_row.new.text ≡ string_bytes c.args.text.now ++ row (names_in c.args.columns.now) fields))
-    (λ i. (codes "switch", c.args.switch.now) ∷ (codes "kind", codes "span") ∷ (c.args.stamps.0.now, text_of (first i)) ∷ (c.args.stamps.1.now, text_of (last i))
+    (λ i. (codes "switch", c.args.switch.now) ∷ (codes "kind", codes "span") ∷ (c.args.stamp_columns.0.now, text_of (first i)) ∷ (c.args.stamp_columns.1.now, text_of (last i))
     ∷ (codes "frames", decimal (c.frames.ensures i)) ∷ [])
     c.put_row.ensures

@@ -1,6 +1,6 @@
 use Rattle.std.proofs.Common.{refl, sym, arith}
+use Rattle.afdx_session.proofs.Calls.{ok_reported, err_reported}
 use Rattle.afdx_paced.proofs.Coming.{begins, ends, of_table_on, same_on}
-use Rattle.afdx_paced.proofs.Steps.{ok_reported, err_reported}
 use Rattle.afdx_paced.proofs.feeder.Feeder.come_to.Goals as goal
 
 pub give_before-requires-clause-passing : goal.give_before-requires-clause-passing

@@ -1,15 +1,17 @@
 use Rattle.std.proofs.Common.{◌≡◌, ◌||◌, nat_lt, List, set, refl, ap, sym, ◌∙◌, arith, rules, false}
 use Rattle.std.specs.Vec.{with_item}
+use Rattle.afdx_session.proofs.Numbered.{set_same}
+use Rattle.afdx_session.proofs.Sessions.{of_error}
 use Rattle.afdx_paced.specs.declared.paced.PacedFault.{PacedFault}
 use Rattle.afdx_paced.specs.declared.paced.PacedFault.TheVariants.{Memory}
 use Rattle.afdx_paced.specs.Paced.{Paced, put_refusal, not_of_memory}
 use Rattle.afdx_paced.specs.Inner.Kept.{paced_of, IsCut}
 use Rattle.afdx_paced.specs.Inner.Parts.{Parts, lanes_of, joined}
 use Rattle.afdx_paced.specs.declared.feeder.Feeder.{Feeder}
-use Rattle.afdx_paced.proofs.Lists.{all_at, set_same}
+use Rattle.afdx_paced.proofs.Lists.{all_at}
 use Rattle.afdx_paced.proofs.Places.{is_of}
 use Rattle.afdx_paced.proofs.Putting.{puts, of_table_set, going_same}
-use Rattle.afdx_paced.proofs.Calls.{of_error, placed_at, not_placed, place_fits, lane_read, refused_at, refused_port, in_time, put_seen, going_is}
+use Rattle.afdx_paced.proofs.Calls.{placed_at, not_placed, place_fits, lane_read, refused_at, refused_port, in_time, put_seen, going_is}
 use Rattle.afdx_paced.proofs.paced.Paced.put.Goals as goal
 
 pub index-requires : goal.index-requires
