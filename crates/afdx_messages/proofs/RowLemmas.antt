@@ -13,7 +13,8 @@ some_rest rule zero some = absurd (omega (arith, some))
 some_rest rule (suc n) some = refl
 
 -- the text of a row's fault by the name that was looked up
-pub named : (rule : JitterRule) (names : List (String Global)) (short : Short) (name : Option (List ℕ)) (fault : NetworkFault) (text : List ℕ) → name ≡ option_map string_bytes (slice_get names short.switch)
+pub named : (rule : JitterRule) (names : List (String Global)) (short : Short) (name : Option (List ℕ)) (fault : NetworkFault) (text : List ℕ)
+    → name ≡ option_map string_bytes (slice_get names short.switch)
     → fault ≡ row_fault rule short → text ≡ network_text name fault → text ≡ network_text (slice_get (map string_bytes names) short.switch) (row_fault rule short)
 named rule names short name fault text name_is fault_is is =
     is ∙ ap (λ (n : Option (List ℕ)). network_text n fault) (name_is ∙ sym (slice_get-map string_bytes names short.switch))

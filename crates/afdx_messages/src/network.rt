@@ -4,7 +4,8 @@ ghost use Rattle.std.specs.Prelude.{◌≡◌, ◌++◌, codes, map, flat_map, s
 ghost use Rattle.std.specs.Fmt.{decimal};
 ghost use Rattle.afdx_wiring.specs.Lines.{as_line};
 ghost use Rattle.afdx_wiring.specs.Names.{key_text, place_text};
-ghost use Rattle.afdx_messages.specs.Lines.{load_fault_text, network_rule, switch_part, link_part, short_text, network_text, row_fault, jitter_rule, row_line, rest_line, rows_lines, line_line, network_failure_line, network_status};
+ghost use Rattle.afdx_messages.specs.Lines.{load_fault_text, network_rule, switch_part, link_part, short_text, network_text, row_fault, jitter_rule, row_line, rest_line, rows_lines};
+ghost use Rattle.afdx_messages.specs.Lines.{line_line, network_failure_line, network_status};
 
 use crate::capture::capture_text;
 use crate::load::load_fault_text;

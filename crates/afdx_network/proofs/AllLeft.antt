@@ -22,7 +22,7 @@ use Rattle.afdx_paced.specs.Paced.{Lane, Paced, captures_of, arrivals, out_up_to
 use Rattle.afdx_paced.specs.Laws.{OutGoesOn, OutIsInOrder}
 use Rattle.afdx_wiring.specs.declared.layout.End.{End}
 use Rattle.afdx_wiring.specs.declared.layout.Wire.{Wire}
-use Rattle.afdx_wiring.specs.Net.{Network, wire_to}
+use Rattle.afdx_network_check.specs.Net.{Network, wire_to}
 use Rattle.afdx_network.specs.Way.{delayed}
 use Rattle.afdx_network.specs.Runs.{Given, Brings, BringsNothing, IsGiven, KeepTheirLines, AreOutcomes, IsUncheckedRunOf}
 use Rattle.afdx_network.specs.Inner.Sites.{Site, left_texts, lane_there, AtPorts, IsCame, IsSite, HasSent, IsCarried, AreCarried, HasLed}

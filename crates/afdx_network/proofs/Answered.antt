@@ -17,7 +17,7 @@ use Rattle.afdx_session.specs.Written.{AreAppended}
 use Rattle.afdx_paced.specs.Paced.{arrivals}
 use Rattle.afdx_paced.specs.Laws.{OutGoesOn, OutIsInOrder}
 use Rattle.afdx_wiring.specs.declared.layout.End.{End}
-use Rattle.afdx_wiring.specs.Net.{Network}
+use Rattle.afdx_network_check.specs.Net.{Network}
 use Rattle.afdx_network.specs.declared.intake.Intake.{Intake}
 use Rattle.afdx_network.specs.Runs.{Given, IsUncheckedRunOf}
 use Rattle.afdx_network.specs.Given.{open_ends, AreGivenBy}

@@ -10,9 +10,9 @@ use Rattle.afdx_table.specs.declared.rows.PortRow.{PortRow}
 use Rattle.afdx_table.specs.Content.{Content}
 use Rattle.afdx_table.specs.WellFormed.{IsWellFormed}
 use Rattle.afdx_paced.specs.Paced.{Lane, Paced}
-use Rattle.afdx_wiring.specs.Net.{Network}
+use Rattle.afdx_network_check.specs.Net.{Network}
 use Rattle.afdx_wiring.specs.declared.layout.End.{End}
-use Rattle.afdx_wiring.specs.Order.{lost_port}
+use Rattle.afdx_network_check.specs.Order.{lost_port}
 use Rattle.afdx_network.specs.Runs.{Given}
 use Rattle.afdx_network.specs.Given.{all_from, NoneShareAPort}
 use Rattle.afdx_network.specs.Inner.Intake.{AreGivenSoFar}

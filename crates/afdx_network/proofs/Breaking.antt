@@ -11,7 +11,7 @@ use Rattle.afdx_merging.specs.Merge.{Arrival}
 use Rattle.afdx_session.specs.Lined.{RecordsKeepToLineWithin}
 use Rattle.afdx_wiring.specs.declared.layout.End.{End}
 use Rattle.afdx_wiring.specs.declared.layout.Wire.{Wire}
-use Rattle.afdx_wiring.specs.Net.{Network, stamp_rounding}
+use Rattle.afdx_network_check.specs.Net.{Network, stamp_rounding}
 use Rattle.afdx_network.specs.Runs.{Given, AreGivenAt, KeepsItsLine}
 use Rattle.afdx_network.specs.Given.{is_open, open_ends, AreGiven, IsFirstBreach}
 use Rattle.afdx_network.specs.Inner.Intake.{records_at, BreaksALine}

@@ -12,8 +12,8 @@ use Rattle.afdx_paced.specs.Paced.{Paced}
 use Rattle.afdx_paced.specs.Laws.{NothingLeavesBefore, LaterRecordsChangeNothing, OutGoesOn, OutIsInOrder}
 use Rattle.afdx_wiring.specs.declared.layout.End.{End}
 use Rattle.afdx_wiring.specs.declared.layout.Wire.{Wire}
-use Rattle.afdx_wiring.specs.Net.{Network, wire_to}
-use Rattle.afdx_wiring.specs.Order.{lost_port}
+use Rattle.afdx_network_check.specs.Net.{Network, wire_to}
+use Rattle.afdx_network_check.specs.Order.{lost_port}
 use Rattle.afdx_network.specs.declared.fault.NetworkRunFault.{NetworkRunFault}
 use Rattle.afdx_network.specs.declared.fault.NetworkRunFault.TheVariants as fault
 use Rattle.afdx_network.specs.Early.{RecordsLeaveInTime}

@@ -14,7 +14,7 @@ use Rattle.afdx_paced.specs.Paced.{Lane, came_in, went_out}
 use Rattle.afdx_wiring.specs.declared.layout.End.{End}
 use Rattle.afdx_wiring.specs.declared.layout.Wire.{Wire}
 use Rattle.afdx_wiring.specs.File.{is_end}
-use Rattle.afdx_wiring.specs.Net.{Network, wire_to}
+use Rattle.afdx_network_check.specs.Net.{Network, wire_to}
 use Rattle.afdx_network.specs.Way.{delayed}
 use Rattle.afdx_network.specs.Inner.Sites.{Site, lane_there, carried, IsCarried, IsPending, wire_place}
 use Rattle.afdx_network.proofs.Lanes.{ChangesAt, cases_end, stays}

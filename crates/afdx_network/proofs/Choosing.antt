@@ -17,7 +17,7 @@ use Rattle.afdx_table.specs.Content.{Content, port_row}
 use Rattle.afdx_wiring.specs.declared.layout.End.{End}
 use Rattle.afdx_wiring.specs.declared.layout.Wire.{Wire}
 use Rattle.afdx_wiring.specs.File.{is_end}
-use Rattle.afdx_wiring.specs.Net.{Network}
+use Rattle.afdx_network_check.specs.Net.{Network}
 use Rattle.afdx_network.specs.Inner.Sites.{Site, IsWithin, wire_place, acts_before, earlier_of, IsFirst}
 
 -- ---- the least of the times of all wires

@@ -22,7 +22,7 @@ use Rattle.afdx_paced.specs.Paced.{Lane, lane_at, changed, came_in, put_refusal}
 use Rattle.afdx_paced.specs.Laws.{LaterRecordsChangeNothing, OutGoesOn}
 use Rattle.afdx_wiring.specs.declared.layout.End.{End}
 use Rattle.afdx_wiring.specs.declared.layout.Wire.{Wire}
-use Rattle.afdx_wiring.specs.Net.{Network, wire_to}
+use Rattle.afdx_network_check.specs.Net.{Network, wire_to}
 use Rattle.afdx_network.specs.declared.intake.Intake.{Intake}
 use Rattle.afdx_network.specs.Runs.{Given}
 use Rattle.afdx_network.specs.Given.{is_open, open_ends, IsGivenAt}

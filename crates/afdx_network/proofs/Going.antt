@@ -26,7 +26,7 @@ use Rattle.afdx_paced.specs.Paced.{Lane, Paced, lane_at}
 use Rattle.afdx_paced.specs.Laws.{OutGoesOn}
 use Rattle.afdx_wiring.specs.declared.layout.End.{End}
 use Rattle.afdx_wiring.specs.declared.layout.Wire.{Wire}
-use Rattle.afdx_wiring.specs.Net.{Network}
+use Rattle.afdx_network_check.specs.Net.{Network}
 use Rattle.afdx_network.specs.declared.fault.NetworkRunFault.{NetworkRunFault}
 use Rattle.afdx_network.specs.declared.fault.NetworkRunFault.TheVariants as fault
 use Rattle.afdx_network.specs.declared.fault.Stop.TheVariants as stop

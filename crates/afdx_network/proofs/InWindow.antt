@@ -12,7 +12,7 @@ use Rattle.afdx_paced.specs.Paced.{Lane, Paced, out_up_to, came_in, went_out, Go
 use Rattle.afdx_paced.specs.Laws.{NothingLeavesBefore, LaterRecordsChangeNothing, OutGoesOn, OutIsInOrder}
 use Rattle.afdx_wiring.specs.declared.layout.End.{End}
 use Rattle.afdx_wiring.specs.declared.layout.Wire.{Wire}
-use Rattle.afdx_wiring.specs.Net.{Network, wire_to}
+use Rattle.afdx_network_check.specs.Net.{Network, wire_to}
 use Rattle.afdx_network.specs.Way.{delayed}
 use Rattle.afdx_network.specs.Runs.{Given}
 use Rattle.afdx_network.specs.Inner.Sites.{Site, lane_there, IsSite, IsCarried, IsPending, wire_place, AreSites, IsIn, IsWithin, AreInWindow, AreInCarry}

@@ -11,7 +11,7 @@ use Rattle.afdx_session.specs.Texts.{Text}
 use Rattle.afdx_session.specs.Reading.{AreCaptures}
 use Rattle.afdx_paced.specs.Paced.{Lane, captures_of}
 use Rattle.afdx_wiring.specs.declared.layout.Wire.{Wire}
-use Rattle.afdx_wiring.specs.Net.{Network, wire_to}
+use Rattle.afdx_network_check.specs.Net.{Network, wire_to}
 use Rattle.afdx_network.specs.Early.{ComesBy}
 use Rattle.afdx_network.specs.Inner.Sites.{end_at, IsCame}
 use Rattle.afdx_network.proofs.Carried.{AreWritten}

@@ -13,8 +13,8 @@ use Rattle.afdx_table.specs.Content.{Content, link_row}
 use Rattle.afdx_table.specs.WellFormed.{IsWellFormed}
 use Rattle.afdx_table.specs.Inner.Found.{LinksAreFound}
 use Rattle.afdx_wiring.specs.declared.layout.Wire.{Wire}
-use Rattle.afdx_wiring.specs.Net.{Network, Row, Back, row_at, row_in, rows_of, IsWayBack}
-use Rattle.afdx_wiring.specs.Inner.Tabled.{RowsAreOfTables}
+use Rattle.afdx_network_check.specs.Net.{Network, Row, Back, row_at, row_in, rows_of, IsWayBack}
+use Rattle.afdx_network_check.specs.Inner.Tabled.{RowsAreOfTables}
 use Rattle.afdx_network.proofs.Lists.{all_weaken, all_map}
 use Rattle.afdx_network.proofs.Found.{all_at, of_all}
 use Rattle.afdx_network.proofs.Rows.{row_is}

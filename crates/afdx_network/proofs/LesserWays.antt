@@ -4,7 +4,7 @@ use Rattle.afdx_table.specs.Link.{Link}
 use Rattle.afdx_table.specs.Content.{Content}
 use Rattle.afdx_load.specs.Bounds.{bounds_of}
 use Rattle.afdx_load.specs.Inner.Laws.{AcceptedKeepsBounds}
-use Rattle.afdx_wiring.specs.Net.{least_at, scatter_at, load_at, Network, Row, rounding_at, bound_in}
+use Rattle.afdx_network_check.specs.Net.{least_at, scatter_at, load_at, Network, Row, rounding_at, bound_in}
 use Rattle.afdx_network.specs.Way.{Node, Stage, IsStage, Leg, IsLegFrom, IsWay, WaysDeliver}
 use Rattle.afdx_network.specs.Runs.{SwitchRun, Given}
 use Rattle.afdx_network.specs.Ways.{IsStageAt, GoesOver}

@@ -16,8 +16,8 @@ use Rattle.afdx_serial.specs.Laws.{ExactStampsKeepToTheLine}
 use Rattle.afdx_session.specs.Lined.{RecordsKeepToLine, RecordsKeepToLineWithin}
 use Rattle.afdx_wiring.specs.declared.layout.End.{End}
 use Rattle.afdx_wiring.specs.declared.layout.Wire.{Wire}
-use Rattle.afdx_wiring.specs.Net.{Network, wire_to, is_wired, port_at, stamp_rounding, rounding_at}
-use Rattle.afdx_wiring.specs.Rules.{Joins}
+use Rattle.afdx_network_check.specs.Net.{Network, wire_to, is_wired, port_at, stamp_rounding, rounding_at}
+use Rattle.afdx_network_check.specs.Rules.{Joins}
 use Rattle.afdx_network.specs.Way.{delayed}
 use Rattle.afdx_network.specs.Runs.{SwitchRun, Given}
 use Rattle.afdx_network.specs.Laws.{IsFittingRun}

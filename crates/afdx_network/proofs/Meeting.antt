@@ -16,7 +16,7 @@ use Rattle.afdx_merging.specs.Merge.{Arrival, arrival_at, at_place, numbered_fro
 use Rattle.afdx_merging.specs.Inner.Merging.{HasMerged}
 use Rattle.afdx_session.specs.Lined.{RecordsKeepToLineWithin}
 use Rattle.afdx_wiring.specs.declared.layout.End.{End}
-use Rattle.afdx_wiring.specs.Net.{Network, port_at, stamp_rounding}
+use Rattle.afdx_network_check.specs.Net.{Network, port_at, stamp_rounding}
 use Rattle.afdx_network.specs.declared.line.Line.{Line}
 use Rattle.afdx_network.specs.Given.{open_ends, IsBreachAt}
 use Rattle.afdx_network.specs.Inner.Intake.{records_at, AreMet, IsOverItsLine, AreOverLines, BreaksALine}
@@ -64,7 +64,8 @@ next_number remaining clocks first now m came a merged =
     let l = there_at m.lanes.items a.place (let long = merged.many in omega (arith, lt, long)) in
     let is = merged.each a.place c.0 f.0 r.0 l.0 c.1 f.1 r.1 l.1 in
     let has = is.read.has in
-    let at = mapped (arrival_at a.place c.0) is.given (length (at_place a.place came)) a (ap (λ (items : List Arrival). slice_get items (length (at_place a.place came))) (sym is.are) ∙ last_there a.place came a refl) in
+    let at = mapped (arrival_at a.place c.0) is.given (length (at_place a.place came)) a
+    (ap (λ (items : List Arrival). slice_get items (length (at_place a.place came))) (sym is.are) ∙ last_there a.place came a refl) in
     let number : at.0.number ≡ 1 + length (at_place a.place came)
     = numbers 1 l.0.clock is.given (option_to_list l.0.head) has.records has.numbered (length (at_place a.place came)) at.0 at.1 in
     let same : at.0.number ≡ a.head.number = ap (λ (b : Arrival). b.head.number) at.2 in

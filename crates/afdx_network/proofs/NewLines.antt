@@ -11,7 +11,7 @@ use Rattle.afdx_table.specs.declared.rows.PortRow.{PortRow}
 use Rattle.afdx_table.specs.Content.{Content, port_row}
 use Rattle.afdx_table.specs.WellFormed.{IsWellFormed}
 use Rattle.afdx_wiring.specs.declared.layout.End.{End}
-use Rattle.afdx_wiring.specs.Net.{Network, port_at}
+use Rattle.afdx_network_check.specs.Net.{Network, port_at}
 use Rattle.afdx_network.specs.declared.line.Line.{Line}
 use Rattle.afdx_network.specs.Given.{is_open, ends_from, open_ends}
 use Rattle.afdx_network.specs.Inner.Intake.{AreMet}
@@ -93,7 +93,8 @@ new_ends net n t (row ∷ rows) (line ∷ lines) at formed among zip = (here, ne
   here : IsNewAt net (end_at n row.id) line
   here other is = subst (λ (r : PortRow). IsNew r line) (same_Some row other (sym there ∙ is)) zip.0
 
-new_at : (net : Network) (n : ℕ) (t : Content) (lines : List Line) → slice_get net.tables n ≡ Some t → IsWellFormed t → AllZip IsNew (open_rows net n t) lines → AllZip (IsNewAt net) (ends_at net n t) lines
+new_at : (net : Network) (n : ℕ) (t : Content) (lines : List Line) → slice_get net.tables n ≡ Some t → IsWellFormed t
+    → AllZip IsNew (open_rows net n t) lines → AllZip (IsNewAt net) (ends_at net n t) lines
 new_at net n t lines at formed zip =
     subst (λ (es : List End). AllZip (IsNewAt net) es lines) (ends_are net n t)
     (new_ends net n t (open_rows net n t) lines at formed (all_kept (Contains t.ports) (has_line net n) t.ports (all_by (Contains t.ports) t.ports (λ row among. among))) zip)
@@ -129,7 +130,8 @@ new_more net tables n t lines new more same lt is formed made zip so_far = recor
 zip_there : {X Y : Type 0} (P : X → Y → Type 0) (xs : List X) (ys : List Y) → AllZip P xs ys → (k : ℕ) (x : X) (y : Y) → slice_get xs k ≡ Some x → slice_get ys k ≡ Some y → P x y
 zip_there P xs ys zip k x y here there = let back = zip_back P xs ys zip k y there in subst (λ z. P z y) (same_Some back.0 x (sym back.1 ∙ here)) back.2
 
-pub new_all : (net : Network) (tables : List Content) (n : ℕ) (lines : List Line) → net.layout.one_line ≡ true → tables ≡ net.tables → length tables ≤ n → AreNewTo net n tables lines → AreMet net lines []
+pub new_all : (net : Network) (tables : List Content) (n : ℕ) (lines : List Line) → net.layout.one_line ≡ true → tables ≡ net.tables → length tables ≤ n → AreNewTo net n tables lines
+    → AreMet net lines []
 new_all net tables n lines said same past h = record {
   formed = λ is. subst (All IsWellFormed) (take_all n tables past ∙ same) h.formed;
   many = zip_long (IsNewAt net) h.ends lines h.new ∙ ap (λ (es : List End). length es) (sym ends_same) ∙ sym (ap (λ b. cond b (length (open_ends net)) 0) said);

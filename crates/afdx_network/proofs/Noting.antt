@@ -20,7 +20,7 @@ use Rattle.afdx_paced.specs.Laws.{LaterRecordsSendNothing, SendsGoOn}
 use Rattle.afdx_wiring.specs.declared.layout.End.{End}
 use Rattle.afdx_wiring.specs.declared.layout.Wire.{Wire}
 use Rattle.afdx_wiring.specs.File.{is_end}
-use Rattle.afdx_wiring.specs.Net.{Network}
+use Rattle.afdx_network_check.specs.Net.{Network}
 use Rattle.afdx_origins.specs.declared.departure.Departure.{Departure}
 use Rattle.afdx_origins.specs.Origins.{Origins, sent_from, after_sending}
 use Rattle.afdx_network.specs.Way.{delayed}

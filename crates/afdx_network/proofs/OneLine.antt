@@ -9,7 +9,7 @@ use Rattle.afdx_filter.specs.Frame.{frame_of}
 use Rattle.afdx_serial.specs.Serial.{KeepsToLineWithin, soonest, last_soonest}
 use Rattle.afdx_serial.specs.Laws.{SoonestInstantsDecide}
 use Rattle.afdx_session.specs.Lined.{RecordsKeepToLineWithin}
-use Rattle.afdx_wiring.specs.Net.{stamp_rounding}
+use Rattle.afdx_network_check.specs.Net.{stamp_rounding}
 use Rattle.afdx_network.specs.declared.line.Line.{Line}
 use Rattle.afdx_network.specs.Given.{IsBreachAt}
 use Rattle.afdx_network.specs.Inner.OneLine.{HasBrought}

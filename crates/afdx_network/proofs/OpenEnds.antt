@@ -11,7 +11,7 @@ use Rattle.afdx_table.specs.WellFormed.{Rises as PortsRise, IsWellFormed}
 use Rattle.afdx_wiring.specs.declared.layout.End.{End}
 use Rattle.afdx_wiring.specs.declared.layout.Wire.{Wire}
 use Rattle.afdx_wiring.specs.File.{is_end}
-use Rattle.afdx_wiring.specs.Net.{Network, wire_to}
+use Rattle.afdx_network_check.specs.Net.{Network, wire_to}
 use Rattle.afdx_network.specs.Given.{is_open, ends_from}
 use Rattle.afdx_network.specs.Inner.Intake.{end_place}
 use Rattle.afdx_network.specs.Inner.Sites.{end_at}

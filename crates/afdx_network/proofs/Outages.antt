@@ -8,10 +8,10 @@ use Rattle.std.proofs.lemmas.Option.{same_Some}
 use Rattle.afdx_session.specs.Texts.{Text}
 use Rattle.afdx_wiring.specs.declared.layout.End.{End}
 use Rattle.afdx_wiring.specs.declared.layout.Wire.{Wire}
-use Rattle.afdx_wiring.specs.declared.ways.Way.{Way}
+use Rattle.afdx_network_check.specs.declared.ways.Way.{Way}
 use Rattle.afdx_wiring.specs.File.{Layout, is_down, is_end}
-use Rattle.afdx_wiring.specs.Net.{Network, Row, Back, ingress, IsWayBack}
-use Rattle.afdx_wiring.specs.Outage.{is_cut, is_lost, up_of}
+use Rattle.afdx_network_check.specs.Net.{Network, Row, Back, ingress, IsWayBack}
+use Rattle.afdx_network_check.specs.Outage.{is_cut, is_lost, up_of}
 use Rattle.afdx_network.specs.Runs.{Given}
 use Rattle.afdx_network.specs.Given.{AreGiven}
 use Rattle.afdx_network.specs.Outage.{silent, up_at, given_up}

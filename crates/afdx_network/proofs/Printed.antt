@@ -17,11 +17,11 @@ use Rattle.afdx_table.specs.Content.{Content, port_row}
 use Rattle.afdx_jitter.specs.declared.delays.Delays.{Delays}
 use Rattle.afdx_wiring.specs.declared.layout.End.{End}
 use Rattle.afdx_wiring.specs.declared.layout.Wire.{Wire}
-use Rattle.afdx_wiring.specs.declared.ways.Way.{Way}
-use Rattle.afdx_wiring.specs.Net.{least_at, Network, Row, Back, port_at, row_at, bound_at, IsWayBack, source_of, AreDelays}
-use Rattle.afdx_wiring.specs.Order.{leading, row_before}
-use Rattle.afdx_wiring.specs.Ways.{line_of, IsWayOver, IsWayAlong, IsWayOut}
-use Rattle.afdx_wiring.specs.Outage.{is_cut, is_lost, up_of}
+use Rattle.afdx_network_check.specs.declared.ways.Way.{Way}
+use Rattle.afdx_network_check.specs.Net.{least_at, Network, Row, Back, port_at, row_at, bound_at, IsWayBack, source_of, AreDelays}
+use Rattle.afdx_network_check.specs.Order.{leading, row_before}
+use Rattle.afdx_network_check.specs.Ways.{line_of, IsWayOver, IsWayAlong, IsWayOut}
+use Rattle.afdx_network_check.specs.Outage.{is_cut, is_lost, up_of}
 use Rattle.afdx_network.specs.Way.{Stage, IsStage, Leg, last_stage, span_least, span_most, passed_at, leave, IsInTime, IsDelivered}
 use Rattle.afdx_network.specs.Runs.{SwitchRun, Given}
 use Rattle.afdx_network.specs.Ways.{node_of, IsStageAt, GoesOver, IsWayFrom, IsWayIn}

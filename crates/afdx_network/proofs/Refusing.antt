@@ -9,7 +9,7 @@ use Rattle.afdx_pcap.specs.Fault.{IsFault}
 use Rattle.afdx_load.specs.Accepted.{IsAccepted}
 use Rattle.afdx_session.specs.Texts.{Text}
 use Rattle.afdx_session.specs.Reading.{IsSound, IsFirstFault}
-use Rattle.afdx_wiring.specs.Net.{Network}
+use Rattle.afdx_network_check.specs.Net.{Network}
 use Rattle.afdx_network.specs.declared.fault.NetworkRunFault.{NetworkRunFault}
 use Rattle.afdx_network.specs.declared.fault.NetworkRunFault.TheVariants as fault
 use Rattle.afdx_network.specs.Runs.{Given, KeepTheirLines}
@@ -37,7 +37,8 @@ first_fault (x ∷ texts) (suc k) text why at sound broken =
     inr (All-head IsSound x (take k texts) sound, first_fault texts k text why at (All-tail IsSound x (take k texts) sound) broken)
 
 -- what stops a run on its way, or before, refuses it
-pub refused_run : (none_late : Type 0) (net : Network) (given : Given) (why : NetworkRunFault) → AreGiven net given → AreSound given → KeepTheirLines net given → IsRunFault net why → (none_late → why ≡ fault.Memory)
+pub refused_run : (none_late : Type 0) (net : Network) (given : Given) (why : NetworkRunFault) → AreGiven net given → AreSound given → KeepTheirLines net given
+    → IsRunFault net why → (none_late → why ≡ fault.Memory)
     → IsRefusalUnless none_late net given why
 refused_run none_late net given fault.Memory are sound lines broken soon = tt
 refused_run none_late net given (fault.Read place) are sound lines broken soon = absurd broken

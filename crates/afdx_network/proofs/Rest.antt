@@ -8,7 +8,7 @@ use Rattle.afdx_load.specs.Accepted.{IsAccepted}
 use Rattle.afdx_session.specs.Texts.{Text}
 use Rattle.afdx_session.specs.Outcome.{Results}
 use Rattle.afdx_session.specs.Lined.{PlainHeadlines}
-use Rattle.afdx_wiring.specs.Net.{Network}
+use Rattle.afdx_network_check.specs.Net.{Network}
 use Rattle.afdx_network.specs.Runs.{SwitchRun, Given, IsFedBy, KeepTheirLines, AreRuns, AreOutcomes, IsRunOf, IsUncheckedRunOf}
 
 record IsList (tables : List Content) (came : List (List Text)) (left : List Results) : Type 0 where

@@ -20,7 +20,7 @@ use Rattle.afdx_session.specs.Streams.{AllStartBeforeTheLastInstant}
 use Rattle.afdx_paced.specs.Paced.{Lane, Paced, captures_of, arrivals}
 use Rattle.afdx_paced.specs.Laws.{OutGoesOn}
 use Rattle.afdx_wiring.specs.declared.layout.End.{End}
-use Rattle.afdx_wiring.specs.Net.{Network}
+use Rattle.afdx_network_check.specs.Net.{Network}
 use Rattle.afdx_network.specs.Runs.{Given}
 use Rattle.afdx_network.specs.Inner.Sites.{Site, end_at, left_texts, IsSite, HasSent, HasSentAt, HasCome, AreCarried, IsIn, AreInWindow, acts_before, IsFirst, gone_at}
 use Rattle.afdx_network.specs.Inner.Sites.{IsPortAt, WentTo, SendsOn, SendOn, Carries, Visits, after_hops, AreEarly}

@@ -17,7 +17,7 @@ use Rattle.afdx_isolation.specs.Table.{bound_of}
 use Rattle.afdx_wiring.specs.declared.layout.End.{End}
 use Rattle.afdx_wiring.specs.declared.layout.Wire.{Wire}
 use Rattle.afdx_wiring.specs.File.{is_end}
-use Rattle.afdx_wiring.specs.Net.{Network, Row, row_at, row_in, rows_from, rows_of, rows_on, wire_to, bound_in}
+use Rattle.afdx_network_check.specs.Net.{Network, Row, row_at, row_in, rows_from, rows_of, rows_on, wire_to, bound_in}
 use Rattle.afdx_network.proofs.Lists.{all_tested}
 use Rattle.afdx_network.proofs.Found.{all_by, of_all, found_passes}
 

@@ -18,7 +18,7 @@ use Rattle.afdx_session.specs.Texts.{Text}
 use Rattle.afdx_paced.specs.Paced.{Lane, Paced, changed, came_in, went_out, lane_at, out_up_to, after_going, after_leaving, put_refusal, IsNext}
 use Rattle.afdx_paced.specs.Laws.{LaterRecordsChangeNothing, OutGoesOn}
 use Rattle.afdx_wiring.specs.declared.layout.Wire.{Wire}
-use Rattle.afdx_wiring.specs.Net.{Network, wire_to}
+use Rattle.afdx_network_check.specs.Net.{Network, wire_to}
 use Rattle.afdx_network.specs.Runs.{Given}
 use Rattle.afdx_network.specs.Inner.Sites.{Site, end_at, left_texts, AtPorts, IsCame, IsPrefix, IsRunning, IsSite, HasSent, after_putting, WentTo, HandsOut}
 use Rattle.afdx_network.proofs.Lanes.{of_port, all_changed, at_lane, map_changed, port_is, was_there, changed_here, changed_elsewhere}

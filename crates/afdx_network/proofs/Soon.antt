@@ -14,7 +14,7 @@ use Rattle.afdx_session.specs.Output.{rows_of, output_of, outputs}
 use Rattle.afdx_session.specs.Outcome.{Results, IsOutcome}
 use Rattle.afdx_paced.specs.Paced.{Lane, Paced, captures_of, arrivals, out_up_to, came_in, went_out, GoesOut}
 use Rattle.afdx_paced.specs.Laws.{OutGoesOn}
-use Rattle.afdx_wiring.specs.Net.{Network}
+use Rattle.afdx_network_check.specs.Net.{Network}
 use Rattle.afdx_network.specs.Runs.{Given}
 use Rattle.afdx_network.specs.Early.{RecordsLeaveInTime}
 use Rattle.afdx_network.specs.Inner.Sites.{Site, IsSite, after_hops, after_putting, AreEarly, HandsOut}

@@ -22,8 +22,8 @@ use Rattle.afdx_wiring.specs.declared.fault.NetworkFault.TheVariants as fault
 use Rattle.afdx_wiring.specs.declared.layout.End.{End}
 use Rattle.afdx_wiring.specs.declared.layout.Wire.{Wire}
 use Rattle.afdx_wiring.specs.Refusal.{◌>>=◌, unless}
-use Rattle.afdx_wiring.specs.Net.{Network}
-use Rattle.afdx_wiring.specs.Order.{is_port, has_ports, by_wires, lost_port}
+use Rattle.afdx_network_check.specs.Net.{Network}
+use Rattle.afdx_network_check.specs.Order.{is_port, has_ports, by_wires, lost_port}
 use Rattle.afdx_network.specs.Inner.Sites.{Site, left_texts, IsRunning, HasSent, HasCome, carried, IsCarried, IsFresh}
 use Rattle.afdx_network.proofs.Found.{contains_head, contains_tail, of_all}
 use Rattle.afdx_network.proofs.Carrying.{carried_none}

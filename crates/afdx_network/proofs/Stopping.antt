@@ -21,7 +21,7 @@ use Rattle.afdx_session.specs.Texts.{Text}
 use Rattle.afdx_session.specs.Reading.{IsSound, IsFirstFault}
 use Rattle.afdx_wiring.specs.declared.layout.End.{End}
 use Rattle.afdx_wiring.specs.declared.layout.Wire.{Wire}
-use Rattle.afdx_wiring.specs.Net.{Network}
+use Rattle.afdx_network_check.specs.Net.{Network}
 use Rattle.afdx_network.specs.declared.intake.Intake.{Intake}
 use Rattle.afdx_network.specs.declared.fault.NetworkRunFault.{NetworkRunFault}
 use Rattle.afdx_network.specs.declared.fault.NetworkRunFault.TheVariants as fault
@@ -170,7 +170,8 @@ arrive_soon k n [] soon = tt
 arrive_soon k n (r ∷ rs) soon = let first = soon.0 in (omega (arith, first), arrive_soon k (n + 1) rs soon.1)
 
 -- all readers gave captures
-module _ {R : Type 0} (remaining : R → Option (List ℕ)) (net : Network) (first : List R) (came : List Arrival) (merged : AreMerged remaining (map (λ (e : End). same_clock) (open_ends net)) first came) where
+module _ {R : Type 0} (remaining : R → Option (List ℕ)) (net : Network) (first : List R) (came : List Arrival)
+    (merged : AreMerged remaining (map (λ (e : End). same_clock) (open_ends net)) first came) where
   count : length (map (λ (e : End). same_clock) (open_ends net)) ≡ length (open_ends net)
   count = length-map (open_ends net) (λ (e : End). same_clock)
 

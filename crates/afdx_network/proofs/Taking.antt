@@ -18,7 +18,7 @@ use Rattle.afdx_merging.specs.Merge.{Arrival, arrival_at, at_place, numbered_fro
 use Rattle.afdx_merging.specs.Read.{AreMerged, IsMergeFault}
 use Rattle.afdx_merging.specs.Inner.Merging.{HasMerged, lesser}
 use Rattle.afdx_wiring.specs.declared.layout.End.{End}
-use Rattle.afdx_wiring.specs.Net.{Network}
+use Rattle.afdx_network_check.specs.Net.{Network}
 use Rattle.afdx_network.specs.declared.intake.Intake.{Intake}
 use Rattle.afdx_network.specs.declared.fault.NetworkRunFault.{NetworkRunFault}
 use Rattle.afdx_network.specs.Given.{open_ends}
@@ -113,7 +113,8 @@ place_within remaining net first now ends m came a same merged =
 
 pub takes_next : {R : Type 0} (remaining : R → Option (List ℕ)) (net : Network) (first before now : List R) (old new : Intake) (came : List Arrival) (a : Arrival) (to : End) (frame : Record)
     → HasTaken remaining net first before old came → new.ends.items ≡ old.ends.items → AreMet net new.lines.items (came ++ a ∷ [])
-    → HasMerged remaining (map (λ (e : End). same_clock) (open_ends net)) first now new.merging (came ++ a ∷ []) → IsAfter (map (λ (e : End). same_clock) (open_ends net)) came a → slice_get old.ends.items a.place ≡ Some to → frame ≡ a.head.frame
+    → HasMerged remaining (map (λ (e : End). same_clock) (open_ends net)) first now new.merging (came ++ a ∷ [])
+    → IsAfter (map (λ (e : End). same_clock) (open_ends net)) came a → slice_get old.ends.items a.place ≡ Some to → frame ≡ a.head.frame
     → lesser (Some a.head.frame.stamp) (next_of new) ≡ next_of old → IsNextIn remaining net first now old new came to frame
 takes_next remaining net first before now old new came a to frame taken ends met merged after at is least = record {
   arrival = a;
@@ -180,7 +181,8 @@ fault_there remaining net readers ends (merge.Capture place reason) why same is 
     subst (IsIntakeFault remaining net readers) (sym at.2) (place, ap (λ (es : List End). slice_get es place) (sym same) ∙ at.1, is)
 
 -- or of a line, where all were read
-pub line_there : {R : Type 0} (remaining : R → Option (List ℕ)) (net : Network) (readers : List R) (came : List Arrival) → AreMerged remaining (map (λ (e : End). same_clock) (open_ends net)) readers came
+pub line_there : {R : Type 0} (remaining : R → Option (List ℕ)) (net : Network) (readers : List R) (came : List Arrival)
+    → AreMerged remaining (map (λ (e : End). same_clock) (open_ends net)) readers came
     → (why : NetworkRunFault) → IsLineFault net came why → IsIntakeFault remaining net readers why
 line_there remaining net readers came merged fault.Memory is = absurd is
 line_there remaining net readers came merged (fault.Read place) is = absurd is

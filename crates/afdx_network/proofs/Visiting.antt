@@ -14,7 +14,7 @@ use Rattle.afdx_session.specs.Texts.{Text}
 use Rattle.afdx_paced.specs.Paced.{Lane, Paced, changed, lane_at, out_up_to, came_in, went_out, NoneGoesOut}
 use Rattle.afdx_paced.specs.Laws.{LaterRecordsChangeNothing, OutGoesOn}
 use Rattle.afdx_wiring.specs.declared.layout.End.{End}
-use Rattle.afdx_wiring.specs.Net.{Network}
+use Rattle.afdx_network_check.specs.Net.{Network}
 use Rattle.afdx_network.specs.Runs.{Given}
 use Rattle.afdx_network.specs.Inner.Sites.{Site, left_texts, lane_there, IsSite, IsCarried, HasSent, HasSentAt, IsIn, AreInWindow, SendsOn, SendOn, after_putting, WentTo, HandsOut}
 use Rattle.afdx_network.proofs.InWindow.{at_site}

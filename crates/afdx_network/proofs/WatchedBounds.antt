@@ -26,7 +26,7 @@ use Rattle.afdx_session.specs.Texts.{Text}
 use Rattle.afdx_session.specs.Output.{rows_of, sent_by}
 use Rattle.afdx_session.specs.Outcome.{Results}
 use Rattle.afdx_session.specs.Lined.{EndsInLesserTime, LinedSentKeepBounds, PlainHeadlines}
-use Rattle.afdx_wiring.specs.Net.{Network, Row, bound_in, bound_at, load_at, scatter_at, rounding_at}
+use Rattle.afdx_network_check.specs.Net.{Network, Row, bound_in, bound_at, load_at, scatter_at, rounding_at}
 use Rattle.afdx_origins.specs.Origins.{sent_from, of_link}
 use Rattle.afdx_network.specs.Runs.{SwitchRun, Given, IsFedBy, KeepTheirLines}
 use Rattle.afdx_network.specs.Laws.{IsOfFile, IsFittingNetwork, IsFittingRun}
@@ -92,7 +92,8 @@ runs_of plain (t ∷ tables) (texts ∷ came) (r ∷ left) (both ∷ switches) f
       at_place run own rest zero u is = record { run = run; both = both; run_is = refl; both_is = refl; is = own }
       at_place run own rest (suc n) u is = further run rest.runs both switches n (rest.each n u is)
 
-fits : (net : Network) (given : Given) (came : List (List Text)) (left : List Results) (switches : List (Tally × State)) → IsOfFile net → IsFittingNetwork net → KeepTheirLines net given → IsFedBy net given left came
+fits : (net : Network) (given : Given) (came : List (List Text)) (left : List Results) (switches : List (Tally × State)) → IsOfFile net → IsFittingNetwork net
+    → KeepTheirLines net given → IsFedBy net given left came
     → (all : AreRunsOf net.tables came left switches) → IsFittingRun net given all.runs
 fits net given came left switches of_file fitting lines fed all =
     let fed_so : IsFedBy net given left (map (λ (run : SwitchRun). run.texts) all.runs) = subst (IsFedBy net given left) (sym all.came_is) fed in

@@ -22,7 +22,7 @@ use Rattle.afdx_session.specs.Streams.{sent_up_to}
 use Rattle.afdx_session.specs.Outcome.{Results}
 use Rattle.afdx_paced.specs.Paced.{Lane, Paced, arrivals, sends_up_to, out_up_to, lane_at, HasTakenAll}
 use Rattle.afdx_paced.specs.Laws.{OutGoesOn, OutIsInOrder, SendsGoOn}
-use Rattle.afdx_wiring.specs.Net.{Network, wire_to}
+use Rattle.afdx_network_check.specs.Net.{Network, wire_to}
 use Rattle.afdx_origins.specs.Origins.{Origins, sent_from}
 use Rattle.afdx_network.specs.Runs.{Given, KeepTheirLines, IsUncheckedRunOf}
 use Rattle.afdx_network.specs.Watched.{IsEnded, AreEnded, HaveSent}

@@ -15,7 +15,7 @@ use Rattle.afdx_merging.specs.Read.{AreRead, AreMerged}
 use Rattle.afdx_session.specs.Texts.{Text}
 use Rattle.afdx_session.specs.Lined.{RecordsKeepToLineWithin}
 use Rattle.afdx_wiring.specs.declared.layout.End.{End}
-use Rattle.afdx_wiring.specs.Net.{Network, stamp_rounding}
+use Rattle.afdx_network_check.specs.Net.{Network, stamp_rounding}
 use Rattle.afdx_network.specs.Runs.{Given, KeepTheirLines}
 use Rattle.afdx_network.specs.Given.{is_open, ends_from, open_ends, AreOpen, AreGiven, AreGivenBy}
 use Rattle.afdx_network.specs.Inner.Intake.{same_clock, records_at, AreGivenSoFar, AreOverLines}
@@ -132,7 +132,8 @@ IsOfItsPlace net came e text = (place : ℕ) × (slice_get (open_ends net) place
 abbrev pub AreOfTheirPlaces : Network → List Arrival → Given → Type 0
 AreOfTheirPlaces net came given = (n : ℕ) (own : List Text) (text : Text) → slice_get given n ≡ Some own → Contains own text → IsOfItsPlace net came (end_at n text.0) text.1
 
-module _ {R : Type 0} (remaining : R → Option (List ℕ)) (net : Network) (first : List R) (came : List Arrival) (merged : AreMerged remaining (map (λ (e : End). same_clock) (open_ends net)) first came) where
+module _ {R : Type 0} (remaining : R → Option (List ℕ)) (net : Network) (first : List R) (came : List Arrival)
+    (merged : AreMerged remaining (map (λ (e : End). same_clock) (open_ends net)) first came) where
   many : length merged.texts ≡ length (open_ends net)
   many =
       let captures = merged.merge.many in let same = merged.are.many in

@@ -11,7 +11,7 @@ use Rattle.afdx_session.specs.Output.{written}
 use Rattle.afdx_session.specs.Streams.{AllStartBeforeTheLastInstant}
 use Rattle.afdx_paced.specs.Paced.{Paced, arrivals, IsNext}
 use Rattle.afdx_paced.specs.Laws.{OutGoesOn}
-use Rattle.afdx_wiring.specs.Net.{Network}
+use Rattle.afdx_network_check.specs.Net.{Network}
 use Rattle.afdx_network.specs.Runs.{Given}
 use Rattle.afdx_network.specs.Inner.Sites.{Site, IsSite, HasSent, IsIn, HasCome, acts_before, SendsOn}
 use Rattle.afdx_network.proofs.Found.{found_passes}

@@ -5,10 +5,10 @@ use Rattle.std.specs.List.{AllZip}
 use Rattle.afdx_pcap.specs.Record.{Record}
 use Rattle.afdx_jitter.specs.declared.delays.Delays.{Delays}
 use Rattle.afdx_wiring.specs.declared.layout.End.{End}
-use Rattle.afdx_wiring.specs.declared.ways.Way.{Way}
-use Rattle.afdx_wiring.specs.Net.{Network}
-use Rattle.afdx_wiring.specs.Ways.{AreWaysOf}
-use Rattle.afdx_wiring.specs.Outage.{up_of}
+use Rattle.afdx_network_check.specs.declared.ways.Way.{Way}
+use Rattle.afdx_network_check.specs.Net.{Network}
+use Rattle.afdx_network_check.specs.Ways.{AreWaysOf}
+use Rattle.afdx_network_check.specs.Outage.{up_of}
 use Rattle.afdx_network.specs.Way.{Stage, Leg, last_stage, passed_at, leave, IsDelivered}
 use Rattle.afdx_network.specs.Runs.{SwitchRun, Given}
 use Rattle.afdx_network.specs.Ways.{node_of, IsWayIn}

@@ -13,7 +13,7 @@ use Rattle.afdx_session.specs.Headline.{IsIsolated}
 use Rattle.afdx_session.specs.Lined.{RecordsKeepToLineWithin}
 use Rattle.afdx_wiring.specs.declared.layout.Wire.{Wire}
 use Rattle.afdx_wiring.specs.declared.layout.End.{End}
-use Rattle.afdx_wiring.specs.Net.{Network, port_at, wire_to, stamp_rounding}
+use Rattle.afdx_network_check.specs.Net.{Network, port_at, wire_to, stamp_rounding}
 use Rattle.afdx_network.specs.Way.{delayed}
 
 -- the headline is of the records that were read and of the outputs

@@ -9,7 +9,7 @@ use Rattle.afdx_core.specs.State.{State, sent_in}
 use Rattle.afdx_session.specs.Texts.{Text}
 use Rattle.afdx_session.specs.Output.{rows_of}
 use Rattle.afdx_session.specs.Outcome.{Results, IsOutcome}
-use Rattle.afdx_wiring.specs.Net.{Network}
+use Rattle.afdx_network_check.specs.Net.{Network}
 use Rattle.afdx_origins.specs.Origins.{Origins, sent_from}
 use Rattle.afdx_origins.specs.Laws.{KeepBounds}
 use Rattle.afdx_network.specs.Runs.{Given, IsUncheckedRunOf}

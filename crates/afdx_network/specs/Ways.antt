@@ -2,7 +2,7 @@
 use Rattle.std.specs.Prelude.{◌≡◌, true, false, List, [], ◌∷◌, slice_get, Some, Contains}
 use Rattle.afdx_table.specs.Link.{leads_to}
 use Rattle.afdx_wiring.specs.declared.layout.Wire.{Wire}
-use Rattle.afdx_wiring.specs.Net.{Network, Row, ingress, wire_to, IsSource, least_at, bound_at}
+use Rattle.afdx_network_check.specs.Net.{Network, Row, ingress, wire_to, IsSource, least_at, bound_at}
 use Rattle.afdx_network.specs.Way.{Node, Stage, Leg}
 use Rattle.afdx_network.specs.Runs.{SwitchRun}
 

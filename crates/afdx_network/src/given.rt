@@ -1,14 +1,15 @@
 //! What a run asks for: which captures are to be given, and that no two wires go to one port.
 
 ghost use Rattle.std.specs.Prelude.{◌≡◌, ◌++◌, map, filter, All, IfErr, IfOk, OnOk, Some, IsTrue, ◌↔◌};
-ghost use Rattle.afdx_wiring.specs.Net.{wire_to};
+ghost use Rattle.afdx_network_check.specs.Net.{wire_to};
 ghost use Rattle.afdx_network.specs.declared.fault.NetworkRunFault.TheVariants.{WrongWires};
 ghost use Rattle.afdx_network.specs.Given.{is_open, open_ends, all_ends, NoneShareAPort};
 ghost use Rattle.afdx_network.specs.Inner.Sites.{end_at};
 
 use crate::fault::NetworkRunFault;
+use afdx_network_check::Network;
 use afdx_table::Table;
-use afdx_wiring::{End, Network, Wire};
+use afdx_wiring::{End, Wire};
 use std::alloc::{AllocError, Global};
 
 /// Tells whether no wire goes to this port of the switch at this place, so that its capture is one of those that are given. O(wires).

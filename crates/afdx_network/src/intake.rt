@@ -2,7 +2,7 @@
 
 ghost use Rattle.std.specs.Prelude.{◌≡◌, ◌++◌, [], List, None, length, map, IfOk, IfErr, OnOk, IfSome, IfNone};
 ghost use Rattle.afdx_merging.specs.Merge.{Arrival as Came};
-ghost use Rattle.afdx_wiring.specs.Net.{Network as Net};
+ghost use Rattle.afdx_network_check.specs.Net.{Network as Net};
 ghost use Rattle.afdx_network.specs.Given.{open_ends};
 ghost use Rattle.afdx_network.specs.Inner.Intake.{same_clock, HasTaken, next_of, IsNextIn, HasTakenAll, AreMet, AreOverLines, IsLineFault, IsAmong, IsFaultAt, IsIntakeFault};
 
@@ -11,9 +11,10 @@ use crate::given::open_ends;
 use crate::line::Line;
 use crate::one_line::{first_breach, given_lines, meet};
 use afdx_merging::{Clock, MergeFault, Merging};
+use afdx_network_check::Network;
 use afdx_pcap::Record;
 use afdx_units::Stamp;
-use afdx_wiring::{End, Network};
+use afdx_wiring::End;
 use std::alloc::{AllocError, Global};
 use std::io::Read;
 

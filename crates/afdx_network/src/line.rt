@@ -7,9 +7,9 @@ ghost use Rattle.afdx_pcap.specs.Record.{Record};
 ghost use Rattle.afdx_serial.specs.Serial.{soonest};
 
 use afdx_merging::Head;
+use afdx_network_check::STAMP_ROUNDING;
 use afdx_serial::laws::soonest_instants_decide;
 use afdx_units::{Speed, cost, size};
-use afdx_wiring::STAMP_ROUNDING;
 use std::alloc::Global;
 
 /// The line of a port, over which records come.

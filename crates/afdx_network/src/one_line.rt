@@ -4,7 +4,7 @@ ghost use Rattle.std.specs.Prelude.{◌≡◌, ◌+◌, ◌++◌, ◌∷◌, [],
 ghost use Rattle.std.specs.List.{AllZip};
 ghost use Rattle.afdx_table.specs.WellFormed.{IsWellFormed};
 ghost use Rattle.afdx_merging.specs.Merge.{Arrival as Came};
-ghost use Rattle.afdx_wiring.specs.Net.{Network as Net};
+ghost use Rattle.afdx_network_check.specs.Net.{Network as Net};
 ghost use Rattle.afdx_network.specs.declared.line.Line.{Line as Kept};
 ghost use Rattle.afdx_network.specs.Inner.Intake.{records_at, AreMet};
 ghost use Rattle.afdx_network.specs.Inner.OneLine.{IsNew, open_rows, IsFirstBroken};
@@ -12,8 +12,8 @@ ghost use Rattle.afdx_network.specs.Inner.OneLine.{IsNew, open_rows, IsFirstBrok
 use crate::given::is_open;
 use crate::line::Line;
 use afdx_merging::Arrival;
+use afdx_network_check::Network;
 use afdx_table::Table;
-use afdx_wiring::Network;
 use std::alloc::{AllocError, Global};
 
 /// Appends the lines of a switch's ports to which no wire goes.

@@ -4,8 +4,9 @@ ghost use Rattle.std.specs.Prelude.{◌≡◌, List, length, IfOk, Some, if◌th
 ghost use Rattle.afdx_pcap.specs.Text.{capture_text};
 ghost use Rattle.afdx_network.specs.Outage.{coming, comes, AreComing};
 
+use afdx_network_check::Network;
 use afdx_pcap::write_header;
-use afdx_wiring::{End, Network};
+use afdx_wiring::End;
 use std::alloc::{AllocError, Global};
 use std::io::Read;
 

@@ -20,11 +20,11 @@ use crate::windows::{counts_of, go_through, sites_of};
 use afdx_count::Counts;
 use afdx_folder::NewFile;
 use afdx_measure::Wanted;
+use afdx_network_check::{ClearedNetwork, Network};
 use afdx_origins::Origins;
 use afdx_paced::laws::{out_goes_on, out_is_in_order};
 use afdx_pcap::laws::{each_file_has_one_reading, what_is_written_is_a_capture};
 use afdx_session::laws::outcomes_isolate;
-use afdx_wiring::{ClearedNetwork, Network};
 use std::alloc::Global;
 use std::io::Read;
 

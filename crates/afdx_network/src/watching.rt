@@ -15,10 +15,10 @@ use crate::windows::measured_of;
 use afdx_count::Counts;
 use afdx_folder::NewFile;
 use afdx_measure::{Measured, Wanted};
+use afdx_network_check::Network;
 use afdx_origins::Origins;
 use afdx_paced::laws::{out_goes_on, out_is_in_order, sends_go_on};
 use afdx_pcap::laws::what_is_written_is_a_capture;
-use afdx_wiring::Network;
 use std::alloc::{AllocError, Global};
 use std::io::Read;
 

@@ -12,7 +12,7 @@ ghost use Rattle.afdx_merging.specs.Merge.{Arrival};
 ghost use Rattle.afdx_measure.specs.Wanted.{keeps_lists};
 ghost use Rattle.afdx_wiring.specs.File.{is_end};
 ghost use Rattle.afdx_wiring.specs.declared.layout.Wire.{Wire as Cable};
-ghost use Rattle.afdx_wiring.specs.Net.{wire_to, Network as Net};
+ghost use Rattle.afdx_network_check.specs.Net.{wire_to, Network as Net};
 ghost use Rattle.afdx_network.specs.declared.fault.NetworkRunFault.TheVariants as fault;
 ghost use Rattle.afdx_network.specs.Way.{delayed};
 ghost use Rattle.afdx_network.specs.Runs.{Given};
@@ -34,6 +34,7 @@ use afdx_core::laws::by_stamp_is_ordered;
 use afdx_count::Counts;
 use afdx_folder::NewFile;
 use afdx_measure::{Measured, Wanted};
+use afdx_network_check::Network;
 use afdx_origins::Origins;
 use afdx_paced::laws::{
     later_records_change_nothing, later_records_send_nothing, nothing_leaves_before, out_goes_on,
@@ -46,7 +47,7 @@ use afdx_pcap::{PcapFault, Record};
 use afdx_port::Sent;
 use afdx_session::laws::{all_start_before_the_last_instant, records_are_early};
 use afdx_units::{LEAST_SIZE, Stamp, cost};
-use afdx_wiring::{End, Network, Wire};
+use afdx_wiring::{End, Wire};
 use std::alloc::{AllocError, Global};
 use std::io::Read;
 

@@ -3,8 +3,8 @@ use Rattle.std.specs.Prelude.{ℕ, ◌-◌, ◌==◌, Bool, true, codes, max, if
 use Rattle.std.specs.Fmt.{decimal}
 use Rattle.std.specs.Option.{option_map_or}
 use Rattle.afdx_wiring.specs.declared.layout.End.{End}
-use Rattle.afdx_wiring.specs.declared.ways.Way.{Way}
-use Rattle.afdx_wiring.specs.declared.jitters.RowNeed.{RowNeed}
+use Rattle.afdx_network_check.specs.declared.ways.Way.{Way}
+use Rattle.afdx_network_check.specs.declared.jitters.RowNeed.{RowNeed}
 use Rattle.afdx_wiring.specs.Lines.{as_line}
 
 -- the names of the switches, by their places

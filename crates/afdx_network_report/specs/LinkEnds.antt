@@ -4,8 +4,9 @@ use Rattle.std.specs.Fmt.{decimal}
 use Rattle.std.specs.Option.{option_map, option_map_or}
 use Rattle.afdx_jitter.specs.declared.delays.Delays.{Delays as Bounds}
 use Rattle.afdx_measure.specs.declared.delays.Delays.{Delays}
+use Rattle.afdx_measure.specs.Delays.{least_of, greatest_of}
 use Rattle.afdx_wiring.specs.declared.layout.End.{End}
-use Rattle.afdx_wiring.specs.declared.ways.Way.{Way}
+use Rattle.afdx_network_check.specs.declared.ways.Way.{Way}
 use Rattle.afdx_network_report.specs.declared.link_ends.LinkEnd.{LinkEnd}
 use Rattle.afdx_network_report.specs.Lines.{Names, end_text, last_end}
 
@@ -23,7 +24,7 @@ come_in_text names from = option_map_or (end_text names) from (codes "-")
 
 -- the least and the greatest of some delays, and what is promised of them
 abbrev pub delays_text : Delays → List ℕ
-delays_text d = codes " least " ++ number_text (option_map (λ r. r.least) d.range) ++ codes " greatest " ++ number_text (option_map (λ r. r.greatest) d.range)
+delays_text d = codes " least " ++ number_text (least_of d) ++ codes " greatest " ++ number_text (greatest_of d)
 
 abbrev pub bounds_text : Option Bounds → List ℕ
 bounds_text bounds = codes " bound " ++ number_text (option_map (λ b. b.least) bounds) ++ codes " to " ++ number_text (option_map (λ b. b.most) bounds)

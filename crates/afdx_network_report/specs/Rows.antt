@@ -3,9 +3,10 @@
 use Rattle.std.specs.Prelude.{ℕ, codes, decimal, List, [], ◌∷◌, ◌++◌, map, flat_map, Option}
 use Rattle.std.specs.Option.{option_map, option_map_or}
 use Rattle.afdx_measure.specs.declared.delays.Delays.{Delays}
+use Rattle.afdx_measure.specs.Delays.{least_of, greatest_of}
 use Rattle.afdx_wiring.specs.declared.layout.End.{End}
-use Rattle.afdx_wiring.specs.declared.ways.Way.{Way}
-use Rattle.afdx_wiring.specs.declared.jitters.RowNeed.{RowNeed}
+use Rattle.afdx_network_check.specs.declared.ways.Way.{Way}
+use Rattle.afdx_network_check.specs.declared.jitters.RowNeed.{RowNeed}
 use Rattle.afdx_csv.specs.Csv.{optional, heading, row}
 use Rattle.afdx_csv.specs.Slack.{slack_text, share_text}
 use Rattle.afdx_network_report.specs.Lines.{Names, name_of, end_text, last_end}
@@ -52,12 +53,6 @@ abbrev pub needs_rows : Names → List RowNeed → List ℕ
 needs_rows names rows = heading need_columns ++ flat_map (need_row names) rows
 
 -- ---- delays from end to end
-
-abbrev pub least_of : Delays → Option ℕ
-least_of d = option_map (λ r. r.least) d.range
-
-abbrev pub greatest_of : Delays → Option ℕ
-greatest_of d = option_map (λ r. r.greatest) d.range
 
 abbrev pub least_bound : LinkEnd → Option ℕ
 least_bound e = option_map (λ b. b.least) e.bounds

@@ -5,7 +5,8 @@ ghost use Rattle.afdx_wiring.specs.Lines.{as_line};
 ghost use Rattle.afdx_network_report.specs.Lines.{last_end, numbers_text, way_text, lost_text, premise_text, longest, greatest_of, greatest_text, accepted_text};
 
 use crate::ends::{put_end, put_ends};
-use afdx_wiring::{End, Way};
+use afdx_network_check::Way;
+use afdx_wiring::End;
 use std::alloc::{AllocError, Global};
 
 /// Appends numbers, with a space before each.

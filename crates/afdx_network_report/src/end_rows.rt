@@ -1,7 +1,7 @@
 //! The delays of links from end to end, as comma-separated values.
 
 ghost use Rattle.std.specs.Prelude.{◌≡◌, ◌++◌, map, string_bytes, IfOk, OnOk};
-ghost use Rattle.afdx_network_report.specs.Rows.{least_of, greatest_of, least_bound, bound_of, come_in_field, end_fields, link_end_row};
+ghost use Rattle.afdx_network_report.specs.Rows.{least_bound, bound_of, come_in_field, end_fields, link_end_row};
 
 use crate::link_ends::LinkEnd;
 use crate::rows::end_field;
@@ -10,37 +10,7 @@ use afdx_measure::Delays;
 use afdx_wiring::End;
 use std::alloc::{AllocError, Global};
 
-/// A field with a number of 64 bits, where there is one.
-fn optional(number: Option<u64>) -> Field<'static>
-    ensures { result ≡ Field.Number number }
-{
-    match number {
-        Some(number) => Field::Number(Some(u128::from(number))),
-        None => Field::Number(None),
-    }
-}
-
-/// The least of some delays, if there is one.
-fn least_of(delays: &Delays) -> Option<u64>
-    ensures { result ≡ least_of delays.now }
-{
-    match delays.range {
-        Some(range) => Some(range.least),
-        None => None,
-    }
-}
-
-/// The greatest of them.
-fn greatest_of(delays: &Delays) -> Option<u64>
-    ensures { result ≡ greatest_of delays.now }
-{
-    match delays.range {
-        Some(range) => Some(range.greatest),
-        None => None,
-    }
-}
-
-/// The least that is promised, where something is.
+/// Returns the least that is promised, where something is.
 fn least_bound(end: &LinkEnd) -> Option<u64>
     ensures { result ≡ least_bound end.now }
 {
@@ -50,7 +20,7 @@ fn least_bound(end: &LinkEnd) -> Option<u64>
     }
 }
 
-/// The most that is promised.
+/// Returns the most that is promised.
 fn bound_of(end: &LinkEnd) -> Option<u128>
     ensures { result ≡ bound_of end.now }
 {
@@ -60,7 +30,7 @@ fn bound_of(end: &LinkEnd) -> Option<u128>
     }
 }
 
-/// The port at which a link comes in; nothing where there is none.
+/// Writes the port at which a link comes in; nothing where there is none.
 fn come_in_field(alloc: Global, names: &[String], from: Option<End>) -> Result<String, AllocError>
     ensures { IfOk result (λ text. string_bytes text ≡ come_in_field (map string_bytes names.now) from) }
 {
@@ -82,7 +52,7 @@ fn put_fields<'x>(
     ensures { OnOk result (string_bytes text.new
         ≡ string_bytes text.old ++ end_fields (map (λ name. name.now) columns.now) from.now to.now end.now delays.now) }
 {
-    let greatest = greatest_of(delays);
+    let greatest = delays.greatest();
     let bound = bound_of(end);
     put_row(
         text,
@@ -93,9 +63,9 @@ fn put_fields<'x>(
             ("from", Field::Word(from)),
             ("to", Field::Word(to)),
             ("sent", Field::Number(Some(delays.count as u128))),
-            ("least", optional(least_of(delays))),
-            ("greatest", optional(greatest)),
-            ("least_bound", optional(least_bound(end))),
+            ("least", Field::of(delays.least())),
+            ("greatest", Field::of(greatest)),
+            ("least_bound", Field::of(least_bound(end))),
             ("bound", Field::Number(bound)),
             ("slack", slack(greatest, bound)),
             ("slack_per_mille", slack_per_mille(greatest, bound)),
@@ -104,7 +74,7 @@ fn put_fields<'x>(
 }
 
 /// Appends, under these columns, the row of a link at a port at which it leads out of the network: where its frames come in, how many left,
-/// what they took beside what they may take, and how much of the most the greatest left.
+/// what they took in nanoseconds beside what they may take, and how much of the most the greatest left.
 ///
 /// An error says that memory ran out; the text is then of no use. O(row).
 pub fn put_link_end_row(

@@ -4,7 +4,7 @@ ghost use Rattle.std.specs.Prelude.{◌≡◌, ◌++◌, map, string_bytes, IfOk
 ghost use Rattle.afdx_network_report.specs.Lines.{jitter_line, jitter_text};
 
 use crate::ends::name_of;
-use afdx_wiring::RowNeed;
+use afdx_network_check::RowNeed;
 use std::alloc::{AllocError, Global};
 
 /// Appends the line of a row.

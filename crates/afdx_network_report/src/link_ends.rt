@@ -8,7 +8,8 @@ use crate::accepted::last_end;
 use crate::ends::put_end;
 use afdx_jitter::Delays as Bounds;
 use afdx_measure::Delays;
-use afdx_wiring::{End, Way};
+use afdx_network_check::Way;
+use afdx_wiring::End;
 use std::alloc::AllocError;
 
 /// A link and a port at which it leads out of a network.
@@ -62,12 +63,8 @@ fn put_from(text: &mut String, names: &[String], from: Option<End>) -> Result<()
 fn put_delays(text: &mut String, delays: &Delays) -> Result<(), AllocError>
     ensures { OnOk result (string_bytes text.new ≡ string_bytes text.old ++ delays_text delays.now) }
 {
-    let (least, greatest) = match delays.range {
-        Some(range) => (Some(range.least), Some(range.greatest)),
-        None => (None, None),
-    };
-    put_number(text, " least ", least)?;
-    put_number(text, " greatest ", greatest)
+    put_number(text, " least ", delays.least())?;
+    put_number(text, " greatest ", delays.greatest())
 }
 
 /// Appends what is promised of them.

@@ -7,7 +7,8 @@ ghost use Rattle.afdx_network_report.specs.Rows.{joined, fields_row, way_row, lo
 use crate::accepted::last_end;
 use crate::ends::{name_of, put_end};
 use afdx_csv::{Field, put_heading, put_row};
-use afdx_wiring::{End, RowNeed, Way};
+use afdx_network_check::{RowNeed, Way};
+use afdx_wiring::End;
 use std::alloc::{AllocError, Global};
 
 /// The columns of `network check`.

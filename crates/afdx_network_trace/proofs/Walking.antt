@@ -6,7 +6,7 @@ use Rattle.std.proofs.lemmas.List.{length-map, length-append, get_or_append_left
 use Rattle.std.proofs.lemmas.Option.{same_Some, slice_get-map, slice_get_within, get_or_from_slice_get}
 use Rattle.afdx_core.specs.declared.step.Row.{Row}
 use Rattle.afdx_core.specs.State.{State}
-use Rattle.afdx_wiring.specs.Net.{Network}
+use Rattle.afdx_network_check.specs.Net.{Network}
 use Rattle.afdx_network_trace.specs.First.{wire_of, first_by, first_within, AreFirstNumbers, HaveFirstNumbers}
 
 less_one : (n : ℕ) → n ≡ suc n - 1

@@ -9,7 +9,7 @@ use Rattle.afdx_core.specs.Rows.{each_after}
 use Rattle.afdx_core.specs.State.{State, sent_in}
 use Rattle.afdx_wiring.specs.declared.layout.End.{End}
 use Rattle.afdx_wiring.specs.declared.layout.Wire.{Wire}
-use Rattle.afdx_wiring.specs.Net.{Network, wire_to}
+use Rattle.afdx_network_check.specs.Net.{Network, wire_to}
 
 -- an arrival's place among those of its port, counted from 0
 abbrev pub place_of : List Row → Row → ℕ

@@ -4,7 +4,8 @@ ghost use Rattle.std.specs.Prelude.{◌≡◌, map, length, IfOk, option_copied,
 ghost use Rattle.afdx_network_trace.specs.First.{places_of, place_at, row_at, wire_of, copy_at, number_before, first_within, first_number, AreFirstNumbers, HaveFirstNumbers};
 
 use afdx_core::{Done, Row};
-use afdx_wiring::{End, Network, Wire};
+use afdx_network_check::Network;
+use afdx_wiring::{End, Wire};
 use std::alloc::{AllocError, Global};
 
 /// A way has each switch at most once, and there are at most so many.

@@ -14,8 +14,8 @@ use Rattle.afdx_measure.specs.Delays.{summary_of, RangeIsOfDelays}
 use Rattle.afdx_jitter.specs.declared.delays.Delays.{Delays as Bounds}
 use Rattle.afdx_wiring.specs.declared.layout.End.{End}
 use Rattle.afdx_wiring.specs.declared.layout.Wire.{Wire}
-use Rattle.afdx_wiring.specs.Net.{Network, Row, Back, row_in, row_at, IsWayBack, AreDelays}
-use Rattle.afdx_wiring.specs.Order.{leading, row_before}
+use Rattle.afdx_network_check.specs.Net.{Network, Row, Back, row_in, row_at, IsWayBack, AreDelays}
+use Rattle.afdx_network_check.specs.Order.{leading, row_before}
 use Rattle.afdx_origins.specs.declared.departure.Departure.{Departure}
 use Rattle.afdx_origins.specs.Origins.{sent_from, of_link, Hop, CameOver, IsDelay}
 use Rattle.afdx_origins.specs.Laws.{KeepBounds, NoneTakesMoreThanItsWay}

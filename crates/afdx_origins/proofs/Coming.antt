@@ -10,7 +10,7 @@ use Rattle.afdx_port.specs.declared.Sent.{Sent}
 use Rattle.afdx_table.specs.Link.{Link}
 use Rattle.afdx_table.specs.Content.{Content}
 use Rattle.afdx_wiring.specs.declared.layout.Wire.{Wire}
-use Rattle.afdx_wiring.specs.Net.{Network, Row, wire_to, row_at}
+use Rattle.afdx_network_check.specs.Net.{Network, Row, wire_to, row_at}
 use Rattle.afdx_origins.specs.declared.departure.Departure.{Departure}
 use Rattle.afdx_origins.specs.declared.at_link.Coming.{Coming}
 use Rattle.afdx_origins.specs.declared.at_link.AtLink.{AtLink}
@@ -125,7 +125,8 @@ comes_more net all w link end first place l at old s first_to is from at_is with
     over = comes_over net all w link end first place l first_to leaves is from at at_is
 
     known : (k : ℕ) (m : Link) (a : AtLink) → slice_get t.links k ≡ Some m → All (IsOnItsWay net all (record { switch = n; link = m })) (get_or was_links k a).coming.items
-    known k m a is_link = subst (λ (x : AtSwitch). All (IsOnItsWay net all (record { switch = n; link = m })) (get_or x.links.items k a).coming.items) (ap (λ i. get_or old i d) here) (was.each k m a is_link)
+    known k m a is_link = subst (λ (x : AtSwitch). All (IsOnItsWay net all (record { switch = n; link = m })) (get_or x.links.items k a).coming.items) (ap (λ i. get_or old i d) here)
+        (was.each k m a is_link)
 
     row : (k : ℕ) (m : Link) → k ≡ place → slice_get t.links k ≡ Some m → l ≡ m
     row k m same is_link =

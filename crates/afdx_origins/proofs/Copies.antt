@@ -10,7 +10,7 @@ use Rattle.afdx_measure.specs.declared.delays.Delays.{Delays}
 use Rattle.afdx_measure.specs.Delays.{summary_of}
 use Rattle.afdx_wiring.specs.declared.layout.End.{End}
 use Rattle.afdx_wiring.specs.File.{is_end}
-use Rattle.afdx_wiring.specs.Net.{Network, Row}
+use Rattle.afdx_network_check.specs.Net.{Network, Row}
 use Rattle.afdx_origins.specs.declared.departure.Departure.{Departure}
 use Rattle.afdx_origins.specs.Origins.{sent_from, of_link, Hop, CameOver, CameFirst, IsDelay, IsSummary}
 

@@ -8,7 +8,7 @@ use Rattle.std.proofs.lemmas.List.Elements.{Contains-append_right}
 use Rattle.afdx_port.specs.declared.Sent.{Sent}
 use Rattle.afdx_table.specs.Link.{Link}
 use Rattle.afdx_table.specs.Content.{Content}
-use Rattle.afdx_wiring.specs.Net.{Network}
+use Rattle.afdx_network_check.specs.Net.{Network}
 use Rattle.afdx_origins.specs.declared.departure.Departure.{Departure}
 use Rattle.afdx_origins.specs.declared.at_link.Coming.{Coming}
 use Rattle.afdx_origins.specs.declared.at_link.AtLink.{AtLink}

@@ -6,8 +6,8 @@ use Rattle.std.proofs.lemmas.Option.{same_Some, slice_get-get_or}
 use Rattle.afdx_port.specs.declared.Sent.{Sent}
 use Rattle.afdx_wiring.specs.declared.layout.End.{End}
 use Rattle.afdx_wiring.specs.declared.layout.Wire.{Wire}
-use Rattle.afdx_wiring.specs.Net.{Network, Row}
-use Rattle.afdx_wiring.specs.Order.{row_before}
+use Rattle.afdx_network_check.specs.Net.{Network, Row}
+use Rattle.afdx_network_check.specs.Order.{row_before}
 use Rattle.afdx_origins.specs.declared.departure.Departure.{Departure}
 use Rattle.afdx_origins.specs.Origins.{sent_from, of_link, Hop, CameOver}
 use Rattle.afdx_origins.specs.Laws.{EndApart, OriginIsOne}

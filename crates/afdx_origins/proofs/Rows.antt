@@ -13,8 +13,8 @@ use Rattle.afdx_table.specs.Inner.Found.{LinksAreFound, LinksAreAtTheirPlaces}
 use Rattle.afdx_wiring.specs.declared.layout.End.{End}
 use Rattle.afdx_wiring.specs.declared.layout.Wire.{Wire}
 use Rattle.afdx_wiring.specs.File.{is_end}
-use Rattle.afdx_wiring.specs.Net.{Network, Row, row_in, row_at}
-use Rattle.afdx_wiring.specs.Order.{leading, row_before}
+use Rattle.afdx_network_check.specs.Net.{Network, Row, row_in, row_at}
+use Rattle.afdx_network_check.specs.Order.{leading, row_before}
 use Rattle.afdx_origins.specs.Inner.Known.{IsRowAt}
 
 -- ---- rows

@@ -5,7 +5,7 @@ use Rattle.std.proofs.lemmas.List.Elements.{All-nil}
 use Rattle.std.proofs.lemmas.List.Quantifiers.{position-Some}
 use Rattle.std.proofs.lemmas.Option.{slice_get_within}
 use Rattle.afdx_table.specs.Content.{Content}
-use Rattle.afdx_wiring.specs.Net.{Network, Row}
+use Rattle.afdx_network_check.specs.Net.{Network, Row}
 use Rattle.afdx_origins.specs.declared.at_switch.AtSwitch.{AtSwitch}
 use Rattle.afdx_origins.specs.Inner.Known.{IsOnItsWay, IsFreshSwitch, AreKnown}
 

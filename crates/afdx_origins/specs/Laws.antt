@@ -4,9 +4,9 @@ use Rattle.afdx_port.specs.declared.Sent.{Sent}
 use Rattle.afdx_measure.specs.declared.delays.Delays.{Delays}
 use Rattle.afdx_table.specs.declared.rows.PortRow.{PortRow}
 use Rattle.afdx_wiring.specs.declared.layout.End.{End}
-use Rattle.afdx_wiring.specs.declared.ways.Way.{Way}
-use Rattle.afdx_wiring.specs.Net.{Network, Row, row_at, port_at, bound_at}
-use Rattle.afdx_wiring.specs.Ways.{IsWayAlong}
+use Rattle.afdx_network_check.specs.declared.ways.Way.{Way}
+use Rattle.afdx_network_check.specs.Net.{Network, Row, row_at, port_at, bound_at}
+use Rattle.afdx_network_check.specs.Ways.{IsWayAlong}
 use Rattle.afdx_origins.specs.declared.departure.Departure.{Departure}
 use Rattle.afdx_origins.specs.Origins.{sent_from, of_link, CameFirst, IsSummary}
 

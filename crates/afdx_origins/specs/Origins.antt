@@ -8,8 +8,8 @@ use Rattle.afdx_measure.specs.Delays.{summary_of}
 use Rattle.afdx_wiring.specs.declared.layout.End.{End}
 use Rattle.afdx_wiring.specs.declared.layout.Wire.{Wire}
 use Rattle.afdx_wiring.specs.File.{is_end}
-use Rattle.afdx_wiring.specs.Net.{Network, Row, ingress, wire_to, row_at, IsSource}
-use Rattle.afdx_wiring.specs.Order.{row_before}
+use Rattle.afdx_network_check.specs.Net.{Network, Row, ingress, wire_to, row_at, IsSource}
+use Rattle.afdx_network_check.specs.Order.{row_before}
 use Rattle.afdx_origins.specs.declared.departure.Departure.{Departure}
 
 -- a network, and the copies that its ports sent so far

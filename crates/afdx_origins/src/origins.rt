@@ -4,8 +4,8 @@ ghost use Rattle.std.specs.Prelude.{◌≡◌, ◌<◌, ℕ, [], ◌==◌, List,
 ghost use Rattle.afdx_port.specs.declared.Sent.{Sent as Copy};
 ghost use Rattle.afdx_table.specs.Link.{Link};
 ghost use Rattle.afdx_wiring.specs.File.{is_end};
-ghost use Rattle.afdx_wiring.specs.Net.{Row as Line, wire_to};
-ghost use Rattle.afdx_wiring.specs.Order.{row_before};
+ghost use Rattle.afdx_network_check.specs.Net.{Row as Line, wire_to};
+ghost use Rattle.afdx_network_check.specs.Order.{row_before};
 ghost use Rattle.afdx_origins.specs.declared.departure.Departure.{Departure as Went};
 ghost use Rattle.afdx_origins.specs.Origins.{CameFirst, IsSummary, after_sending, of_link, sent_from};
 ghost use Rattle.afdx_origins.specs.Inner.Known.{IsRowAt, AreComing, AreKnown, KeepDelays, HaveDelayMore, Leaves};
@@ -14,12 +14,13 @@ use crate::at_link::Coming;
 use crate::at_switch::AtSwitch;
 use crate::departure::Departure;
 use afdx_measure::Delays;
+use afdx_network_check::Network;
 use afdx_past::Gone;
 use afdx_port::Sent;
 use afdx_table::LinkRow;
 use afdx_table::laws::{links_are_at_their_places, links_are_found};
 use afdx_units::Stamp;
-use afdx_wiring::{End, Network, Wire};
+use afdx_wiring::{End, Wire};
 use std::alloc::{AllocError, Global};
 use std::marker::Model;
 

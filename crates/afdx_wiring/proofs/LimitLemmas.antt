@@ -1,5 +1,6 @@
 -- A layout that is read is within the limits of the file.
-use Rattle.std.proofs.Common.{◌≡◌, ℕ, ◌+◌, ◌≤◌, ◌==◌, ◌||◌, Bool, true, false, cond, nat_le, nat_lt, List, [], ◌∷◌, ◌++◌, length, Option, Some, None, Result, Ok, Err, refl, ap, arith, subst, length-append}
+use Rattle.std.proofs.Common.{◌≡◌, ℕ, ◌+◌, ◌≤◌, ◌==◌, ◌||◌, Bool, true, false, cond, nat_le, nat_lt, List, [], ◌∷◌, ◌++◌, length, Option, Some, None, Result, Ok, Err}
+use Rattle.std.proofs.Common.{refl, ap, arith, subst, length-append}
 use Rattle.std.specs.Prelude.{All}
 use Rattle.std.specs.List.{AllByRecursion}
 use Rattle.std.proofs.lemmas.Bool.Decides.{nat_tests}
@@ -16,7 +17,8 @@ use Rattle.afdx_wiring.specs.declared.layout.Wire.{Wire}
 use Rattle.afdx_wiring.specs.Refusal.{◌>>=◌, or_refuse, unless}
 use Rattle.afdx_wiring.specs.Names.{key_text}
 use Rattle.afdx_wiring.specs.Fields.{known_at, number_in, number_from, optional_number_at, flag_at, tables_at}
-use Rattle.afdx_wiring.specs.File.{Switch, Layout, Top, is_down, switch_at, switches_from, end_at, found, is_end, comes_from, goes_to, fitting, wire_at, wires_from, top_at, layout_in, tree_of, layout_of}
+use Rattle.afdx_wiring.specs.File.{Switch, Layout, Top, is_down, switch_at, switches_from, end_at, found, is_end, comes_from, goes_to, fitting, wire_at, wires_from}
+use Rattle.afdx_wiring.specs.File.{top_at, layout_in, tree_of, layout_of}
 
 -- ---- first refusals
 

@@ -1,5 +1,1 @@
-pub mod Given
 pub mod Limits
-pub mod Loads
-pub mod Staying
-pub mod Tabled

@@ -3,10 +3,4 @@ pub mod File
 pub mod Inner
 pub mod Lines
 pub mod Names
-pub mod Needs
-pub mod Net
-pub mod Order
-pub mod Outage
 pub mod Refusal
-pub mod Rules
-pub mod Ways

@@ -1,5 +1,9 @@
 //! What a network file says.
 
+ghost use Rattle.std.specs.Prelude.{◌≡◌};
+ghost use Rattle.afdx_wiring.specs.File.{is_down};
+
+use crate::switches;
 use std::marker::Model;
 
 /// A switch of the network.
@@ -67,4 +71,13 @@ impl Model for Layout {
     ghost Value = { Seen };
 
     ghost view = { λ l. record { one_line = l.one_line; switches = l.switches.items; wires = l.wires.items } };
+}
+
+impl Layout {
+    /// Whether the switch at a place is down; false where there is none. O(1).
+    pub fn is_down(&self, switch: usize) -> bool
+        ensures { result ≡ is_down self.now.switches switch }
+    {
+        switches::is_down(&self.switches, switch)
+    }
 }

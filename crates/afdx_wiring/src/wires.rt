@@ -36,8 +36,8 @@ fn found(at: At, switches: &[Switch], name: &[u8], port: u8) -> Result<End, Netw
     }
 }
 
-/// Whether two ends are one port.
-pub(crate) fn is_end(one: End, other: End) -> bool
+/// Whether two ends are one port. O(1).
+pub fn is_end(one: End, other: End) -> bool
     ensures { result ≡ is_end one other }
 {
     one.switch == other.switch && one.port == other.port

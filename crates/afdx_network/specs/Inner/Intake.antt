@@ -16,7 +16,7 @@ use Rattle.afdx_table.specs.declared.rows.PortRow.{PortRow}
 use Rattle.afdx_table.specs.WellFormed.{IsWellFormed}
 use Rattle.afdx_wiring.specs.declared.layout.End.{End}
 use Rattle.afdx_wiring.specs.File.{is_end}
-use Rattle.afdx_wiring.specs.Net.{Network, port_at, stamp_rounding}
+use Rattle.afdx_network_check.specs.Net.{Network, port_at, stamp_rounding}
 use Rattle.afdx_network.specs.declared.intake.Intake.{Intake}
 use Rattle.afdx_network.specs.declared.line.Line.{Line}
 use Rattle.afdx_network.specs.declared.fault.NetworkRunFault.{NetworkRunFault}

@@ -8,7 +8,7 @@ use Rattle.afdx_core.specs.State.{State}
 use Rattle.afdx_session.specs.Output.{rows_of}
 use Rattle.afdx_paced.specs.Paced.{Lane, Paced, arrivals, sends_up_to, lane_at, HasTakenAll}
 use Rattle.afdx_wiring.specs.declared.layout.End.{End}
-use Rattle.afdx_wiring.specs.Net.{Network}
+use Rattle.afdx_network_check.specs.Net.{Network}
 use Rattle.afdx_origins.specs.Origins.{Origins, sent_from, after_sending}
 use Rattle.afdx_network.specs.Inner.Sites.{Site, end_at, AtPorts}
 

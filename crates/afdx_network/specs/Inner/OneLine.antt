@@ -6,7 +6,7 @@ use Rattle.afdx_filter.specs.Frame.{frame_of}
 use Rattle.afdx_table.specs.declared.rows.PortRow.{PortRow}
 use Rattle.afdx_table.specs.Content.{Content}
 use Rattle.afdx_session.specs.Lined.{RecordsKeepToLineWithin}
-use Rattle.afdx_wiring.specs.Net.{Network, stamp_rounding}
+use Rattle.afdx_network_check.specs.Net.{Network, stamp_rounding}
 use Rattle.afdx_network.specs.declared.line.Line.{Line}
 use Rattle.afdx_network.specs.Given.{is_open, IsBreachAt}
 

@@ -20,7 +20,7 @@ use Rattle.afdx_paced.specs.Paced.{Lane, Paced, fresh_paced, lane_at, arrivals, 
 use Rattle.afdx_wiring.specs.declared.layout.End.{End}
 use Rattle.afdx_wiring.specs.declared.layout.Wire.{Wire}
 use Rattle.afdx_wiring.specs.File.{is_end}
-use Rattle.afdx_wiring.specs.Net.{Network, wire_to}
+use Rattle.afdx_network_check.specs.Net.{Network, wire_to}
 use Rattle.afdx_network.specs.declared.fault.NetworkRunFault.{NetworkRunFault}
 use Rattle.afdx_network.specs.declared.fault.NetworkRunFault.TheVariants as fault
 use Rattle.afdx_network.specs.Way.{delayed}

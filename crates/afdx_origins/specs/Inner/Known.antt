@@ -8,8 +8,8 @@ use Rattle.afdx_measure.specs.declared.delays.Delays.{Delays}
 use Rattle.afdx_measure.specs.Delays.{summary_of}
 use Rattle.afdx_wiring.specs.declared.layout.End.{End}
 use Rattle.afdx_wiring.specs.declared.layout.Wire.{Wire}
-use Rattle.afdx_wiring.specs.Net.{Network, Row, ingress, wire_to, row_at}
-use Rattle.afdx_wiring.specs.Order.{row_before}
+use Rattle.afdx_network_check.specs.Net.{Network, Row, ingress, wire_to, row_at}
+use Rattle.afdx_network_check.specs.Order.{row_before}
 use Rattle.afdx_origins.specs.Origins.{sent_from, of_link, CameFirst, IsSummary}
 use Rattle.afdx_origins.specs.declared.departure.Departure.{Departure}
 use Rattle.afdx_origins.specs.declared.at_link.Coming.{Coming}

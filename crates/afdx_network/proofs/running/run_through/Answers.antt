@@ -61,7 +61,8 @@ returns-in_ok-end-in-Err-Run-clause-err g c =
     let net = c.args.network.now in
     let first = c.args.readers.now in
     let s = subst (IsStop g.R.Read.remaining net first c.go_on.new.readers c.go_on.new.intake) c.in-Err-Run.field-0-is (c.in-Err-Run.ensures.err first c.in_ok-intake.ensures.ok) in
-    stop_refuses c.each_file_has_one_reading.ensures.one_list g.R.Read.remaining net first c.go_on.new.readers c.go_on.new.intake c.in-Err-Run.fault s (c.in_ok-end-in-Err-Run.ensures.ok net first s.came s.taken)
+    stop_refuses c.each_file_has_one_reading.ensures.one_list g.R.Read.remaining net first c.go_on.new.readers c.go_on.new.intake c.in-Err-Run.fault s
+    (c.in_ok-end-in-Err-Run.ensures.ok net first s.came s.taken)
 
 pub returns-in_err-end-in-Err-Run-clause-err : goal.returns-in_err-end-in-Err-Run-clause-err
 returns-in_err-end-in-Err-Run-clause-err g c =

@@ -54,7 +54,8 @@ returns-clause-ok g c =
     let sites = c.in_ok-sites.sites.items in
     let switches = c.in_ok-switches.switches.items in
     let ended = c.in_ok-switches.ensures in
-    let whole = watched_run c.out_goes_on.ensures c.out_is_in_order.ensures c.what_is_written_is_a_capture.ensures net over.given sites switches over.carried over.lines over.one_each over.sent ended in
+    let whole = watched_run c.out_goes_on.ensures c.out_is_in_order.ensures c.what_is_written_is_a_capture.ensures
+    net over.given sites switches over.carried over.lines over.one_each over.sent ended in
     let noted = c.in_ok-sites.ensures.noted (ap Some c.in_ok-new.ensures) in (
       over.given,
       whole.0,

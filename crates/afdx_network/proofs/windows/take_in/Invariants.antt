@@ -1,5 +1,5 @@
 use Rattle.std.proofs.Common.{Bool, Option}
-use Rattle.afdx_wiring.specs.Net.{Network}
+use Rattle.afdx_network_check.specs.Net.{Network}
 use Rattle.afdx_origins.specs.Origins.{Origins}
 use Rattle.afdx_network.specs.Inner.Noted.{AreNoted}
 use Rattle.afdx_network.proofs.Going.{HasTakenIn}

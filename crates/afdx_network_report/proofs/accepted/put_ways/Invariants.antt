@@ -1,6 +1,6 @@
 use Rattle.std.proofs.Common.{◌≡◌, ◌++◌, drop, map, string_bytes}
 use Rattle.std.specs.Prelude.{flat_map}
-use Rattle.afdx_wiring.specs.declared.ways.Way.{Way}
+use Rattle.afdx_network_check.specs.declared.ways.Way.{Way}
 use Rattle.afdx_wiring.specs.Lines.{as_line}
 use Rattle.afdx_network_report.specs.Lines.{way_text}
 use Rattle.afdx_network_report.proofs.accepted.put_ways.Given as goal

@@ -1,7 +1,7 @@
 use Rattle.std.proofs.Common.{get_or, sym, subst, arith}
 use Rattle.std.specs.Prelude.{Contains}
 use Rattle.std.proofs.lemmas.Option.{slice_get_within}
-use Rattle.afdx_wiring.specs.Net.{Row}
+use Rattle.afdx_network_check.specs.Net.{Row}
 use Rattle.afdx_origins.specs.Origins.{CameFirst}
 use Rattle.afdx_origins.specs.Inner.Known.{IsComing}
 use Rattle.afdx_origins.proofs.Found.{some_weaker, element_at}

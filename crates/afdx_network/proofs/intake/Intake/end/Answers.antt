@@ -7,7 +7,7 @@ use Rattle.afdx_merging.specs.Merge.{Arrival, IsAfter}
 use Rattle.afdx_merging.specs.Read.{AreMerged}
 use Rattle.afdx_merging.specs.Inner.Merging.{HasMerged, lesser, least_of}
 use Rattle.afdx_wiring.specs.declared.layout.End.{End}
-use Rattle.afdx_wiring.specs.Net.{Network}
+use Rattle.afdx_network_check.specs.Net.{Network}
 use Rattle.afdx_network.specs.Given.{open_ends}
 use Rattle.afdx_network.specs.Inner.Intake.{same_clock, AreMet, AreOverLines, HasTaken, HasTakenAll, IsLineFault, IsIntakeFault}
 use Rattle.afdx_network.specs.declared.line.Line.{Line}
@@ -67,7 +67,8 @@ returns-in-Ok-None-clause-ok g c =
 
 pub returns-in-Ok-None-clause-err : goal.returns-in-Ok-None-clause-err
 returns-in-Ok-None-clause-err g c =
-    IfErr-weaker c.check_lines.result (λ why. (net : Network) (came : List Arrival) → c.loop-record.self.ends.items ≡ open_ends net → AreMet net c.loop-record.self.lines.items came → IsLineFault net came why)
+    IfErr-weaker c.check_lines.result
+    (λ why. (net : Network) (came : List Arrival) → c.loop-record.self.ends.items ≡ open_ends net → AreMet net c.loop-record.self.lines.items came → IsLineFault net came why)
     (λ why. (net : Network) (first : List g.row.R.Denot) (came : List Arrival) → HasTaken g.R.Read.remaining net first c.args.readers.now c.args.self came
     → IsIntakeFault g.R.Read.remaining net first why)
     (λ why broken net first came taken.

@@ -1,6 +1,6 @@
 use Rattle.std.proofs.Common.{List}
 use Rattle.afdx_merging.specs.Merge.{Arrival}
-use Rattle.afdx_wiring.specs.Net.{Network}
+use Rattle.afdx_network_check.specs.Net.{Network}
 use Rattle.afdx_network.specs.Inner.Intake.{HasTaken}
 use Rattle.afdx_network.proofs.Taking.{ReadsOn}
 use Rattle.afdx_network.proofs.intake.Intake.end.Given as goal

@@ -12,7 +12,8 @@ open-requires g c =
 
 pub returns-in-Ok-clause-ok : goal.returns-in-Ok-clause-ok
 returns-in-Ok-clause-ok g c =
-    opened g.R.Read.remaining c.args.network.now c.args.readers.now c.open.new.readers (record { ends = c.in_ok-ends.ends; lines = c.in_ok-lines.lines; merging = c.in-Ok.merging }) c.deref-2.result.now []
+    opened g.R.Read.remaining c.args.network.now c.args.readers.now c.open.new.readers
+    (record { ends = c.in_ok-ends.ends; lines = c.in_ok-lines.lines; merging = c.in-Ok.merging }) c.deref-2.result.now []
     c.in_ok-ends.ensures c.in_ok-lines.ensures (c.deref-2.ensures.value ∙ c.in_ok-clocks.ensures ∙ ap (λ (es : List End). map (λ (e : End). same_clock) es) c.deref.ensures.value) c.in-Ok.ensures.ok
 
 pub fault_at-requires : goal.fault_at-requires

@@ -16,6 +16,7 @@ pub returns-in-None : goal.returns-in-None
 returns-in-None c =
     let front = c.as_slices.result.0.now in
     let back = c.as_slices.result.1.now in
-    some_weaker (λ first. Contains front (record { at = c.args.at; first = first })) (λ first. Contains c.args.self.now.coming.items (record { at = c.args.at; first = first })) c.first_in-in-None.result
+    some_weaker (λ first. Contains front (record { at = c.args.at; first = first }))
+    (λ first. Contains c.args.self.now.coming.items (record { at = c.args.at; first = first })) c.first_in-in-None.result
     (λ first has. let frame : Coming = record { at = c.args.at; first = first } in
     subst (λ (xs : List Coming). Contains xs frame) c.as_slices.ensures.items (Contains-append_left front back frame has)) c.first_in-in-None.ensures

@@ -1,6 +1,6 @@
 use Rattle.std.proofs.Common.{List, [], ◌∷◌, ◌++◌, sym, subst, arith}
 use Rattle.std.specs.Vec.{with_items}
-use Rattle.afdx_wiring.specs.Net.{Row}
+use Rattle.afdx_network_check.specs.Net.{Row}
 use Rattle.afdx_origins.specs.declared.departure.Departure.{Departure}
 use Rattle.afdx_origins.specs.declared.at_switch.AtSwitch.{AtSwitch}
 use Rattle.afdx_origins.specs.Origins.{CameFirst}

@@ -1,0 +1,4 @@
+pub mod Given
+pub mod Loads
+pub mod Staying
+pub mod Tabled

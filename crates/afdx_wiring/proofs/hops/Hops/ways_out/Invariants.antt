@@ -1,7 +1,0 @@
-use Rattle.std.proofs.Common.{take}
-use Rattle.std.specs.List.{AllZip}
-use Rattle.afdx_wiring.specs.Ways.{IsWayOut}
-use Rattle.afdx_wiring.proofs.hops.Hops.ways_out.Given as goal
-
-abbrev pub invariant-loop-exit : goal.invariant-loop-exit
-invariant-loop-exit l = AllZip (IsWayOut l.self) (take l.exit-index l.exits) l.ways.items

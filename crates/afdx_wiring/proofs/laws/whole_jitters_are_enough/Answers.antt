@@ -1,5 +1,0 @@
-use Rattle.afdx_wiring.proofs.Staying.{whole_jitters}
-use Rattle.afdx_wiring.proofs.laws.whole_jitters_are_enough.Goals as goal
-
-pub returns : goal.returns
-returns c = whole_jitters c.bounds_are_no_more.ensures

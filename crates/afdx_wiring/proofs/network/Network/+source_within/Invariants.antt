@@ -1,4 +1,0 @@
-use Rattle.afdx_wiring.proofs.network.Network.+source_within.Given as goal
-
-abbrev pub decreases-source_within : goal.decreases-source_within
-decreases-source_within l = l.rows

@@ -1,9 +1,0 @@
-use Rattle.std.proofs.Common.{◌≡◌, ◌++◌, drop}
-use Rattle.afdx_wiring.specs.Order.{row_of}
-use Rattle.afdx_wiring.specs.Ways.{exits_at}
-use Rattle.afdx_wiring.proofs.WayLemmas.{exits_from}
-use Rattle.afdx_wiring.proofs.network.Network.add_exits.Given as goal
-
-abbrev pub invariant-loop-port : goal.invariant-loop-port
-invariant-loop-port l =
-    l.exits.items ++ exits_from l.self (row_of l.row) (drop l.port-index (row_of l.row).link.to) ≡ l.initial.exits.items ++ exits_at l.self (row_of l.row)

@@ -1,7 +1,0 @@
-use Rattle.std.proofs.Common.{◌≡◌, drop}
-use Rattle.afdx_wiring.specs.Net.{rows_from, rows_of}
-use Rattle.afdx_wiring.specs.Order.{first_of, has_source}
-use Rattle.afdx_wiring.proofs.network.Network.all_have_sources.Given as goal
-
-abbrev pub invariant-loop-switch : goal.invariant-loop-switch
-invariant-loop-switch l = first_of (has_source l.self) (rows_from l.switch (drop l.switch l.self.tables)) ≡ first_of (has_source l.self) (rows_of l.self)
