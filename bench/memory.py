@@ -1,5 +1,5 @@
 #!/usr/bin/env python3
-"""Fails if the memory of `afdx run`, `measure`, `survey`, `compare` or `network run` grows with the frames of its captures.
+"""Fails if the memory of `afdx run`, `measure`, `survey`, `trace`, `compare` or `network run` grows with the frames of its captures.
 
 One link sends a frame each millisecond, so at most one frame is in flight, and whatever is kept of the frames before it shows. `compare`
 reads them beside what the run made of them, and then beside outputs at which nothing was recorded: all its bounds close soon after each
@@ -23,6 +23,7 @@ COMMANDS: dict[str, tuple[list[str], int]] = {
     "run": (["run", "{0}/table.toml", "{0}/in", "{0}/out"], 0),
     "measure": (["measure", "{0}/table.toml", "{0}/in"], 0),
     "survey": (["survey", "{0}/table.toml", "{0}/in"], 0),
+    "trace": (["trace", "{0}/table.toml", "{0}/in", "{0}/traced"], 0),
     "compare": (["compare", "{0}/table.toml", "{0}/in", "{0}/out", "--stamps", "free"], 0),
     "compare where all is missing": (["compare", "{0}/table.toml", "{0}/in", "{0}/silent"], 1),
 }
@@ -145,7 +146,7 @@ def main() -> None:
     parser.add_argument("afdx", nargs="?", default=AFDX, help="the program; the one that ./test builds if none is named")
     afdx = os.path.abspath(parser.parse_args().afdx)
     with tempfile.TemporaryDirectory() as room:
-        for side in ("in", "out", "silent"):
+        for side in ("in", "out", "silent", "traced"):
             os.mkdir(f"{room}/{side}")
         with open(f"{room}/table.toml", "w", encoding="utf-8") as file:
             file.write(TABLE)

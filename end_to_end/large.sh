@@ -46,5 +46,5 @@ check "and the other port's, where it is the only one" names_fault "afdx: captur
 mkdir long && cp small/* long && enlarge long/port-1.pcap 4600 && truncate -s -5 long/port-1.pcap
 check "the fault at the end of 1.2 GB is named in 300 MB" eval '(ulimit -v 307200; names_fault "afdx: capture P11 CutData, port 1, record 4604" long)'
 rm -rf in cut
-check "run, measure, survey, compare and network run over twice as many frames take no more memory" python3 "$top/bench/memory.py" "$afdx"
+check "run, measure, survey, trace, compare and network run over twice as many frames take no more memory" python3 "$top/bench/memory.py" "$afdx"
 finish

@@ -1,7 +1,7 @@
 #!/usr/bin/env bash
 # A run over pipes, one for each port: ten million frames in memory that stands still, to the byte what model.py says of one period of
-# them; so a million of `measure` and of `survey`; a run of a network over a pipe for each port of an end system; and faults, of which the
-# lowest port's is named though a pipe can be read only once.
+# them; so a million of `measure` and of `survey`; a trace, to the byte that over files; a run of a network over a pipe for each port of
+# an end system; and faults, of which the lowest port's is named though a pipe can be read only once.
 . "$(dirname "$0")/common.sh"
 install python3=python3 gzip=gzip
 install_python numpy
@@ -84,6 +84,21 @@ tells() {
     python3 "$top/end_to_end/answers.py" "$2" "$table" one >once.txt && repeated tell "$1" once.txt often.txt && cmp often.txt told.txt
 }
 
+# traces_within KILOBYTES: a trace over the folder `in`, in so much memory.
+traces_within() {
+    (ulimit -v "$1" && exec "$afdx" trace "$table" in out)
+}
+
+# is_traced TIMES: it is that over files of so many periods.
+is_traced() {
+    local port
+    mkdir -p files traced
+    for port in "${ports[@]}"; do
+        repeated write "$1" "one/port-$port.pcap" "files/port-$port.pcap" || return 1
+    done
+    "$afdx" trace "$table" files traced && diff -r traced out
+}
+
 # tells_twice: of two periods the model says so in a survey.
 tells_twice() {
     python3 "$top/end_to_end/answers.py" survey "$table" two >told.txt && tells 2 survey
@@ -133,6 +148,9 @@ for command in measure survey; do
     check "$command over pipes, in 200 MB, of a million frames" through_pipes many -- tells_within 204800 "$command"
     check "is so often the model's" tells "$times" "$command"
 done
+times=100
+check "a trace over pipes, in 200 MB" through_pipes many -- traces_within 204800
+check "is that over files" is_traced "$times"
 times=1
 check "a run over pipes that zcat writes" through_pipes zipped -- run_within 204800
 check "is the model's" eval 'are_repeated 1 out && counts_are 1'

@@ -243,6 +243,11 @@ impl<B: Allocator + Copy> Folder for MemoryFolder<B> {
         Ok(())
     }
 
+    fn join(&mut self, new: &mut MemoryFile<B>, part: MemoryFile<B>) -> Result<(), AllocError> {
+        self.begun = self.begun.saturating_sub(1);
+        new.append(&part.bytes)
+    }
+
     fn abandon(&mut self, _new: MemoryFile<B>) {
         self.begun = self.begun.saturating_sub(1);
     }

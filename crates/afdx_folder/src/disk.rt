@@ -202,6 +202,13 @@ impl<R: Files<File = File>, A: Allocator + Copy> Folder for Disk<'_, R, A> {
         }
     }
 
+    fn join(&mut self, new: &mut WholeFile<A>, part: WholeFile<A>) -> Result<(), AllocError> {
+        let mut part = part;
+        let joined = new.take_in(self.alloc, &mut part);
+        part.remove(self.rt);
+        joined
+    }
+
     fn abandon(&mut self, new: WholeFile<A>) {
         let is_settled = new.is_settled();
         new.remove(self.rt);

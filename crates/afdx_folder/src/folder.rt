@@ -1,6 +1,7 @@
 //! A folder of files.
 
 ghost use Rattle.std.specs.Prelude.{◌≡◌, [], Option, Some, None, IfOk, IfSome, OnOk};
+ghost use Rattle.std.specs.Io.KnownBytes.{Appends};
 ghost use Rattle.afdx_folder.specs.Files.{Files, DeviceLog, Shows, IsOpened, KeepsFiles, PutsFile, KeepsOthers, IsCause, HasCause, HasSettled};
 
 use crate::input::InputFault;
@@ -150,6 +151,15 @@ pub trait Folder {
             (λ bytes. PutsFile (files self.old) (files self.new) name.now bytes)) }
         ensures others { KeepsOthers (files self.old) (files self.new) name.now }
         ensures cause { HasCause name.now (failed self.old) (failed self.new) result };
+
+    /// Appends all that a new file has to another one, and lets it go. Nothing else changes, and a failure of either is answered when the other
+    /// one is settled or put. An error is out of memory; nothing is said then of what that one has.
+    ///
+    /// O(bytes).
+    fn join(&mut self, new: &mut Self::New, part: Self::New) -> Result<(), AllocError>
+        ensures bytes { OnOk result (IfSome (Self.New.contents part) (λ bytes. Appends (Self.New.contents new.old) (Self.New.contents new.new) bytes)) }
+        ensures same { KeepsFiles (files self.old) (files self.new) }
+        ensures failed { failed self.new ≡ failed self.old };
 
     /// Lets a new file go. Nothing else changes, and no failure is counted.
     fn abandon(&mut self, new: Self::New)

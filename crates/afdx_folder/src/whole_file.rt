@@ -2,18 +2,22 @@
 
 use crate::file_id::is_under;
 use crate::folder::FolderFault;
+use crate::input::CHUNK;
 use crate::new_file::NewFile;
 use crate::output::{WriteFault, write_bytes};
 use crate::size_limit::greatest_size;
 use std::alloc::{AllocError, Allocator};
 use std::fs;
 use std::fs::{File, Metadata, OpenFile, TryLockError};
-use std::io::ErrorKind;
+use std::io::{ErrorKind, Read, Seek, SeekFrom};
 use std::os::unix::fs::{MetadataExt, lchown};
 use std::rt::Files;
 
 /// How many names are tried for a new file (profile).
-const NAMES: u8 = 100;
+const NAMES: u8 = 250;
+
+/// After so many free names in a row no file of a killed run is sought (profile): more than the parts that are joined to one new file.
+const FREE_NAMES: u8 = 32;
 
 /// The name of a new file beside this name.
 fn name_beside<A: Allocator + Copy>(
@@ -98,6 +102,15 @@ impl<A: Allocator> Made<A> {
         }
     }
 
+    /// Goes back to its first byte, and gives the file to be read.
+    fn read_again(&mut self) -> Option<&mut File> {
+        let file = self.file.as_mut()?;
+        match file.seek(SeekFrom::Start(0)) {
+            Ok(_) => Some(file),
+            Err(_) => None,
+        }
+    }
+
     /// Waits until the device has what was written, and closes the file.
     fn settle(&mut self) -> Result<(), WriteFault> {
         match self.file.take() {
@@ -154,6 +167,42 @@ impl<A: Allocator + Copy> WholeFile<A> {
         }
     }
 
+    /// Goes back to its first byte, and gives the file to be read, where nothing of it failed.
+    fn read_again(&mut self) -> Option<&mut File> {
+        if self.has_failed {
+            return None;
+        }
+        let made = self.made.as_mut()?;
+        made.read_again()
+    }
+
+    /// Appends all that another one has. Where that cannot be read, or something of it failed before, this has failed.
+    pub(crate) fn take_in(&mut self, alloc: A, part: &mut WholeFile<A>) -> Result<(), AllocError> {
+        let mut piece = vec![in alloc; 0u8; CHUNK]?;
+        let Some(file) = part.read_again() else {
+            self.has_failed = true;
+            return Ok(());
+        };
+        self.append_all(file, &mut piece)
+    }
+
+    /// Appends what is left of an open file.
+    fn append_all(&mut self, file: &mut File, piece: &mut [u8]) -> Result<(), AllocError> {
+        for _turn in 0..u64::MAX {
+            match file.read(piece) {
+                Ok(0) => return Ok(()),
+                Ok(count) => self.append(&piece[..count])?,
+                Err(e) => {
+                    if e.kind() != ErrorKind::Interrupted {
+                        break;
+                    }
+                }
+            }
+        }
+        self.has_failed = true;
+        Ok(())
+    }
+
     /// Whether the device has taken it.
     pub(crate) fn is_settled(&self) -> bool {
         match &self.made {
@@ -181,11 +230,14 @@ impl<A: Allocator + Copy> WholeFile<A> {
         let Some(made) = &self.made else {
             return;
         };
+        let mut free = 0u8;
         for number in 0..NAMES {
             let Ok(beside) = name_beside(alloc, name, number) else {
                 return;
             };
-            if beside != made.beside && !remove_left(rt, &beside) {
+            let is_used = beside == made.beside || remove_left(rt, &beside);
+            free = if is_used { 0 } else { free.saturating_add(1) };
+            if free == FREE_NAMES {
                 return;
             }
         }

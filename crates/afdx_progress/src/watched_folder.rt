@@ -90,6 +90,10 @@ where
         self.inner.put_new(new, name)
     }
 
+    fn join(&mut self, new: &mut F::New, part: F::New) -> Result<(), AllocError> {
+        self.inner.join(new, part)
+    }
+
     fn abandon(&mut self, new: F::New) {
         self.inner.abandon(new)
     }

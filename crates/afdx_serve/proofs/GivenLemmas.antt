@@ -13,7 +13,7 @@ use Rattle.afdx_session.specs.Texts.{Text}
 use Rattle.afdx_session.specs.Outcome.{Results}
 use Rattle.afdx_wiring.specs.declared.layout.End.{End}
 use Rattle.afdx_wiring.specs.File.{Layout, is_down}
-use Rattle.afdx_wiring.specs.Net.{Network}
+use Rattle.afdx_network_check.specs.Net.{Network}
 use Rattle.afdx_network.specs.Runs.{Given, AreOutcomes}
 use Rattle.afdx_network.specs.Given.{is_open, ends_from, open_ends, all_from, all_ends, AreOpen, AreGiven, AreGivenBy}
 use Rattle.afdx_network.specs.Outage.{silent, up_at, given_up, coming}

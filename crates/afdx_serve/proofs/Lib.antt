@@ -12,6 +12,8 @@ pub mod NetworkLemmas
 pub mod VerdictLemmas
 pub mod ServingLemmas
 pub mod SizeLemmas
+pub mod TellingLemmas
+pub mod JoinLemmas
 pub mod CheckLemmas
 pub mod CompareLemmas
 mod PutLemmas

@@ -1,6 +1,6 @@
 -- Why a network was not found to be accepted.
 use Rattle.std.proofs.Common.{◌≡◌, ℕ, List, ◌∷◌, inl, inr}
-use Rattle.afdx_wiring.specs.Net.{Network}
+use Rattle.afdx_network_check.specs.Net.{Network}
 use Rattle.afdx_messages.specs.declared.network_failure.JitterRule.TheVariants.{Jitter}
 use Rattle.afdx_messages.specs.declared.failure.Failure.{Failure}
 use Rattle.afdx_folder.specs.Files.{KeepsFiles}

@@ -11,11 +11,11 @@ use Rattle.afdx_measure.specs.declared.delays.Delays.{Delays}
 use Rattle.afdx_measure.specs.Policing.{policing_of}
 use Rattle.afdx_session.specs.Texts.{Text}
 use Rattle.afdx_session.specs.Outcome.{Results}
-use Rattle.afdx_wiring.specs.declared.exit.Exit.{Exit}
-use Rattle.afdx_wiring.specs.declared.ways.Way.{Way}
+use Rattle.afdx_network_check.specs.declared.exit.Exit.{Exit}
+use Rattle.afdx_network_check.specs.declared.ways.Way.{Way}
 use Rattle.afdx_wiring.specs.File.{Switch}
-use Rattle.afdx_wiring.specs.Net.{Network}
-use Rattle.afdx_wiring.specs.Ways.{exits_of, by_link, AreWaysOf}
+use Rattle.afdx_network_check.specs.Net.{Network}
+use Rattle.afdx_network_check.specs.Ways.{exits_of, by_link, AreWaysOf}
 use Rattle.afdx_network.specs.declared.outage.Incoming.{Incoming}
 use Rattle.afdx_network.specs.Given.{AreGivenBy}
 use Rattle.afdx_network.specs.Outage.{coming}

@@ -16,7 +16,7 @@ use Rattle.afdx_network_report.specs.declared.link_ends.LinkEnd.{LinkEnd}
 use Rattle.afdx_rows.specs.Counts.{counts_rows}
 use Rattle.afdx_rows.specs.Delays.{network_measure_columns, buffers_rows}
 use Rattle.afdx_rows.specs.Spells.{network_survey_columns, policing_rows}
-use Rattle.afdx_wiring.specs.Net.{Network}
+use Rattle.afdx_network_check.specs.Net.{Network}
 use Rattle.afdx_serve.specs.declared.network_survey.SwitchRows.{SwitchRows}
 use Rattle.afdx_serve.specs.NetworkMeasures.{AreEndsOf, HaveEnds, heading_in, buffers_in, counts_in, policing_in, WatchesFrom, HasMeasuredText, HasSurveyText}
 use Rattle.afdx_serve.specs.NetworkRuns.{FailsToGetGiven}

@@ -15,9 +15,9 @@ use Rattle.afdx_session.specs.Texts.{Text}
 use Rattle.afdx_session.specs.Outcome.{Results}
 use Rattle.afdx_session.specs.Written.{AreAppended}
 use Rattle.afdx_wiring.specs.File.{Switch}
-use Rattle.afdx_wiring.specs.Net.{Network}
+use Rattle.afdx_network_check.specs.Net.{Network}
 use Rattle.afdx_wiring.specs.Inner.Limits.{LayoutsAreWithinLimits, NoPortHasTwoWires}
-use Rattle.afdx_wiring.specs.Rules.{IsAcceptedNetwork}
+use Rattle.afdx_network_check.specs.Rules.{IsAcceptedNetwork}
 use Rattle.afdx_count.specs.Tally.{Tally}
 use Rattle.afdx_wiring.specs.declared.layout.End.{End}
 use Rattle.afdx_network.specs.Runs.{Given, AreOutcomes, IsRunOf, IsUncheckedRunOf}

@@ -6,7 +6,7 @@ use Rattle.std.proofs.lemmas.List.{append_assoc, append-nil, flat_map_more, leng
 use Rattle.afdx_core.specs.State.{State}
 use Rattle.afdx_count.specs.Tally.{Tally}
 use Rattle.afdx_trace.specs.declared.shown.Selection.{Selection}
-use Rattle.afdx_wiring.specs.Net.{Network}
+use Rattle.afdx_network_check.specs.Net.{Network}
 use Rattle.afdx_network_report.specs.Lines.{Names}
 use Rattle.afdx_arguments.specs.declared.request.NetworkInputs.{NetworkInputs}
 use Rattle.afdx_arguments.specs.declared.request.NetworkPaths.{NetworkPaths}

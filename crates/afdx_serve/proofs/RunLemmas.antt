@@ -139,34 +139,6 @@ module _ (inputs : Inputs) (a : Option Files) (plan : Plan) (captures : List Tex
   not_led failure.Read h = absurd h
   not_led failure.Write h = absurd h
 
-  -- what the captures lead to is what the files lead to
-  leads_as : {X : Type 0} (P Q : X → Type 0) → ((x : X) → P x → Q x) → (r : Result X Failure) → MatchResult r P (λ f. FailsToLead f (table_in plan) captures)
-      → MatchResult r (λ x. Q x × (after ≡ before)) (λ f. FailsToGather f inputs a before after)
-  leads_as P Q turn (Ok x) h = (turn x h, count)
-  leads_as P Q turn (Err f) h = not_led f h
-
-module _ (paths : Paths) (options : TraceOptions) (selection : Selection) (links : selection.links.now ≡ options.links.items) (relative : selection.relative ≡ options.relative)
-    (a : Option Files) (plan : Plan) (captures : List Text) (before after : DeviceLog) (of : IsRunOf (inputs_of paths) a plan captures) (count : after ≡ before) where
-  -- a finished switch of the captures, and what is reported of it
-  abbrev pub IsReported : List (List ℕ) → Type 0
-  IsReported texts = (s : State) × IsDoneOf (is_cleared plan) (table_in plan) captures s × (is_cleared plan ≡ true → IsIsolatedRun s.run) × (texts ≡ trace_texts selection s.run)
-
-  pub traced : {X : Type 0} (seen : X → List (List ℕ)) (r : Result X Failure) → MatchResult r (λ texts. IsReported (seen texts)) (λ f. FailsToLead f (table_in plan) captures)
-      → MatchResult r (λ texts. IsTraceIn paths options a (seen texts) × (after ≡ before)) (λ f. FailsToGather f (inputs_of paths) a before after)
-  traced seen = leads_as (inputs_of paths) a plan captures before after of count (λ texts. IsReported (seen texts)) (λ texts. IsTraceIn paths options a (seen texts))
-      (λ texts h. (
-        h.0,
-        record {
-          table = table_in plan;
-          captures = captures;
-          has_plan = of.has_plan;
-          has_captures = of.has_captures;
-          is_done = subst (λ (cleared : Bool). IsDoneOf cleared (table_in plan) captures h.0) of.cleared h.1;
-          isolated = λ (checked : paths.unchecked ≡ false). h.2 (of.cleared ∙ ap not checked);
-        },
-        (selection, links, relative, h.3),
-      ))
-
 -- what was reported was not all put, or was
 module _ (paths : Paths) (options : TraceOptions) (texts : List (List ℕ)) (a b c : Option Files) (first before after : DeviceLog) (is : IsTraceIn paths options a texts)
     (keeps : KeepsFiles a b) (same : before ≡ first) where
@@ -187,6 +159,23 @@ module _ (paths : Paths) (options : TraceOptions) (texts : List (List ℕ)) (a b
       → MatchResult r (λ _. PutsTrace paths options a c × (after ≡ settled_after 2 first)) (λ f. FailsToTrace f paths options a c first after)
   traced_all (Ok x) h = (all_traced h.0, h.1 ∙ ap (settled_after 2) same)
   traced_all (Err f) h = not_traced f h
+
+-- the files of a trace lead to nothing, and nothing was put
+pub not_gathered_trace : (paths : Paths) (options : TraceOptions) (a b : Option Files) (first after : DeviceLog) → KeepsFiles a b → (f : Failure) → FailsToGather f (inputs_of paths) a first after
+    → FailsToTrace f paths options a b first after
+not_gathered_trace paths options a b first after keeps failure.Memory h = inl keeps
+not_gathered_trace paths options a b first after keeps (failure.Table r) h = (h, keeps)
+not_gathered_trace paths options a b first after keeps (failure.Get s) h = (h, keeps)
+not_gathered_trace paths options a b first after keeps (failure.Load r) h = (h, keeps)
+not_gathered_trace paths options a b first after keeps (failure.PortCapture p r) h = (h, keeps)
+not_gathered_trace paths options a b first after keeps (failure.OutputCapture p r) h = absurd h
+not_gathered_trace paths options a b first after keeps failure.Found h = absurd h
+not_gathered_trace paths options a b first after keeps failure.Usage h = absurd h
+not_gathered_trace paths options a b first after keeps (failure.Network r) h = absurd h
+not_gathered_trace paths options a b first after keeps (failure.Capture r) h = absurd h
+not_gathered_trace paths options a b first after keeps (failure.Put s) h = absurd h
+not_gathered_trace paths options a b first after keeps failure.Read h = absurd h
+not_gathered_trace paths options a b first after keeps failure.Write h = absurd h
 
 -- the files lead to nothing, and nothing was put or written
 pub not_gathered_run : (paths : Paths) (options : RunOptions) (a b : Option Files) (first after : DeviceLog) → KeepsFiles a b → (w v : Option (List ℕ)) → Keeps w v → (f : Failure)

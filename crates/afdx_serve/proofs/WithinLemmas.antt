@@ -13,14 +13,14 @@ use Rattle.afdx_table.specs.WellFormed.{TablesAreWellFormed}
 use Rattle.afdx_table.specs.Content.{Content, link_row}
 use Rattle.afdx_core.specs.State.{State}
 use Rattle.afdx_count.specs.Tally.{Tally}
-use Rattle.afdx_wiring.specs.declared.exit.Exit.{Exit}
+use Rattle.afdx_network_check.specs.declared.exit.Exit.{Exit}
 use Rattle.afdx_wiring.specs.declared.layout.End.{End}
 use Rattle.afdx_wiring.specs.declared.layout.Wire.{Wire}
-use Rattle.afdx_wiring.specs.declared.ways.Way.{Way}
-use Rattle.afdx_wiring.specs.Net.{Network, Row, Back, row_in, row_at, source_of, IsWayBack}
+use Rattle.afdx_network_check.specs.declared.ways.Way.{Way}
+use Rattle.afdx_network_check.specs.Net.{Network, Row, Back, row_in, row_at, source_of, IsWayBack}
 use Rattle.afdx_wiring.specs.Inner.Limits.{LayoutsAreWithinLimits}
-use Rattle.afdx_wiring.specs.Order.{leading, row_before}
-use Rattle.afdx_wiring.specs.Ways.{end_of, line_of, IsWayOut, AreWaysOf}
+use Rattle.afdx_network_check.specs.Order.{leading, row_before}
+use Rattle.afdx_network_check.specs.Ways.{end_of, line_of, IsWayOut, AreWaysOf}
 use Rattle.afdx_origins.specs.Origins.{Origins, IsSummary}
 use Rattle.afdx_origins.specs.Laws.{KeepBounds, NoneTakesMoreThanItsWay}
 use Rattle.afdx_network.specs.Outage.{given_up}

@@ -1,9 +1,9 @@
 -- What the check of a network writes (profile).
 use Rattle.std.specs.Prelude.{◌≡◌, ℕ, Bool, List}
-use Rattle.afdx_wiring.specs.Net.{Network}
-use Rattle.afdx_wiring.specs.Outage.{up_of, lost_of}
-use Rattle.afdx_wiring.specs.Ways.{AreWaysOf}
-use Rattle.afdx_wiring.specs.declared.ways.Way.{Way}
+use Rattle.afdx_network_check.specs.Net.{Network}
+use Rattle.afdx_network_check.specs.Outage.{up_of, lost_of}
+use Rattle.afdx_network_check.specs.Ways.{AreWaysOf}
+use Rattle.afdx_network_check.specs.declared.ways.Way.{Way}
 use Rattle.afdx_network_report.specs.Lines.{Names, accepted_text}
 use Rattle.afdx_network_report.specs.Rows.{ways_rows}
 use Rattle.afdx_csv.specs.declared.form.Form.{Form}

@@ -9,14 +9,14 @@ use Rattle.afdx_account.specs.Policing.{parts}
 use Rattle.afdx_load.specs.Accepted.{past}
 use Rattle.afdx_load.specs.declared.fault.Rule.TheVariants.{Rate}
 use Rattle.afdx_load.specs.declared.fault.LoadFault.{LoadFault}
-use Rattle.afdx_wiring.specs.Net.{Network}
-use Rattle.afdx_wiring.specs.Order.{Answer, load_fits, lost_latency, misfit}
+use Rattle.afdx_network_check.specs.Net.{Network}
+use Rattle.afdx_network_check.specs.Order.{Answer, load_fits, lost_latency, misfit}
 use Rattle.afdx_wiring.specs.Refusal.{◌>>=◌}
-use Rattle.afdx_wiring.specs.Needs.{AreNeeds}
+use Rattle.afdx_network_check.specs.Needs.{AreNeeds}
 use Rattle.afdx_wiring.specs.declared.fault.Short.{Short}
 use Rattle.afdx_wiring.specs.declared.fault.NetworkFault.{NetworkFault}
 use Rattle.afdx_wiring.specs.declared.fault.NetworkFault.TheVariants as fault
-use Rattle.afdx_wiring.specs.declared.jitters.RowNeed.{RowNeed}
+use Rattle.afdx_network_check.specs.declared.jitters.RowNeed.{RowNeed}
 use Rattle.afdx_network_report.specs.Lines.{Names, jitter_text}
 use Rattle.afdx_network_report.specs.Rows.{needs_rows}
 use Rattle.afdx_csv.specs.declared.form.Form.{Form}

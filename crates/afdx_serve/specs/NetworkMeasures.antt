@@ -9,13 +9,13 @@ use Rattle.afdx_measure.specs.Report.{port_line}
 use Rattle.afdx_measure.specs.Policing.{policing_of}
 use Rattle.afdx_session.specs.Texts.{Text}
 use Rattle.afdx_session.specs.Outcome.{Results}
-use Rattle.afdx_wiring.specs.declared.exit.Exit.{Exit}
-use Rattle.afdx_wiring.specs.declared.ways.Way.{Way}
+use Rattle.afdx_network_check.specs.declared.exit.Exit.{Exit}
+use Rattle.afdx_network_check.specs.declared.ways.Way.{Way}
 use Rattle.afdx_wiring.specs.Lines.{as_line}
-use Rattle.afdx_wiring.specs.Net.{Network, ingress, row_at}
-use Rattle.afdx_wiring.specs.Order.{most_rows, source_within}
-use Rattle.afdx_wiring.specs.Rules.{IsAcceptedNetwork}
-use Rattle.afdx_wiring.specs.Ways.{end_of, exits_of, by_link, AreWaysOf}
+use Rattle.afdx_network_check.specs.Net.{Network, ingress, row_at}
+use Rattle.afdx_network_check.specs.Order.{most_rows, source_within}
+use Rattle.afdx_network_check.specs.Rules.{IsAcceptedNetwork}
+use Rattle.afdx_network_check.specs.Ways.{end_of, exits_of, by_link, AreWaysOf}
 use Rattle.afdx_origins.specs.Origins.{Origins, IsSummary}
 use Rattle.afdx_network.specs.Runs.{Given, IsUncheckedRunOf}
 use Rattle.afdx_network.specs.Given.{AreGiven}

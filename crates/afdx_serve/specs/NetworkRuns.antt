@@ -3,8 +3,8 @@ use Rattle.std.specs.Prelude.{Bool, false, ◌≡◌, ◌⊎◌, ℕ, ◌+◌, c
 use Rattle.afdx_table.specs.Content.{Content}
 use Rattle.afdx_session.specs.Texts.{Text}
 use Rattle.afdx_session.specs.Outcome.{Results}
-use Rattle.afdx_wiring.specs.Net.{Network}
-use Rattle.afdx_wiring.specs.Rules.{IsAcceptedNetwork}
+use Rattle.afdx_network_check.specs.Net.{Network}
+use Rattle.afdx_network_check.specs.Rules.{IsAcceptedNetwork}
 use Rattle.afdx_network.specs.Runs.{Given, IsRunOf, IsUncheckedRunOf}
 use Rattle.afdx_network.specs.Given.{is_open, AreGiven, IsUncheckedRefusal}
 use Rattle.afdx_network.specs.Outage.{given_up}

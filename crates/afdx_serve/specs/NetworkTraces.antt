@@ -5,8 +5,8 @@ use Rattle.afdx_trace.specs.declared.shown.Selection.{Selection}
 use Rattle.afdx_trace.specs.Arrivals.{arrivals_text}
 use Rattle.afdx_trace.specs.Departures.{departures_text}
 use Rattle.afdx_count.specs.Tally.{Tally}
-use Rattle.afdx_wiring.specs.Net.{Network}
-use Rattle.afdx_wiring.specs.Rules.{IsAcceptedNetwork}
+use Rattle.afdx_network_check.specs.Net.{Network}
+use Rattle.afdx_network_check.specs.Rules.{IsAcceptedNetwork}
 use Rattle.afdx_origins.specs.Origins.{Origins}
 use Rattle.afdx_network_report.specs.Lines.{Names}
 use Rattle.afdx_network_trace.specs.First.{HaveFirstNumbers}

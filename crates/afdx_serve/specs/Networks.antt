@@ -6,8 +6,8 @@ use Rattle.afdx_table.specs.Text.{table_of}
 use Rattle.afdx_table.specs.declared.fault.TableFault.{TableFault}
 use Rattle.afdx_table.specs.declared.fault.TableFault.TheVariants as table
 use Rattle.afdx_wiring.specs.File.{Switch, Layout, layout_of}
-use Rattle.afdx_wiring.specs.Net.{Network}
-use Rattle.afdx_wiring.specs.Order.{lost_port, loads_fit, misfit, shortages}
+use Rattle.afdx_network_check.specs.Net.{Network}
+use Rattle.afdx_network_check.specs.Order.{lost_port, loads_fit, misfit, shortages}
 use Rattle.afdx_wiring.specs.Refusal.{◌>>=◌}
 use Rattle.afdx_wiring.specs.declared.fault.NetworkFault.{NetworkFault}
 use Rattle.afdx_wiring.specs.declared.fault.NetworkFault.TheVariants as fault

@@ -22,11 +22,11 @@ use Rattle.afdx_compare.specs.Report.{report_of}
 use Rattle.afdx_serve.specs.Checks.{IsCheckOf}
 use Rattle.afdx_csv.specs.declared.form.Form.{Form}
 use Rattle.afdx_serve.specs.Sizes.{AreSizesIn, AreSizesOfAll}
-use Rattle.afdx_wiring.specs.Net.{Network}
-use Rattle.afdx_wiring.specs.Rules.{IsAcceptedNetwork}
+use Rattle.afdx_network_check.specs.Net.{Network}
+use Rattle.afdx_network_check.specs.Rules.{IsAcceptedNetwork}
 use Rattle.afdx_wiring.specs.declared.fault.Short.{Short}
-use Rattle.afdx_wiring.specs.declared.jitters.RowNeed.{RowNeed}
-use Rattle.afdx_wiring.specs.Needs.{all_past}
+use Rattle.afdx_network_check.specs.declared.jitters.RowNeed.{RowNeed}
+use Rattle.afdx_network_check.specs.Needs.{all_past}
 use Rattle.afdx_messages.specs.declared.network_failure.JitterRule.TheVariants as jitter
 use Rattle.afdx_arguments.specs.declared.request.NetworkInputs.{NetworkInputs}
 use Rattle.afdx_arguments.specs.declared.request.NetworkPaths.{NetworkPaths}

@@ -1,14 +1,13 @@
-//! What a run is made of: its plan, and the captures of its ports.
+//! What a run is made of: its plan.
 
 ghost use Rattle.std.specs.Prelude.{◌≡◌, ℕ, List, false, not, MatchResult};
 ghost use Rattle.afdx_load.specs.Accepted.{IsAccepted};
-ghost use Rattle.afdx_session.specs.Texts.{texts_of};
 ghost use Rattle.afdx_session.specs.Outcome.{table_in, is_cleared};
 ghost use Rattle.afdx_folder.specs.Files.{Shows, KeepsFiles};
-ghost use Rattle.afdx_serve.specs.Runs.{inputs_of, IsRunOf, FailsToPlan, FailsToGather};
+ghost use Rattle.afdx_serve.specs.Runs.{inputs_of, FailsToPlan, FailsToGather};
 ghost use Rattle.afdx_serve.specs.Inner.Leading.{IsPlanOf, FailsToReadPlan};
 
-use crate::get::{get_captures, get_text};
+use crate::get::get_text;
 use afdx_arguments::{Inputs, Paths};
 use afdx_folder::Folder;
 use afdx_messages::Failure;
@@ -68,20 +67,4 @@ pub(crate) fn get_plan<F: Folder>(
 {
     let text = get_text(alloc, folder, inputs.table)?;
     read_plan(alloc, text, inputs.unchecked)
-}
-
-/// The plan and the captures of the table's ports, by rising number, from the files of a run.
-pub(crate) fn gather<F: Folder>(
-    alloc: Global,
-    inputs: &Inputs<'_>,
-    folder: &mut F,
-) -> Result<(Plan, Vec<(u8, Vec<u8>)>), Failure>
-    ensures got { MatchResult result
-        (λ run. IsRunOf inputs.now (F.files folder.old) run.0 (texts_of run.1.items) × (F.failed folder.new ≡ F.failed folder.old))
-        (λ f. FailsToGather f inputs.now (F.files folder.old) (F.failed folder.old) (F.failed folder.new)) }
-    ensures same { KeepsFiles (F.files folder.old) (F.files folder.new) }
-{
-    let plan = get_plan(alloc, inputs, folder)?;
-    let captures = get_captures(alloc, folder, inputs.input, plan.table())?;
-    Ok((plan, captures))
 }

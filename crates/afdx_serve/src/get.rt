@@ -59,27 +59,6 @@ pub(crate) fn get_table<F: Folder>(
     Ok(afdx_table::read(alloc, text)?)
 }
 
-/// The captures of the table's ports in a folder, by rising number.
-pub(crate) fn get_captures<F: Folder>(
-    alloc: Global,
-    folder: &mut F,
-    path: &str,
-    table: &Table,
-) -> Result<Vec<(u8, Vec<u8>)>, Failure>
-    ensures got { MatchResult result
-        (λ captures. HasCaptures (F.files folder.old) path.now table.now (texts_of captures.items) × (F.failed folder.new ≡ F.failed folder.old))
-        (λ f. FailsToGetAll f (F.files folder.old) path.now table.now (F.failed folder.old) (F.failed folder.new)) }
-    ensures same { KeepsFiles (F.files folder.old) (F.files folder.new) }
-{
-    let mut captures = Vec::new(alloc);
-    for port in table.ports() {
-        let name = capture_name(alloc, path, port.id)?;
-        let bytes = get(alloc, folder, &name)?;
-        captures.push((port.id, bytes))?;
-    }
-    Ok(captures)
-}
-
 /// The failure of what was not got under this name, for a fault of the folder.
 pub(crate) fn get_failure(alloc: Global, name: &str, fault: FolderFault) -> Failure
     ensures { (before : DeviceLog) (after : DeviceLog) → IsCause fault name.now before after → FailsToGet result name.now before after }

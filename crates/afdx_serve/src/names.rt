@@ -1,8 +1,7 @@
 //! The names of files in a folder.
 
 ghost use Rattle.std.specs.Prelude.{◌≡◌, ◌++◌, map, string_bytes, IfOk};
-ghost use Rattle.afdx_session.specs.Texts.{texts_of};
-ghost use Rattle.afdx_serve.specs.Runs.{capture_name, names_in};
+ghost use Rattle.afdx_serve.specs.Runs.{capture_name};
 
 use afdx_table::PortRow;
 use std::alloc::{AllocError, Global};
@@ -36,21 +35,6 @@ pub(crate) fn port_names(
     let mut names = Vec::with_capacity(alloc, ports.len())?;
     for port in ports {
         names.push(capture_name(alloc, folder, port.id)?)?;
-    }
-    Ok(names)
-}
-
-/// The names of these captures.
-pub(crate) fn names_in(
-    alloc: Global,
-    folder: &str,
-    captures: &[(u8, Vec<u8>)],
-) -> Result<Vec<String>, AllocError>
-    ensures { IfOk result (λ names. map string_bytes names.items ≡ names_in folder.now (texts_of captures.now)) }
-{
-    let mut names = Vec::with_capacity(alloc, captures.len())?;
-    for capture in captures {
-        names.push(capture_name(alloc, folder, capture.0)?)?;
     }
     Ok(names)
 }

@@ -2,7 +2,7 @@
 
 ghost use Rattle.std.specs.Prelude.{◌≡◌, [], map, string_bytes, IfOk, MatchResult};
 ghost use Rattle.afdx_wiring.specs.Refusal.{Gives};
-ghost use Rattle.afdx_wiring.specs.Rules.{FitsTogether, HasJitters, IsAcceptedNetwork};
+ghost use Rattle.afdx_network_check.specs.Rules.{FitsTogether, HasJitters, IsAcceptedNetwork};
 ghost use Rattle.afdx_messages.specs.declared.network_failure.JitterRule.TheVariants.{Jitter};
 ghost use Rattle.afdx_serve.specs.Networks.{names_of, judged, AreRefusedRows, FailsToAcceptNetwork};
 ghost use Rattle.afdx_serve.specs.NetworkChecks.{ways_text, IsNetworkCheck};
@@ -12,8 +12,9 @@ use crate::network_get::{get_network, names_of, refused};
 use afdx_csv::Form;
 use afdx_folder::{Folder, write_bytes};
 use afdx_messages::{Failure, JitterRule, NetworkFailure};
+use afdx_network_check::{ClearedNetwork, Network, Way, part_ways};
 use afdx_network_report::{accepted_text, ways_rows};
-use afdx_wiring::{ClearedNetwork, Network, NetworkFault, Short, Switch, Way};
+use afdx_wiring::{NetworkFault, Short, Switch};
 use std::alloc::{AllocError, Global};
 use std::io::Write;
 
@@ -94,7 +95,7 @@ fn check_text(
         return Err(AllocError);
     };
     let layout = cleared.network().layout();
-    let ways = layout.part_ways(alloc, ways)?;
+    let ways = part_ways(alloc, layout, ways)?;
     ways_text(alloc, form, names, layout.one_line, &ways.up, &ways.lost)
 }
 

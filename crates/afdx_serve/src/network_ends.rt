@@ -7,9 +7,9 @@ ghost use Rattle.afdx_network_report.specs.LinkEnds.{link_end_of};
 ghost use Rattle.afdx_network_report.specs.Rows.{link_end_row};
 
 use crate::network_plan::NetworkPlan;
+use afdx_network_check::{ClearedNetwork, Exit, Network, Way};
 use afdx_network_report::{LinkEnd, put_link_end, put_link_end_row};
 use afdx_origins::Origins;
-use afdx_wiring::{ClearedNetwork, Exit, Network, Way};
 use std::alloc::{AllocError, Global};
 
 /// The ends of ways.

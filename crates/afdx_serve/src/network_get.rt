@@ -2,7 +2,7 @@
 
 ghost use Rattle.std.specs.Prelude.{◌≡◌, ℕ, List, Ok, length, map, slice_get, option_map, option_and_then, string_bytes, IfOk, MatchResult};
 ghost use Rattle.std.specs.Path.{path_with_file_name};
-ghost use Rattle.afdx_wiring.specs.Order.{lost_port};
+ghost use Rattle.afdx_network_check.specs.Order.{lost_port};
 ghost use Rattle.afdx_folder.specs.Files.{KeepsFiles};
 ghost use Rattle.afdx_serve.specs.Networks.{bytes_in, names_of, HasLayout, HasTexts, AreTables, HasNetwork, switch_of, IsRefused, IsRefusedTable};
 ghost use Rattle.afdx_serve.specs.Networks.{FailsToLayout, FailsToGetTexts, FailsToReadTables, FailsToJoin, FailsToGetNetwork};
@@ -10,8 +10,9 @@ ghost use Rattle.afdx_serve.specs.Networks.{FailsToLayout, FailsToGetTexts, Fail
 use crate::get::get;
 use afdx_folder::Folder;
 use afdx_messages::{Failure, NetworkFailure};
+use afdx_network_check::Network;
 use afdx_table::{Table, TableFault};
-use afdx_wiring::{Layout, Network, NetworkFault, Switch};
+use afdx_wiring::{Layout, NetworkFault, Switch};
 use std::alloc::{AllocError, Global};
 use std::path::PathBuf;
 

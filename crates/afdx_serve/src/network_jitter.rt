@@ -3,8 +3,8 @@
 ghost use Rattle.std.specs.Prelude.{◌≡◌, ◌≢◌, map, string_bytes, Some, Ok, Err, IfOk, MatchResult};
 ghost use Rattle.afdx_table.specs.Content.{port_row};
 ghost use Rattle.afdx_wiring.specs.declared.fault.NetworkFault.TheVariants.{Memory};
-ghost use Rattle.afdx_wiring.specs.Needs.{AreNeeds};
-ghost use Rattle.afdx_wiring.specs.Rules.{FitsTogether};
+ghost use Rattle.afdx_network_check.specs.Needs.{AreNeeds};
+ghost use Rattle.afdx_network_check.specs.Rules.{FitsTogether};
 ghost use Rattle.afdx_serve.specs.NetworkJitters.{rate_fault, first_rate_fault, rates_fit, fit_of, needs_text};
 ghost use Rattle.afdx_messages.specs.declared.failure.Failure.TheVariants.{Memory as Out};
 ghost use Rattle.afdx_serve.specs.Serving.{world, GivesJitters, FailsToGiveJitters};
@@ -14,10 +14,11 @@ use afdx_csv::Form;
 use afdx_folder::{Folder, write_bytes};
 use afdx_load::{LoadFault, Loads, PARTS, Rule, breaks, loads};
 use afdx_messages::{Failure, JitterRule, NetworkFailure};
+use afdx_network_check::{Needs, Network, RowNeed, all_past};
 use afdx_network_report::{jitter_text, needs_rows};
 use afdx_table::laws::ports_are_found;
 use afdx_table::{PortRow, Table};
-use afdx_wiring::{Needs, Network, NetworkFault, RowNeed, all_past};
+use afdx_wiring::NetworkFault;
 use std::alloc::{AllocError, Global};
 use std::io::Write;
 

@@ -1,14 +1,14 @@
 //! What a run of a network is made over.
 
 ghost use Rattle.std.specs.Prelude.{◌≡◌, false, not, map, string_bytes, MatchResult};
-ghost use Rattle.afdx_wiring.specs.Rules.{IsAcceptedNetwork};
+ghost use Rattle.afdx_network_check.specs.Rules.{IsAcceptedNetwork};
 ghost use Rattle.afdx_serve.specs.Networks.{names_of};
 ghost use Rattle.afdx_serve.specs.NetworkRuns.{FailsToPlanNetwork};
 ghost use Rattle.afdx_serve.specs.Inner.NetworkRunning.{network_in, is_accepted};
 
 use crate::network_check::accept;
 use afdx_messages::Failure;
-use afdx_wiring::{ClearedNetwork, Network};
+use afdx_network_check::{ClearedNetwork, Network};
 use std::alloc::Global;
 
 /// The network that a run is made over.

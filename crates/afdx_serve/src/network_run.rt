@@ -3,7 +3,7 @@
 ghost use Rattle.std.specs.Prelude.{◌≡◌, ◌≢◌, ◌++◌, ℕ, List, length, map, string_bytes, Option, IfOk, IfErr, OnOk, MatchResult};
 ghost use Rattle.afdx_session.specs.Outcome.{Results};
 ghost use Rattle.afdx_session.specs.Written.{AreAppended};
-ghost use Rattle.afdx_wiring.specs.Net.{Network};
+ghost use Rattle.afdx_network_check.specs.Net.{Network};
 ghost use Rattle.afdx_network.specs.Runs.{Given};
 ghost use Rattle.afdx_network.specs.Given.{open_ends, all_ends, AreGivenBy, IsUncheckedRefusal, IsFaultOver, NoneShareAPort};
 ghost use Rattle.afdx_network.specs.Outage.{coming};

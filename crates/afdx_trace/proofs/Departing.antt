@@ -68,7 +68,8 @@ grown start all text line more longer before is = before ∙ sym (append_assoc t
 
 one_aged : (shown : Shown) (port : ℕ) (s : Settings) (all events : List Event) (sent : List Sent) (a : Aged) (aged : List Aged) (number : ℕ) (start text longer : List ℕ) → starts_aged events ≡ true
     → AreInOrder events
-    → sent_of events ≡ sent → aged_of events ≡ a ∷ aged → start ++ event_lines shown port s 0 all ≡ text ++ event_lines shown port s number events → longer ≡ text ++ if_shown shown a.item (aged_line shown port s a)
+    → sent_of events ≡ sent → aged_of events ≡ a ∷ aged → start ++ event_lines shown port s 0 all ≡ text ++ event_lines shown port s number events
+    → longer ≡ text ++ if_shown shown a.item (aged_line shown port s a)
     → Left shown port s all sent aged number start longer
 one_aged shown port s all [] sent a aged number start text longer next order sent_is aged_is before is = not_both next
 one_aged shown port s all (sending x ∷ events) sent a aged number start text longer next order sent_is aged_is before is = not_both next
@@ -83,7 +84,8 @@ one_aged shown port s all (aging b ∷ events) sent a aged number start text lon
 
 one_sent : (shown : Shown) (port : ℕ) (s : Settings) (all events : List Event) (x : Sent) (sent : List Sent) (aged : List Aged) (number : ℕ) (start text longer : List ℕ) → starts_aged events ≡ false
     → AreInOrder events
-    → sent_of events ≡ x ∷ sent → aged_of events ≡ aged → start ++ event_lines shown port s 0 all ≡ text ++ event_lines shown port s number events → longer ≡ text ++ if_shown shown x.item (sent_line shown port s (number + 1) x)
+    → sent_of events ≡ x ∷ sent → aged_of events ≡ aged → start ++ event_lines shown port s 0 all ≡ text ++ event_lines shown port s number events
+    → longer ≡ text ++ if_shown shown x.item (sent_line shown port s (number + 1) x)
     → Left shown port s all sent aged (number + 1) start longer
 one_sent shown port s all [] x sent aged number start text longer next order sent_is aged_is before is = absurd (let none : 0 ≡ length (x ∷ sent) = ap length sent_is in omega (arith, none))
 one_sent shown port s all (aging a ∷ events) x sent aged number start text longer next order sent_is aged_is before is = not_both (sym next)
@@ -99,21 +101,26 @@ one_sent shown port s all (sending y ∷ events) x sent aged number start text l
 -- what the lists say of the events
 reported : (shown : Shown) (port : ℕ) (s : Settings) (all : List Event) (sent : List Sent) (aged : List Aged) (number : ℕ) (start text : List ℕ) (l : Left shown port s all sent aged number start text)
     → ages_next sent aged ≡ starts_aged l.events
-reported shown port s all sent aged number start text l = sym (ap (λ (xs : List Sent). ages_next xs aged) l.sent_is) ∙ sym (ap (ages_next (sent_of l.events)) l.aged_is) ∙ ages_next-starts l.events l.order
+reported shown port s all sent aged number start text l = sym (ap (λ (xs : List Sent). ages_next xs aged) l.sent_is) ∙ sym (ap (ages_next (sent_of l.events)) l.aged_is)
+    ∙ ages_next-starts l.events l.order
 
 pub left_aged : (shown : Shown) (port : ℕ) (s : Settings) (sent₀ sent : List Sent) (aged₀ before_aged : List Aged) (a : Aged) (aged : List Aged) (number : ℕ) (start text longer : List ℕ)
     → ages_next sent before_aged ≡ true → before_aged ≡ a ∷ aged
-    → longer ≡ text ++ if_shown shown a.item (aged_line shown port s a) → LeftOf shown port s sent₀ aged₀ sent before_aged number start text → LeftOf shown port s sent₀ aged₀ sent aged number start longer
+    → longer ≡ text ++ if_shown shown a.item (aged_line shown port s a) → LeftOf shown port s sent₀ aged₀ sent before_aged number start text
+    → LeftOf shown port s sent₀ aged₀ sent aged number start longer
 left_aged shown port s sent₀ sent aged₀ before_aged a aged number start text longer next parts is before all order sent_is aged_is =
     let l = before all order sent_is aged_is in
-    one_aged shown port s all l.events sent a aged number start text longer (sym (reported shown port s all sent before_aged number start text l) ∙ next) l.order l.sent_is (l.aged_is ∙ parts) l.text_is is
+    one_aged shown port s all l.events sent a aged number start text longer (sym (reported shown port s all sent before_aged number start text l) ∙ next) l.order l.sent_is
+    (l.aged_is ∙ parts) l.text_is is
 
 pub left_sent : (shown : Shown) (port : ℕ) (s : Settings) (sent₀ before_sent : List Sent) (x : Sent) (sent : List Sent) (aged₀ aged : List Aged) (number : ℕ) (start text longer : List ℕ)
     → ages_next before_sent aged ≡ false → before_sent ≡ x ∷ sent
-    → longer ≡ text ++ if_shown shown x.item (sent_line shown port s (number + 1) x) → LeftOf shown port s sent₀ aged₀ before_sent aged number start text → LeftOf shown port s sent₀ aged₀ sent aged (number + 1) start longer
+    → longer ≡ text ++ if_shown shown x.item (sent_line shown port s (number + 1) x) → LeftOf shown port s sent₀ aged₀ before_sent aged number start text
+    → LeftOf shown port s sent₀ aged₀ sent aged (number + 1) start longer
 left_sent shown port s sent₀ before_sent x sent aged₀ aged number start text longer next parts is before all order sent_is aged_is =
     let l = before all order sent_is aged_is in
-    one_sent shown port s all l.events x sent aged number start text longer (sym (reported shown port s all before_sent aged number start text l) ∙ next) l.order (l.sent_is ∙ parts) l.aged_is l.text_is is
+    one_sent shown port s all l.events x sent aged number start text longer (sym (reported shown port s all before_sent aged number start text l) ∙ next) l.order
+    (l.sent_is ∙ parts) l.aged_is l.text_is is
 
 -- no event is left
 none_sent : (sent : List Sent) → length sent ≡ 0 → sent ≡ []

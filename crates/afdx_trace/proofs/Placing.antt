@@ -21,7 +21,7 @@ use Rattle.afdx_account.specs.Early.{IsEarlyBy, early_by}
 use Rattle.afdx_load.specs.Load.{terms_of}
 use Rattle.afdx_core.specs.declared.step.Row.{Row}
 use Rattle.afdx_core.specs.Rows.{named, account_frames, frame_of_row}
-use Rattle.afdx_core.specs.Kept.{AccountAgrees}
+use Rattle.afdx_core.specs.Kept.{AccountAgrees, AccountsAgree}
 
 pub record IsAt (t : Content) (v : Verdict) (place : ℕ) (l : Link) : Type 0 where
   pub within : place < length t.links
@@ -79,3 +79,10 @@ comes_early m l a before latest row early agrees same says =
     let own = subst (λ (x : Link). AccountAgrees x a before latest) same agrees in
     let left = subst (λ (t : Terms). IsLevelAfter t (account_since a) (account_level a (account_since a)) (account_frames l.id before)) (sym own.terms) own.level in
     says (account_frames l.id before) left ∙ ap (λ (t : Terms). early_by t (passed_frames t (account_frames l.id before)) (frame_of_row row)) own.terms
+
+-- the accounts agree at a later instant too
+pub agree_later : (links : List Link) (rows : List Row) (latest at : ℕ) (accounts : List Account) → latest ≤ at → AccountsAgree links rows latest accounts → AccountsAgree links rows at accounts
+agree_later links rows latest at accounts le agree = record {
+  len = agree.len;
+  each = λ k l a lt. let s = agree.each k l a lt in record { terms = s.terms; since = (let early = s.since in omega (arith, early, le)); level = s.level };
+}

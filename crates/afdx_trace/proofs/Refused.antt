@@ -124,7 +124,7 @@ none_of_rows t port k before (row ∷ rows) others =
 
 -- ---- a feed in parts
 
-each-append : {X Y : Type 0} (f : List X → X → List Y) (before xs ys : List X) → each_after f before (xs ++ ys) ≡ each_after f before xs ++ each_after f (before ++ xs) ys
+pub each-append : {X Y : Type 0} (f : List X → X → List Y) (before xs ys : List X) → each_after f before (xs ++ ys) ≡ each_after f before xs ++ each_after f (before ++ xs) ys
 each-append f before [] ys = ap (λ before. each_after f before ys) (sym (append-nil before))
 each-append f before (x ∷ xs) ys =
     ap (λ more. f before x ++ more) (each-append f (before ++ x ∷ []) xs ys ∙ ap (λ all. each_after f (before ++ x ∷ []) xs ++ each_after f all ys) (append_assoc before (x ∷ []) xs))

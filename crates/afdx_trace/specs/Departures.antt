@@ -1,6 +1,7 @@
 -- What became of the copies at each port, as comma-separated values (profile).
-use Rattle.std.specs.Prelude.{ℕ, ◌≤◌, ◌+◌, ◌-◌, ◌<◌, codes, decimal, Bool, true, false, nat_le, List, [], ◌∷◌, ◌++◌, flat_map, Some, if◌then◌else◌}
+use Rattle.std.specs.Prelude.{◌≡◌, ℕ, ◌≤◌, ◌+◌, ◌-◌, ◌<◌, codes, decimal, Bool, true, false, nat_le, List, [], ◌∷◌, ◌++◌, length, slice_get, flat_map, Option, Some, if◌then◌else◌}
 use Rattle.std.specs.List.{AllByRecursion}
+use Rattle.std.specs.Io.KnownBytes.{Appends}
 use Rattle.afdx_table.specs.declared.rows.PortRow.{PortRow}
 use Rattle.afdx_table.specs.Names.{priority_text}
 use Rattle.afdx_port.specs.declared.Settings.{Settings}
@@ -48,6 +49,14 @@ port_lines shown r p = event_lines shown p.id (settings_of r.table.latency p) 0 
 -- a heading, then what is shown of each port by rising number
 abbrev pub departures_text : Selection → Run → List ℕ
 departures_text selection r = departures_heading ++ flat_map (port_lines (shown_of selection r.rows) r) r.table.ports
+
+-- ---- files
+
+-- since the start the lines of each port of a finished run were appended to the file at its place
+pub record LinesAreAppended {F : Type 0} (contents : F → Option (List ℕ)) (s : Selection) (r : Run) (start now : List F) : Type 0 where
+  pub long : length now ≡ length start
+  pub each : (k : ℕ) (p : PortRow) (f g : F) → slice_get r.table.ports k ≡ Some p → slice_get start k ≡ Some f → slice_get now k ≡ Some g
+      → Appends (contents f) (contents g) (port_lines (shown_of s r.rows) r p)
 
 -- ---- the order of events
 

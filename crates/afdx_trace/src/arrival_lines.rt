@@ -9,7 +9,7 @@ use afdx_core::Done;
 use std::alloc::{AllocError, Allocator};
 
 /// The names of the fields.
-const HEADING: &str = "frame,port,record,stamp,link,size,fate,early,full\n";
+pub(crate) const HEADING: &str = "frame,port,record,stamp,link,size,fate,early,full\n";
 
 /// A line for each arrival that is selected, in the order in which the switch took them, after a heading.
 ///

@@ -5,7 +5,7 @@ ghost use Rattle.afdx_table.specs.Names.{priority_text};
 ghost use Rattle.afdx_table.specs.Content.{port_row};
 ghost use Rattle.afdx_port.specs.Service.{Event, sent_of, aged_of};
 ghost use Rattle.afdx_isolation.specs.Table.{settings_of};
-ghost use Rattle.afdx_trace.specs.Departures.{item_fields, if_shown, sent_line, aged_line, event_lines, port_lines, departures_text, ages_next, AreInOrder};
+ghost use Rattle.afdx_trace.specs.Departures.{departures_heading, item_fields, if_shown, sent_line, aged_line, event_lines, port_lines, departures_text, ages_next, AreInOrder};
 
 use crate::fields::{put_number, put_word};
 use crate::laws::events_are_in_order;
@@ -20,8 +20,15 @@ use std::alloc::{AllocError, Allocator};
 /// The names of the fields.
 const HEADING: &str = "port,record,frame,link,priority,size,came,start,left,delay,outcome\n";
 
+/// The first line of what [`crate::departures`] gives. O(1).
+pub fn departures_heading() -> &'static str
+    ensures { result.now ≡ departures_heading }
+{
+    HEADING
+}
+
 /// What a port of a switch of this latency is set to.
-fn settings_of(latency: u64, port: &PortRow) -> Settings
+pub(crate) fn settings_of(latency: u64, port: &PortRow) -> Settings
     ensures { result ≡ settings_of latency port.now }
 {
     Settings {
@@ -59,7 +66,7 @@ fn put_item<A: Allocator + Copy>(
 }
 
 /// Appends the line of a copy that a port sent, as the record of this number, if it is shown.
-fn put_sent<A: Allocator + Copy>(
+pub(crate) fn put_sent<A: Allocator + Copy>(
     text: &mut String<A>,
     shown: &Shown<'_>,
     port: u8,
@@ -83,7 +90,7 @@ fn put_sent<A: Allocator + Copy>(
 }
 
 /// Appends the line of a copy that a port discarded, if it is shown.
-fn put_aged<A: Allocator + Copy>(
+pub(crate) fn put_aged<A: Allocator + Copy>(
     text: &mut String<A>,
     shown: &Shown<'_>,
     port: u8,

@@ -1,6 +1,7 @@
 //! Laws over the definitions.
 
 ghost use Rattle.afdx_trace.specs.Inner.Laws.{EventsAreInOrder, FullIsExact};
+ghost use Rattle.afdx_trace.specs.Inner.Told.{LinesAreTold};
 
 use afdx_port::laws::{each_has_one_event, feeds_are_admitted_in_parts, starts_in_time_are_sent};
 
@@ -19,4 +20,11 @@ pub fn full_is_exact()
 {
     each_has_one_event();
     feeds_are_admitted_in_parts();
+}
+
+/// Once all is carried out, the lines of arrivals are those that could be told when these were taken.
+pub fn lines_are_told()
+    ensures { LinesAreTold }
+{
+    full_is_exact();
 }

@@ -1,9 +1,11 @@
 //! Which lines of a trace are written, and from when its stamps count.
 
-ghost use Rattle.std.specs.Prelude.{◌≡◌, ◌-◌};
-ghost use Rattle.afdx_trace.specs.Shown.{is_shown, shown_of};
+ghost use Rattle.std.specs.Prelude.{◌≡◌, ◌-◌, List};
+ghost use Rattle.afdx_core.specs.declared.step.Row.{Row as Arrived};
+ghost use Rattle.afdx_trace.specs.Shown.{is_shown, first_stamp, shown_of};
 
 use afdx_core::Row;
+use afdx_units::Stamp;
 
 /// Which lines of a run's trace are written, and from when its stamps count.
 #[derive(Clone, Copy, Debug)]
@@ -34,6 +36,16 @@ impl<'a> Shown<'a> {
         Shown {
             links: selection.links,
             origin,
+        }
+    }
+
+    /// What a selection shows of arrivals of which the first came at this stamp. O(1).
+    pub(crate) fn starting_at(selection: &Selection<'a>, first: Stamp) -> Shown<'a>
+        ensures { (rows : List Arrived) → first_stamp rows ≡ first → result ≡ shown_of selection.now rows }
+    {
+        Shown {
+            links: selection.links,
+            origin: if selection.relative { first.ns() } else { 0 },
         }
     }
 

@@ -1,7 +1,8 @@
 //! The lines of arrivals, one after the other.
 
-ghost use Rattle.std.specs.Prelude.{◌≡◌, ◌<◌, ◌∷◌, [], ◌++◌, codes, decimal, map, flat_map, length, string_bytes, IfOk, IfErr, OnOk, Some};
+ghost use Rattle.std.specs.Prelude.{◌≡◌, ◌<◌, ◌∷◌, [], ◌++◌, codes, decimal, List, map, flat_map, length, string_bytes, IfOk, IfErr, OnOk, Some};
 ghost use Rattle.afdx_filter.specs.Place.{place_named};
+ghost use Rattle.afdx_core.specs.declared.step.Row.{Row as Arrived};
 ghost use Rattle.afdx_core.specs.Kept.{AccountsAgree};
 ghost use Rattle.afdx_trace.specs.Csv.{next_field, joined_by, optional};
 ghost use Rattle.afdx_trace.specs.Arrivals.{verdict_word, record_in, frame_fields, fate_fields, shown_line};
@@ -19,7 +20,7 @@ use afdx_table::Table;
 use afdx_table::laws::{links_are_at_their_places, links_are_found};
 use std::alloc::{AllocError, Allocator};
 
-fn verdict_word(verdict: Verdict) -> &'static str
+pub(crate) fn verdict_word(verdict: Verdict) -> &'static str
     ensures { result.now ≡ verdict_word verdict }
 {
     match verdict {
@@ -91,18 +92,18 @@ fn put_link<A: Allocator + Copy>(text: &mut String<A>, link: Option<u16>) -> Res
     }
 }
 
-/// Appends the fields of an arrival, up to its size.
-fn put_frame<A: Allocator + Copy>(
+/// Appends the fields of an arrival, up to its size: its number among all, and that among the records of its port's capture.
+pub(crate) fn put_frame<A: Allocator + Copy>(
     text: &mut String<A>,
     shown: &Shown<'_>,
-    before: &[Row],
+    number: usize,
     place: usize,
     row: &Row,
 ) -> Result<(), AllocError>
-    requires { place ≡ record_in before.now row.now }
-    ensures { OnOk result (string_bytes text.new ≡ string_bytes text.old ++ frame_fields shown.now before.now row.now) }
+    ensures { (before : List Arrived) → number ≡ length before → place ≡ record_in before row.now
+        → OnOk result (string_bytes text.new ≡ string_bytes text.old ++ frame_fields shown.now before row.now) }
 {
-    write!(text, "{}", before.len())?;
+    write!(text, "{number}")?;
     put_number(text, u64::from(row.in_port))?;
     put_number(text, place as u64)?;
     put_number(text, shown.since(row.stamp.ns()))?;
@@ -111,7 +112,7 @@ fn put_frame<A: Allocator + Copy>(
 }
 
 /// Appends the fields of a fate and ends the line.
-fn put_fate<A: Allocator + Copy>(
+pub(crate) fn put_fate<A: Allocator + Copy>(
     text: &mut String<A>,
     word: &str,
     early: Option<u64>,
@@ -203,7 +204,7 @@ impl<A: Allocator + Copy> Tracer<A> {
         if !shown.has(row.link) {
             return Ok(());
         }
-        put_frame(text, shown, before, place, row)?;
+        put_frame(text, shown, before.len(), place, row)?;
         put_fate(text, word, early, &full)
     }
 }

@@ -4,7 +4,7 @@ use Rattle.afdx_pcap.specs.declared.fault.PcapFault.{PcapFault}
 use Rattle.afdx_session.specs.Texts.{Text}
 use Rattle.afdx_session.specs.Outcome.{Results}
 use Rattle.afdx_wiring.specs.declared.layout.End.{End}
-use Rattle.afdx_wiring.specs.Net.{Network}
+use Rattle.afdx_network_check.specs.Net.{Network}
 use Rattle.afdx_network.specs.Runs.{Given, IsRunOf, IsUncheckedRunOf}
 use Rattle.afdx_network.specs.Given.{open_ends, AreGiven}
 use Rattle.afdx_network.specs.Outage.{given_up, AreComing}

@@ -6,8 +6,8 @@ use Rattle.afdx_count.specs.Report.{report_of as counts_text}
 use Rattle.afdx_measure.specs.Policing.{policing_of}
 use Rattle.afdx_trace.specs.declared.shown.Selection.{Selection}
 use Rattle.afdx_origins.specs.Origins.{Origins}
-use Rattle.afdx_wiring.specs.Rules.{IsAcceptedNetwork}
-use Rattle.afdx_wiring.specs.Net.{Network}
+use Rattle.afdx_network_check.specs.Rules.{IsAcceptedNetwork}
+use Rattle.afdx_network_check.specs.Net.{Network}
 use Rattle.afdx_network.specs.Given.{NoneShareAPort}
 use Rattle.afdx_arguments.specs.declared.request.NetworkInputs.{NetworkInputs}
 use Rattle.afdx_folder.specs.Files.{Files}

@@ -23,6 +23,11 @@ pub record IsPassed (t : Content) (before : List Row) (row : Row) (to : List ℕ
   pub is_passed : passes link before row ≡ true
   pub leads : to ≡ link.to
 
+-- so it is by this link
+pub record PassesOn (t : Content) (before : List Row) (row : Row) (l : Link) : Type 0 where
+  pub names : named t row.verdict ≡ Some l
+  pub is_passed : passes l before row ≡ true
+
 -- one that is policed came so early
 pub record IsPoliced (t : Content) (before : List Row) (row : Row) (early : ℕ) : Type 0 where
   pub link : Link

@@ -1,5 +1,5 @@
 use Rattle.std.proofs.Common.{rules, ◌≡◌, Err, refl, sym, subst}
-use Rattle.afdx_wiring.specs.Order.{lost_port}
+use Rattle.afdx_network_check.specs.Order.{lost_port}
 use Rattle.afdx_messages.specs.declared.failure.Failure.{Failure}
 use Rattle.afdx_serve.specs.Networks.{bytes_in, HasTexts, AreTables, FailsToJoin}
 use Rattle.afdx_serve.proofs.NetworkLemmas.{of_wiring}

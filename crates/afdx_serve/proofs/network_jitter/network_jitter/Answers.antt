@@ -1,6 +1,6 @@
 use Rattle.std.proofs.Common.{◌≡◌, map, string_bytes, refl, inr, rules}
 use Rattle.std.proofs.KnownBytes.{Keeps-refl}
-use Rattle.afdx_wiring.specs.Needs.{all_past}
+use Rattle.afdx_network_check.specs.Needs.{all_past}
 use Rattle.afdx_messages.specs.declared.failure.Failure.TheVariants.{Write}
 use Rattle.afdx_serve.specs.Networks.{names_of}
 use Rattle.afdx_serve.specs.NetworkJitters.{needs_text}

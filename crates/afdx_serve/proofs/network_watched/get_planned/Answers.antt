@@ -1,6 +1,6 @@
 use Rattle.std.proofs.Common.{rules, ◌≡◌, ◌∙◌, length, map, string_bytes, inl, inr, sym, ap, subst}
-use Rattle.afdx_wiring.specs.Net.{Network}
-use Rattle.afdx_wiring.specs.Rules.{IsAcceptedNetwork}
+use Rattle.afdx_network_check.specs.Net.{Network}
+use Rattle.afdx_network_check.specs.Rules.{IsAcceptedNetwork}
 use Rattle.afdx_network.specs.Given.{NoneShareAPort}
 use Rattle.afdx_serve.specs.Networks.{names_of, HasNetwork}
 use Rattle.afdx_serve.proofs.Errors.{of_error}

@@ -17,4 +17,5 @@ returns g c =
     ∙ sym c.settings_of-settings.ensures in
     let lines = c.put_events.ensures (done (port_in r p)) (c.events_are_in_order.ensures (port_in r p)) (sym (c.sent.ensures.sent ∙ ap (sent_in r) c.requires))
     (sym (c.aged.ensures.aged ∙ ap (aged_in r) c.requires)) in
-    subst (λ (s : Settings). OnOk c.put_events.result (string_bytes c.put_events.new.text ≡ string_bytes c.args.text.now ++ event_lines c.args.shown.now p.id s 0 (done (port_in r p)))) (sym settings) lines
+    subst (λ (s : Settings). OnOk c.put_events.result (string_bytes c.put_events.new.text ≡ string_bytes c.args.text.now ++ event_lines c.args.shown.now p.id s 0 (done (port_in r p))))
+    (sym settings) lines

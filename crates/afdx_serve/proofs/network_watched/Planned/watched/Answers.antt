@@ -1,7 +1,7 @@
 use Rattle.std.proofs.Common.{◌≡◌, ◌∙◌, ℕ, List, length, map, string_bytes, sym, ap, subst}
 use Rattle.std.proofs.lemmas.List.{length-map}
 use Rattle.afdx_wiring.specs.declared.layout.End.{End}
-use Rattle.afdx_wiring.specs.Net.{Network}
+use Rattle.afdx_network_check.specs.Net.{Network}
 use Rattle.afdx_network.specs.Given.{open_ends}
 use Rattle.afdx_network.specs.Outage.{coming}
 use Rattle.afdx_network_report.specs.Lines.{Names, name_of}

@@ -1,0 +1,4 @@
+pub mod Coming
+pub mod Faults
+pub mod Merged
+pub mod Timed
