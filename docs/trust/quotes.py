@@ -39,7 +39,7 @@ ROOTS = [
     ("afdx_session", "Session.take"),
     ("afdx_session", "Session.finish"),
     ("afdx_jitter", "jitter_enough"),
-    ("afdx_wiring", "outages_change_no_way"),
+    ("afdx_network_check", "outages_change_no_way"),
     ("afdx_network", "run"),
     ("afdx_network", "run_unchecked"),
     ("afdx_network", "ways_deliver"),

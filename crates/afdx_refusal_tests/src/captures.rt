@@ -1,77 +1,10 @@
-//! Captures that are read and written.
+//! A reader of captures.
 
 use crate::allocations::{Calls, Memory, refuse};
-use afdx_pcap::{PcapFault, Reader, Record, read_all, write_all};
-use afdx_samples::{Sample, capture, large, small};
-use std::alloc::{Allocator, Global};
+use afdx_pcap::{PcapFault, Reader, Record};
+use afdx_samples::{capture, small};
+use std::alloc::Allocator;
 use std::test::*;
-
-/// Three large frames, of which the second comes a nanosecond too early.
-fn three_frames() -> [Sample; 3] {
-    [large(10, 0), large(10, 999_999), large(10, 1_000_000)]
-}
-
-/// `read_all` of a text.
-#[derive(Clone, Copy)]
-struct Reading<'a> {
-    alloc: Global,
-    text: &'a [u8],
-}
-
-/// Whether the text of these records is this one.
-fn are<A: Allocator>(alloc: Global, records: &[Record<'_, A>], text: &[u8]) -> bool {
-    match write_all(alloc, records) {
-        Ok(written) => written.as_slice() == text,
-        Err(_) => false,
-    }
-}
-
-impl Calls for Reading<'_> {
-    fn answer(&self, memory: &Memory) -> Result<Option<bool>, Fail> {
-        Ok(match read_all(memory, self.text) {
-            Ok(records) => Some(are(self.alloc, &records, self.text)),
-            Err(PcapFault::Memory) => None,
-            Err(_) => Some(false),
-        })
-    }
-}
-
-/// One allocation, for the list: the frames are lent.
-#[test]
-fn reading_a_whole_capture(rt: HostRuntime) -> Result<(), Fail> {
-    let alloc = rt.alloc();
-    let text = capture(alloc, &three_frames())?;
-    refuse(&rt, alloc, "read_all", &Reading { alloc, text: &text }, 1)
-}
-
-/// `write_all` of records.
-#[derive(Clone, Copy)]
-struct Writing<'a> {
-    records: &'a [Record<'a, Global>],
-    text: &'a [u8],
-}
-
-impl Calls for Writing<'_> {
-    fn answer(&self, memory: &Memory) -> Result<Option<bool>, Fail> {
-        Ok(match write_all(memory, self.records) {
-            Ok(text) => Some(text.as_slice() == self.text),
-            Err(PcapFault::Memory) => None,
-            Err(_) => Some(false),
-        })
-    }
-}
-
-#[test]
-fn writing_a_whole_capture(rt: HostRuntime) -> Result<(), Fail> {
-    let alloc = rt.alloc();
-    let text = capture(alloc, &three_frames())?;
-    let records = read_all(alloc, &text)?;
-    let calls = Writing {
-        records: &records,
-        text: &text,
-    };
-    refuse(&rt, alloc, "write_all", &calls, 1)
-}
 
 /// A reader that is fed a capture of one frame byte by byte.
 #[derive(Clone, Copy)]

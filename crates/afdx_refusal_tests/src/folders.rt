@@ -1,14 +1,8 @@
-//! The folder in memory that the tests have, with each of its allocations refused in turn: by its calls, of which each that is out
-//! of memory is made once more, in a run, and in a comparison.
+//! The folder in memory that the tests have. Each call that is out of memory is made once more.
 
 use crate::allocations::{Calls, Memory, count, made_again, refuse};
-use afdx_fixtures::{
-    COMPARE, CONFORMS, MemoryFolder, NO_DIFFERENCES, OneFrame, REPORT, RUN, answer_over,
-};
+use afdx_fixtures::{MemoryFolder, OneFrame};
 use afdx_folder::{Folder, FolderFault, NewFile};
-use std::alloc::Global;
-use std::io::Print;
-use std::process::Abort;
 use std::test::*;
 
 /// A call of a folder, for the file at this place.
@@ -152,76 +146,4 @@ fn files_put_and_got(rt: HostRuntime) -> Result<(), Fail> {
     let alloc = rt.alloc();
     let run = OneFrame::new(alloc)?;
     refuse(&rt, alloc, "Folder in memory", &Calling { run: &run }, 18)
-}
-
-/// The run of one frame.
-#[derive(Clone, Copy)]
-struct Running<'a> {
-    alloc: Global,
-    run: &'a OneFrame,
-}
-
-impl Calls for Running<'_> {
-    fn answer(&self, memory: &Memory) -> Result<Option<bool>, Fail> {
-        let mut folder = MemoryFolder::new(memory);
-        let Ok(()) = self.run.add_to(&mut folder) else {
-            return Ok(None);
-        };
-        let got = answer_over(self.alloc, RUN, b"", &mut folder)?;
-        let files = self.run.files();
-        if got.is(0, REPORT.as_bytes(), b"") {
-            return Ok(Some(folder.holds(&files, 5)));
-        }
-        // The captures that were put are the first, and no new file is left.
-        let is_left = folder.holds(&files, 3) || folder.holds(&files, 4);
-        let is_out = got.is(5, b"", b"afdx: memory\n") && is_left;
-        Ok(if is_out { None } else { Some(false) })
-    }
-}
-
-/// One allocation at least for the name and for the bytes of each file that is there, for each capture that is opened, for each new
-/// file that is begun, for the bytes of the frame that leaves, and for the name of each file that is put.
-#[test]
-fn new_files_are_put_or_let_go(rt: HostRuntime) -> Result<(), Fail> {
-    let alloc = rt.alloc();
-    let run = OneFrame::new(alloc)?;
-    let running = Running { alloc, run: &run };
-    refuse(&rt, alloc, "Run over a folder in memory", &running, 13)
-}
-
-/// The comparison of recordings of one frame.
-#[derive(Clone, Copy)]
-struct Comparing<'a> {
-    alloc: Global,
-    run: &'a OneFrame,
-}
-
-impl Calls for Comparing<'_> {
-    fn answer(&self, memory: &Memory) -> Result<Option<bool>, Fail> {
-        let mut folder = MemoryFolder::new(memory);
-        let Ok(()) = self.run.add_recordings_to(&mut folder) else {
-            return Ok(None);
-        };
-        let got = answer_over(self.alloc, COMPARE, b"", &mut folder)?;
-        if got.is(0, CONFORMS.as_bytes(), b"") {
-            return Ok(Some(folder.holds(&self.run.compared(NO_DIFFERENCES), 6)));
-        }
-        let is_out = got.is(5, b"", b"afdx: memory\n") && folder.holds(&self.run.files(), 5);
-        Ok(if is_out { None } else { Some(false) })
-    }
-}
-
-/// One allocation at least for the name and for the bytes of each recording, for each that is opened, and for the new file and its name.
-#[test]
-fn differences_are_put_or_let_go(rt: HostRuntime) -> Result<(), Fail> {
-    let alloc = rt.alloc();
-    let run = OneFrame::new(alloc)?;
-    let comparing = Comparing { alloc, run: &run };
-    refuse(
-        &rt,
-        alloc,
-        "Comparison over a folder in memory",
-        &comparing,
-        16,
-    )
 }

@@ -1,4 +1,4 @@
-//! Tests of calls that take memory, with each of their allocations refused in turn; what comes after it is right too.
+//! Tests of calls that go on after an allocation was refused: each of theirs is refused in turn, and what comes after it is right.
 //!
 //! They are in a crate of their own, since a crate with tests is proved twice.
 #![tactic(auto)]
@@ -15,8 +15,6 @@ mod counters;
 mod folders;
 #[cfg(test)]
 mod ports;
-#[cfg(test)]
-mod runs;
 #[cfg(test)]
 mod sessions;
 #[cfg(test)]

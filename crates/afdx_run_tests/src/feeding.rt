@@ -121,7 +121,7 @@ fn feed_more(
     bring(session, intake.port, piece, intake.closed)
 }
 
-/// The same of the capture at a place.
+/// The same of the capture at a place, if there is one; that of port 1 is the first.
 pub(crate) fn feed_at(
     session: &mut Session<Global>,
     intakes: &mut [Intake<'_>],
@@ -130,7 +130,7 @@ pub(crate) fn feed_at(
 ) -> Result<(), RunFault> {
     match intakes.get_mut(place) {
         Some(intake) => feed_more(session, intake, size),
-        None => Err(RunFault::WrongPorts),
+        None => Ok(()),
     }
 }
 
@@ -140,7 +140,7 @@ fn take_more(session: &mut Session<Global>, intake: &mut Intake<'_>) -> Result<(
     intake.taken.bytes.extend_from_slice(&bytes)
 }
 
-/// The same of the port at a place.
+/// The same of the port at a place, if there is one.
 pub(crate) fn take_at(
     session: &mut Session<Global>,
     intakes: &mut [Intake<'_>],
@@ -152,61 +152,8 @@ pub(crate) fn take_at(
     }
 }
 
-/// Takes what has gone out of each port.
-fn take_all(session: &mut Session<Global>, intakes: &mut [Intake<'_>]) -> Result<(), AllocError> {
-    for intake in intakes.iter_mut() {
-        take_more(session, intake)?;
-    }
-    Ok(())
-}
-
-/// A piece for each port at these places, one after the other; after each call all is taken.
-fn round(
-    session: &mut Session<Global>,
-    intakes: &mut [Intake<'_>],
-    places: &[usize],
-    size: usize,
-) -> Result<(), RunFault> {
-    for place in places {
-        feed_at(session, intakes, *place, size)?;
-        take_all(session, intakes)?;
-    }
-    Ok(())
-}
-
-fn are_closed(intakes: &[Intake<'_>]) -> bool {
+pub(crate) fn are_closed(intakes: &[Intake<'_>]) -> bool {
     intakes.iter().all(|intake| intake.closed)
-}
-
-/// Rounds until all captures have ended, but no more than 100,000.
-pub(crate) fn feed_all(
-    session: &mut Session<Global>,
-    intakes: &mut [Intake<'_>],
-    places: &[usize],
-    size: usize,
-) -> Result<(), RunFault> {
-    for _ in 0..100_000 {
-        if are_closed(intakes) {
-            break;
-        }
-        round(session, intakes, places, size)?;
-    }
-    Ok(())
-}
-
-/// The next bytes of a port's capture come, so many at most; with the last of them it ends.
-fn feed_port(
-    session: &mut Session<Global>,
-    intakes: &mut [Intake<'_>],
-    port: u8,
-    size: usize,
-) -> Result<(), RunFault> {
-    for intake in intakes.iter_mut() {
-        if intake.port == port {
-            return feed_more(session, intake, size);
-        }
-    }
-    Err(RunFault::WrongPorts)
 }
 
 /// What has gone out of each port goes to its file; whether nothing is left to be taken then.
@@ -241,7 +188,7 @@ pub(crate) fn feed_waited(
             break;
         };
         right = session.is_last(port) == are_others_closed(intakes, port) && right;
-        feed_port(session, intakes, port, size)?;
+        feed_at(session, intakes, usize::from(port).saturating_sub(1), size)?;
         right = write_all(session, intakes)? && right;
     }
     Ok(right && are_closed(intakes))

@@ -1,18 +1,14 @@
-//! Tests of runs: sessions by their calls, captures in any pieces and with each cut, outputs in parts, and networks of switches.
+//! Tests of runs: sessions by their calls, captures in any pieces, and networks of switches.
 //!
 //! They are in a crate of their own, since a crate with tests is proved twice.
 #![tactic(auto)]
 
-#[cfg(test)]
-mod cuts;
 #[cfg(test)]
 mod feeding;
 #[cfg(test)]
 mod network_runs;
 #[cfg(test)]
 mod networks;
-#[cfg(test)]
-mod parts;
 #[cfg(test)]
 mod pieces;
 #[cfg(test)]

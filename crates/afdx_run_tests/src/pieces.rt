@@ -1,14 +1,14 @@
 //! Captures that come in pieces, in any order of ports, beside a run over the whole captures.
 
 use crate::feeding::{
-    Intake, Reported, agree, feed_all, feed_at, feed_waited, intakes, open, rest, take_at, whole,
+    Intake, Reported, agree, are_closed, feed_at, feed_waited, intakes, open, rest, take_at, whole,
 };
 use crate::settings::Content::Rows;
 use crate::settings::{DOUBLE, LINK, MIXED, NARROW, ONE, SINGLE, SLOW, Setting, THREE, TWO};
 use crate::texts::Frame::{Large, Small};
 use crate::texts::Text::{Frames, Parts};
 use crate::texts::{EMPTY, Text, captures};
-use afdx_samples::{FRAME, HEADER, Link, Port, Sample, capture, frame};
+use afdx_samples::{FRAME, Link, Port, Sample, capture, frame};
 use afdx_session::Session;
 use rand::RngExt;
 use rand::rngs::SmallRng;
@@ -18,20 +18,17 @@ use std::test::*;
 
 /// How the pieces of captures come.
 #[derive(Clone, Copy)]
-enum Pieces<'a> {
-    /// Of this size, round the captures at these places, while all that goes out is taken.
-    Round(&'a [usize], usize),
-    /// Of random sizes and captures, with takes at random, which this seed determines.
-    Random(u64),
+enum Pieces {
+    /// Of at most this size, of captures at random, with takes at random: the seed determines all three.
+    Random(usize, u64),
     /// Of this size, each of the capture that holds back the output, while all that goes out goes to files.
     Waited(usize),
 }
 
 /// The pieces come; whether none was refused, and the session says rightly what it waits for.
-fn come(session: &mut Session<Global>, intakes: &mut [Intake<'_>], pieces: Pieces<'_>) -> bool {
+fn come(session: &mut Session<Global>, intakes: &mut [Intake<'_>], pieces: Pieces) -> bool {
     match pieces {
-        Pieces::Round(places, size) => feed_all(session, intakes, places, size).is_ok(),
-        Pieces::Random(seed) => come_at_random(session, intakes, seed),
+        Pieces::Random(most, seed) => come_at_random(session, intakes, most, seed),
         Pieces::Waited(size) => feed_waited(session, intakes, size) == Ok(true),
     }
 }
@@ -41,7 +38,7 @@ fn lead(
     alloc: Global,
     setting: Setting,
     captures: &[(u8, Vec<u8>)],
-    pieces: Pieces<'_>,
+    pieces: Pieces,
     whole: &Reported,
 ) -> Result<bool, Fail> {
     let mut intakes = intakes(alloc, captures)?;
@@ -58,7 +55,7 @@ fn all_lead(
     alloc: Global,
     setting: Setting,
     captures: &[(u8, Vec<u8>)],
-    kinds: &[Pieces<'_>],
+    kinds: &[Pieces],
 ) -> Result<bool, Fail> {
     let whole = whole(alloc, setting, captures)?;
     let mut right = true;
@@ -74,30 +71,12 @@ struct Row {
     name: &'static str,
     setting: Setting,
     came: &'static [Text],
-    kinds: &'static [Pieces<'static>],
 }
 
-/// Pieces of 1, 7 and 64 bytes round two ports, from the lowest and from the highest, and of the port that is waited for.
-const ROUND_TWO: &[Pieces<'static>] = &[
-    Pieces::Round(&[0, 1], 1),
-    Pieces::Round(&[0, 1], 7),
-    Pieces::Round(&[0, 1], 64),
-    Pieces::Round(&[1, 0], 1),
-    Pieces::Round(&[1, 0], 7),
-    Pieces::Round(&[1, 0], 64),
-    Pieces::Waited(1),
-    Pieces::Waited(7),
-    Pieces::Waited(64),
-];
-
-/// The same round three ports.
-const ROUND_THREE: &[Pieces<'static>] = &[
-    Pieces::Round(&[0, 1, 2], 1),
-    Pieces::Round(&[0, 1, 2], 7),
-    Pieces::Round(&[0, 1, 2], 64),
-    Pieces::Round(&[2, 1, 0], 1),
-    Pieces::Round(&[2, 1, 0], 7),
-    Pieces::Round(&[2, 1, 0], 64),
+/// Pieces of up to 7 and 64 bytes at random, and of 1, 7 and 64 bytes of the port that is waited for.
+const KINDS: &[Pieces] = &[
+    Pieces::Random(7, 1),
+    Pieces::Random(64, 2),
     Pieces::Waited(1),
     Pieces::Waited(7),
     Pieces::Waited(64),
@@ -122,25 +101,21 @@ const ROWS: &[Row] = &[
         name: "one frame",
         setting: SINGLE,
         came: &[Frames(&[Small(10, 0)]), EMPTY],
-        kinds: ROUND_TWO,
     },
     Row {
         name: "a high frame overtakes",
         setting: MIXED,
         came: &[Frames(&[Large(10, 0), Small(11, 1), Small(12, 1)]), EMPTY],
-        kinds: ROUND_TWO,
     },
     Row {
         name: "one port is full",
         setting: SLOW,
         came: &[Frames(&[Small(10, 0), Small(10, 0)]), EMPTY, EMPTY],
-        kinds: ROUND_THREE,
     },
     Row {
         name: "every verdict",
         setting: NARROW,
         came: &[Text::OneOfEach, Frames(&[Small(10, 0)]), EMPTY],
-        kinds: ROUND_THREE,
     },
     Row {
         name: "two formats",
@@ -150,18 +125,17 @@ const ROWS: &[Row] = &[
             Parts(&[&BIG_NANOS, &AT_BIG_NANOS, &FRAME]),
             EMPTY,
         ],
-        kinds: ROUND_THREE,
     },
 ];
 
 /// Whether the captures of a row lead where the whole run does.
 fn row_leads(alloc: Global, row: &Row) -> Result<bool, Fail> {
     let captures = captures(alloc, row.came)?;
-    all_lead(alloc, row.setting, &captures, row.kinds)
+    all_lead(alloc, row.setting, &captures, KINDS)
 }
 
 #[test]
-fn any_pieces_round_the_ports(rt: HostRuntime) -> Result<(), Fail> {
+fn any_pieces(rt: HostRuntime) -> Result<(), Fail> {
     for row in ROWS {
         assert!(rt; row_leads(rt.alloc(), row)?, "{}", row.name);
     }
@@ -266,10 +240,9 @@ fn traffic(alloc: Global, random: &mut SmallRng, count: usize) -> Result<Vec<u8>
 /// Captures of the four ports; nothing comes in at port 3.
 fn random_captures(alloc: Global, random: &mut SmallRng) -> Result<Vec<(u8, Vec<u8>)>, AllocError> {
     let mut captures = Vec::new(alloc);
-    captures.push((1, traffic(alloc, random, 40)?))?;
-    captures.push((2, traffic(alloc, random, 25)?))?;
-    captures.push((3, Vec::from_slice(alloc, &HEADER)?))?;
-    captures.push((4, traffic(alloc, random, 60)?))?;
+    for (port, count) in [(1u8, 40usize), (2, 25), (3, 0), (4, 60)] {
+        captures.push((port, traffic(alloc, random, count)?))?;
+    }
     Ok(captures)
 }
 
@@ -277,21 +250,30 @@ fn random_captures(alloc: Global, random: &mut SmallRng) -> Result<Vec<(u8, Vec<
 fn step_at_random(
     session: &mut Session<Global>,
     intakes: &mut [Intake<'_>],
+    most: usize,
     random: &mut SmallRng,
 ) -> bool {
-    let size = random.random_range(0usize..120);
+    let size = random.random_range(0usize..=most);
     let fed = feed_at(session, intakes, random.random_range(0usize..4), size).is_ok();
     take_at(session, intakes, random.random_range(0usize..4)).is_ok() && fed
 }
 
-/// So it goes 400 times, and then what is left comes; whether none was refused.
-fn come_at_random(session: &mut Session<Global>, intakes: &mut [Intake<'_>], seed: u64) -> bool {
+/// So it goes until all captures have ended, but no more than 100,000 times; whether none was refused.
+fn come_at_random(
+    session: &mut Session<Global>,
+    intakes: &mut [Intake<'_>],
+    most: usize,
+    seed: u64,
+) -> bool {
     let mut random = SmallRng::seed_from_u64(seed);
     let mut right = true;
-    for _ in 0..400 {
-        right = step_at_random(session, intakes, &mut random) && right;
+    for _ in 0..100_000 {
+        if are_closed(intakes) {
+            break;
+        }
+        right = step_at_random(session, intakes, most, &mut random) && right;
     }
-    feed_all(session, intakes, &[2, 0, 3, 1], 1000).is_ok() && right
+    right && are_closed(intakes)
 }
 
 /// Whether random pieces of random ports lead where the whole captures do. The seed makes the captures too.
@@ -302,7 +284,7 @@ fn random_captures_lead(alloc: Global, seed: u64) -> Result<bool, Fail> {
         alloc,
         NETWORK,
         &captures,
-        &[Pieces::Random(seed), Pieces::Waited(100)],
+        &[Pieces::Random(120, seed), Pieces::Waited(100)],
     )
 }
 

@@ -8,12 +8,14 @@ use afdx_measure::{Measuring, Wanted, report};
 use afdx_network_trace::with_first_numbers;
 use afdx_paced::Paced;
 use afdx_rows::put_verdict;
-use afdx_samples::{record, single, small};
+use afdx_samples::{MemoryFile, capture, record, single, small};
 use afdx_session::{Plan, finished, run};
 use afdx_table::read;
 use afdx_trace::{Selection, arrivals};
+use afdx_trace_run::trace_from;
 use afdx_units::Stamp;
 use afdx_verdict::{push_verdict, verdict};
+use std::alloc::Global;
 use std::test::Fail;
 
 /// One frame at port 1.
@@ -71,6 +73,46 @@ fn numbers_at_first_switches(rt: HostRuntime) -> Result<(), Fail> {
     let text = with_first_numbers(rt.alloc(), arrivals, &[None, Some(7)])?;
     let with_origins = b"frame,port,origin\n0,1,\n1,2,7\n".as_slice();
     assert_eq!(rt; text.as_slice(), with_origins);
+    // end of example
+    Ok(())
+}
+
+/// A file with no bytes in memory.
+fn no_bytes(alloc: Global) -> MemoryFile<Global> {
+    MemoryFile {
+        bytes: Vec::new(alloc),
+    }
+}
+
+#[test]
+fn trace_of_one_frame_while_it_runs(rt: HostRuntime) -> Result<(), Fail> {
+    let plan = plan(rt.alloc(), SINGLE)?;
+    if plan.table().ports().len() != 2 {
+        return Err("a table of two ports".into());
+    }
+    let captures = [
+        (1u8, capture(rt.alloc(), &[small(10, 0)])?),
+        (2u8, capture(rt.alloc(), &[])?),
+    ];
+    let mut departures = [no_bytes(rt.alloc()), no_bytes(rt.alloc())];
+    // example of afdx_trace_run
+    let mut readers = [captures[0].1.as_slice(), captures[1].1.as_slice()];
+    let mut arrivals = MemoryFile {
+        bytes: Vec::new(rt.alloc()),
+    };
+    let all = Selection {
+        links: &[],
+        relative: false,
+    };
+    trace_from(
+        rt.alloc(),
+        plan,
+        &all,
+        &mut readers,
+        &mut arrivals,
+        &mut departures,
+    )?;
+    assert_eq!(rt; arrivals.bytes.as_slice(), ARRIVALS.as_bytes());
     // end of example
     Ok(())
 }

@@ -119,18 +119,3 @@ pub(crate) fn plan(alloc: Global, setting: Setting) -> Result<Plan, Fail> {
         Ok(Plan::Unchecked(table))
     }
 }
-
-/// How many links the table of a plan has.
-fn links_of(alloc: Global, setting: Setting) -> Result<usize, Fail> {
-    let plan = plan(alloc, setting)?;
-    Ok(plan.table().link_count())
-}
-
-#[test]
-fn plans_have_their_table(rt: HostRuntime) -> Result<(), Fail> {
-    for checked in [true, false] {
-        let setting = Setting { checked, ..SINGLE };
-        assert!(rt; links_of(rt.alloc(), setting)? == 1, "checked {checked}");
-    }
-    Ok(())
-}

@@ -23,10 +23,6 @@ pub(crate) enum Text {
     Parts(&'static [&'static [u8]]),
     /// Frames of link 10 with each verdict at a port of the table `narrow`.
     OneOfEach,
-    /// A thousand of the largest frames of link 20 at once.
-    Babble,
-    /// Three hundred of the largest frames of link 10, one each millisecond.
-    Steady,
 }
 
 /// No bytes.
@@ -61,14 +57,6 @@ fn records(alloc: Global, frames: &[Frame]) -> Result<Vec<u8>, AllocError> {
     Vec::from_slice(alloc, whole.get(24..).unwrap_or(&[]))
 }
 
-fn steady(alloc: Global) -> Result<Vec<u8>, AllocError> {
-    let mut samples = Vec::new(alloc);
-    for millis in 0..300u32 {
-        samples.push(large(10, millis * 1_000_000))?;
-    }
-    capture(alloc, &samples)
-}
-
 /// The bytes of a text.
 pub(crate) fn bytes(alloc: Global, text: Text) -> Result<Vec<u8>, AllocError> {
     match text {
@@ -76,8 +64,6 @@ pub(crate) fn bytes(alloc: Global, text: Text) -> Result<Vec<u8>, AllocError> {
         Text::Records(frames) => records(alloc, frames),
         Text::Parts(parts) => joined(alloc, parts),
         Text::OneOfEach => capture(alloc, &one_of_each()),
-        Text::Babble => capture(alloc, &[large(20, 0); 1000]),
-        Text::Steady => steady(alloc),
     }
 }
 

@@ -1,58 +1,64 @@
 //! A switch by its calls: refusals, offers and records.
 
-use crate::traffic::{
-    Call, answered, arrive, checked, finished, leaves, plays_to_the_end, switch_of,
-};
+use crate::traffic::Frame::Small;
+use crate::traffic::{Answer, Call, answered, arrive, checked, finished, leaves, switch_of};
 use afdx_core::{CoreFault, Done, Fate, Switch};
 use afdx_port::Offer;
-use afdx_samples::{FRAME, double, joined, large, port, record, single, small};
+use afdx_samples::{FRAME, joined, record, single, small};
 use afdx_table::read;
 use std::alloc::Global;
 use std::test::*;
 
-/// Whether a switch over a table of one link was checked, how many of eight calls it answers as it should, whether it then hands
-/// out the rest, and what it gives at the end.
+/// Calls of a switch over a table of one link.
+const CALLS: [Call; 8] = [
+    Call::Arrive(
+        7,
+        Small(10, 5),
+        (None, None, Some(CoreFault::NoSuchPort), 5),
+    ),
+    Call::Arrive(1, Small(10, 5), QUEUED),
+    Call::Arrive(1, Small(10, 4), (None, None, Some(CoreFault::Earlier), 4)),
+    Call::Arrive(1, Small(10, 5), QUEUED),
+    Call::Advance(4, false),
+    Call::Next(2, None),
+    Call::Advance(6, true),
+    Call::Next(2, Some((6_725, 60))),
+];
+
+const QUEUED: Answer = (Some(Fate::Passed(10)), Some((2, Offer::Queued)), None, 0);
+
+/// Whether a switch was checked, how many of the calls it answers as it should, whether it then hands out the rest, and what it gives
+/// at the end.
 fn answers_calls(
     alloc: Global,
     mut switch: Switch<'static, Global>,
 ) -> (bool, usize, bool, (usize, usize, usize)) {
-    let queued = (Some(Fate::Passed(10)), Some((2, Offer::Queued)), None, 0);
-    let unknown = (None, None, Some(CoreFault::NoSuchPort), 5);
-    let earlier = (None, None, Some(CoreFault::Earlier), 4);
-    let calls = [
-        Call::Arrive(7, small(10, 5), unknown),
-        Call::Arrive(1, small(10, 5), queued),
-        Call::Arrive(1, small(10, 4), earlier),
-        Call::Arrive(1, small(10, 5), queued),
-        Call::Advance(4, false),
-        Call::Next(2, None),
-        Call::Advance(6, true),
-        Call::Next(2, Some((6_725, 60))),
-    ];
     let accepted = switch.accepted();
-    let count = answered(alloc, &mut switch, &calls);
+    let count = answered(alloc, &mut switch, &CALLS);
     let mut done = finished(switch);
     let is_left = leaves(&mut done, 2, &[(13_445, 60)]);
     (accepted, count, is_left, reported_at_the_end(&done))
 }
 
-#[test]
-fn switch_by_calls(rt: HostRuntime) -> Result<(), Fail> {
-    let switch = switch_of(rt.alloc(), &single(rt.alloc())?)?;
-    assert_eq!(rt;
-        answers_calls(rt.alloc(), switch),
-        (false, 8, true, (2, 0, 2))
-    );
-    Ok(())
+/// A switch over the table of a text, which is checked first or not.
+fn made(alloc: Global, text: &str, is_checked: bool) -> Result<Switch<'static, Global>, Fail> {
+    if is_checked {
+        checked(alloc, text)
+    } else {
+        switch_of(alloc, text)
+    }
 }
 
 #[test]
-fn checked_switch_by_calls(rt: HostRuntime) -> Result<(), Fail> {
-    let switch = checked(rt.alloc(), &single(rt.alloc())?)?;
-    assert_eq!(rt;
-        answers_calls(rt.alloc(), switch),
-        (true, 8, true, (2, 0, 2))
-    );
+fn switch_by_calls(rt: HostRuntime) -> Result<(), Fail> {
+    let text = single(rt.alloc())?;
+    for is_checked in [false, true] {
+        let switch = made(rt.alloc(), &text, is_checked)?;
+        assert_eq!(rt;
+            answers_calls(rt.alloc(), switch),
+            (is_checked, 8, true, (2, 0, 2))
+        );
+    }
     Ok(())
 }
 
@@ -114,20 +120,6 @@ fn two_frames_as_a_capture(rt: HostRuntime) -> Result<(), Fail> {
     let mut capture = Vec::new(rt.alloc());
     let is_told = appends_two(rt.alloc(), switch, &mut capture);
     assert!(rt; is_told && capture.as_slice() == text.as_slice());
-    Ok(())
-}
-
-/// The other merge of one instant: the large frame first. Both leave, at the ends that the definitions give for this order.
-#[test]
-fn second_merge_of_one_instant(rt: HostRuntime) -> Result<(), Fail> {
-    let calls = [
-        Call::Fate(2, large(20, 0), Fate::Passed(20)),
-        Call::Fate(1, small(10, 0), Fate::Passed(10)),
-    ];
-    let left = [(123_040, 1514), (129_760, 60)];
-    let text = double(rt.alloc(), port(3))?;
-    let played = plays_to_the_end(rt.alloc(), &text, &calls, 3, &left)?;
-    assert_eq!(rt; played, (2, true));
     Ok(())
 }
 

@@ -14,4 +14,6 @@ mod kept;
 #[cfg(test)]
 mod ports;
 #[cfg(test)]
+mod scenes;
+#[cfg(test)]
 mod traffic;

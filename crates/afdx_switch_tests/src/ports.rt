@@ -1,4 +1,4 @@
-//! Items offered to one port, worked out by hand.
+//! When items that were offered to one port begin, worked out by hand.
 
 ghost use Rattle.std.specs.Prelude.{◌≡◌, ◌+◌, ◌<◌, ◌≤◌, false, All};
 ghost use Rattle.afdx_units.specs.Time.{last_second};
@@ -6,7 +6,7 @@ ghost use Rattle.afdx_units.specs.Line.{least_size, greatest_size};
 
 use afdx_port::{Item, Offer, Port};
 use afdx_units::{Priority, Speed, Stamp};
-use std::alloc::{AllocError, Global};
+use std::alloc::Global;
 use std::test::Fail;
 
 /// Offers an item of this size that came at so many nanoseconds.
@@ -41,72 +41,6 @@ fn sent(port: &Port<Global>) -> (usize, Option<(usize, u64)>) {
         port.sent().len(),
         last.map(|sent| (sent.item.number, sent.end.ns())),
     )
-}
-
-/// How many items a port discarded, with the number of the last of them and the instant.
-fn aged(port: &Port<Global>) -> (usize, Option<(usize, u64)>) {
-    let last = port.aged().last();
-    (
-        port.aged().len(),
-        last.map(|aged| (aged.item.number, aged.at.ns())),
-    )
-}
-
-#[test]
-fn port_of_switch_by_calls(rt: HostRuntime) -> Result<(), Fail> {
-    let mut port = Port::new(rt.alloc(), Speed::Hundred, 64, 500_000, 0);
-    port.reserve(2)?;
-    let has_room = port.room() >= 2;
-    let first = offer(&mut port, 1, 0, 64, Priority::Low);
-    let second = offer(&mut port, 2, 0, 64, Priority::Low);
-    assert!(rt;
-        (has_room, first, second, port.finished()) == (true, Offer::Queued, Offer::Full, false)
-    );
-    Ok(())
-}
-
-/// What a port with a buffer of 1581 bytes does with an item of 1517 that it sends, one of 64 that it discards, and one of 1518
-/// that comes then: the answer to the third, what was sent and what was discarded.
-#[derive(Clone, Copy, PartialEq, Eq)]
-struct Crowded {
-    answer: Offer,
-    sent: (usize, Option<(usize, u64)>),
-    aged: (usize, Option<(usize, u64)>),
-}
-
-fn beside_aged(alloc: Global, at: u64) -> Result<Crowded, AllocError>
-    requires { at < last_second }
-{
-    let mut port = Port::new(alloc, Speed::Hundred, 1581, 100_000, 0);
-    port.reserve(3)?;
-    offer(&mut port, 1, 0, 1517, Priority::Low);
-    offer(&mut port, 2, 0, 64, Priority::Low);
-    let answer = offer(&mut port, 3, at, 1518, Priority::Low);
-    port.finish();
-    Ok(Crowded {
-        answer,
-        sent: sent(&port),
-        aged: aged(&port),
-    })
-}
-
-/// The room of a discarded item is given a nanosecond later, and not at once.
-#[test]
-fn buffer_beside_aged(rt: HostRuntime) -> Result<(), Fail> {
-    let full = Crowded {
-        answer: Offer::Full,
-        sent: (1, Some((1, 122_960))),
-        aged: (1, Some((2, 122_960))),
-    };
-    let queued = Crowded {
-        answer: Offer::Queued,
-        sent: (2, Some((3, 246_001))),
-        ..full
-    };
-    let at_once = beside_aged(rt.alloc(), 122_960)?;
-    let later = beside_aged(rt.alloc(), 122_961)?;
-    assert!(rt; at_once == full && later == queued);
-    Ok(())
 }
 
 /// The instant at which something is due at a port, if anything is.

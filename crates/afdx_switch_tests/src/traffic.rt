@@ -4,7 +4,7 @@ use afdx_core::{CoreFault, Done, Fate, Switch};
 use afdx_load::check;
 use afdx_pcap::Record;
 use afdx_port::Offer;
-use afdx_samples::{Sample, record};
+use afdx_samples::{Sample, large, record, small};
 use afdx_table::{Table, read};
 use afdx_units::Stamp;
 use std::alloc::{AllocError, Global};
@@ -118,15 +118,31 @@ fn advances(switch: &mut Switch<'static, Global>, ns: u64) -> bool {
     }
 }
 
+/// A frame.
+#[derive(Clone, Copy)]
+pub(crate) enum Frame {
+    /// Of size 64: its link and its nanoseconds.
+    Small(u8, u32),
+    /// Of size 1518: its link and its nanoseconds.
+    Large(u8, u32),
+}
+
+fn sample(frame: Frame) -> Sample {
+    match frame {
+        Frame::Small(link, nanos) => small(link, nanos),
+        Frame::Large(link, nanos) => large(link, nanos),
+    }
+}
+
 /// A call of a switch, and what it should answer.
 #[derive(Clone, Copy)]
 pub(crate) enum Call {
     /// A frame arrives at a port.
-    Arrive(u8, Sample, Answer),
+    Arrive(u8, Frame, Answer),
     /// A frame arrives at a port, of which the fate is reported alone.
-    Fate(u8, Sample, Fate),
+    Fate(u8, Frame, Fate),
     /// A frame arrives at a port, of which the first two offers are reported alone.
-    Offers(u8, Sample, (Option<(u8, Offer)>, Option<(u8, Offer)>)),
+    Offers(u8, Frame, (Option<(u8, Offer)>, Option<(u8, Offer)>)),
     /// An advance to so many nanoseconds, and whether it is made.
     Advance(u64, bool),
     /// The next frame of a port, by its end and its number of bytes.
@@ -138,9 +154,13 @@ pub(crate) enum Call {
 /// Whether a switch answers this call so.
 fn answers(alloc: Global, switch: &mut Switch<'static, Global>, call: Call) -> bool {
     match call {
-        Call::Arrive(port, sample, expected) => arrive(alloc, switch, port, sample) == expected,
-        Call::Fate(port, sample, fate) => arrive(alloc, switch, port, sample).0 == Some(fate),
-        Call::Offers(port, sample, expected) => offers(alloc, switch, port, sample) == expected,
+        Call::Arrive(port, frame, expected) => {
+            arrive(alloc, switch, port, sample(frame)) == expected
+        }
+        Call::Fate(port, frame, fate) => arrive(alloc, switch, port, sample(frame)).0 == Some(fate),
+        Call::Offers(port, frame, expected) => {
+            offers(alloc, switch, port, sample(frame)) == expected
+        }
         Call::Advance(ns, expected) => advances(switch, ns) == expected,
         Call::Next(port, expected) => next(switch, port) == Ok(expected),
         Call::Held(expected) => switch.held() == expected,
@@ -157,25 +177,4 @@ pub(crate) fn answered(
         .iter()
         .take_while(|call| answers(alloc, switch, **call))
         .count()
-}
-
-/// How many of these calls a switch over the table of a text, which is not checked, answers so.
-pub(crate) fn plays(alloc: Global, text: &str, calls: &[Call]) -> Result<usize, Fail> {
-    let mut switch = switch_of(alloc, text)?;
-    Ok(answered(alloc, &mut switch, calls))
-}
-
-/// The same, and whether the finished switch then hands out these at a port and nothing more.
-pub(crate) fn plays_to_the_end(
-    alloc: Global,
-    text: &str,
-    calls: &[Call],
-    port: u8,
-    expected: &[(u64, usize)],
-) -> Result<(usize, bool), Fail> {
-    let mut switch = switch_of(alloc, text)?;
-    let count = answered(alloc, &mut switch, calls);
-    let mut done = finished(switch);
-    let is_left = leaves(&mut done, port, expected);
-    Ok((count, is_left))
 }
