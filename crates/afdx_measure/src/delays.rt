@@ -21,7 +21,7 @@ pub struct Delays {
 }
 
 impl Range {
-    /// Makes that of one delay.
+    /// Makes the range of one delay, in nanoseconds.
     fn of(delay: u64) -> Range
         ensures { result ≡ record { least = delay; greatest = delay } }
     {
@@ -33,7 +33,7 @@ impl Range {
 }
 
 impl Delays {
-    /// Makes those of no copies.
+    /// Makes the delays of no copies.
     pub fn none() -> Delays
         ensures { result ≡ summary_of [] }
     {

@@ -1,5 +1,6 @@
 -- Strings in a text that is followed by a new line.
-use Rattle.std.proofs.Common.{◌≡◌, ℕ, zero, suc, ◌<◌, ◌≤◌, Bool, true, false, not, cond, ◌&&◌, ◌||◌, ◌==◌, nat_lt, nat_le, unwrap_or, List, [], ◌∷◌, length, length-append, drop, slice_index, Option, Some, None, is_some, option_map, option_and_then, encode_utf8, refl, sym, ap, ◌∙◌, inl, inr, arith}
+use Rattle.std.proofs.Common.{◌≡◌, ℕ, zero, suc, ◌<◌, ◌≤◌, Bool, true, false, not, cond, ◌&&◌, ◌||◌, ◌==◌, nat_lt, nat_le, unwrap_or, List, [], ◌∷◌, length, length-append, drop}
+use Rattle.std.proofs.Common.{slice_index, Option, Some, None, is_some, option_map, option_and_then, encode_utf8, refl, sym, ap, ◌∙◌, inl, inr, arith}
 use Rattle.std.proofs.lemmas.Bool.{cases_Bool, false≢true, and_parts, and_from, and_left, and_right, cond-true}
 use Rattle.std.proofs.lemmas.Bool.Decides.{nat_tests}
 use Rattle.std.proofs.lemmas.List.{take-append-le, drop-append-le}

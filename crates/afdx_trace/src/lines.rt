@@ -18,7 +18,7 @@ pub(crate) struct Lines<A: Allocator> {
 }
 
 impl<A: Allocator + Copy> Lines<A> {
-    /// No line. It takes no memory.
+    /// Makes a list of no lines. It takes no memory.
     pub(crate) fn new(alloc: A) -> Lines<A>
         ensures whole { whole_of result ≡ [] }
         ensures gone { result.gone.items ≡ [] }
@@ -29,9 +29,9 @@ impl<A: Allocator + Copy> Lines<A> {
         }
     }
 
-    /// All that is there goes to a file. O(bytes).
+    /// Appends all that is there to a file. O(bytes).
     ///
-    /// An error is out of memory; nothing is said then of what the file has.
+    /// Fails only if memory runs out; nothing is said then of what the file has.
     pub(crate) fn put_out<F: NewFile>(&mut self, file: &mut F) -> Result<(), AllocError>
         ensures whole { OnOk result (whole_of self.new ≡ whole_of self.old) }
         ensures all { OnOk result (self.new.gone.items ≡ whole_of self.new) }
@@ -44,7 +44,7 @@ impl<A: Allocator + Copy> Lines<A> {
         Ok(())
     }
 
-    /// The same, where it is a part at least.
+    /// Appends all that is there to a file once it has reached `PART` bytes; does nothing before. O(bytes).
     pub(crate) fn hand_over<F: NewFile>(&mut self, file: &mut F) -> Result<(), AllocError>
         ensures whole { OnOk result (whole_of self.new ≡ whole_of self.old) }
         ensures gone { OnOk result ((start : F) → HasGone F.contents start file.old self.old → HasGone F.contents start file.new self.new) }
