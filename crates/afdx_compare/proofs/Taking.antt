@@ -108,9 +108,6 @@ pub record IsTaking (r : Recordings) (captures : List Source) (greatest : Option
   pub taken : AreTaken r captures greatest waited waits old now
   pub may : MayGoOn captures waits now
 
-pub takes : (r : Recordings) (captures : List Source) (greatest : Option ℕ) (waits : List Arrival) (c : Comparison) → MayGoOn captures waits c → IsTaking r captures greatest waits waits c c
-takes r captures greatest waits c may = record { taken = record { taken = []; all = refl; settled = tt; told = refl }; may = may }
-
 pub takes_more : (r : Recordings) (captures : List Source) (greatest : Option ℕ) (waited waits rest : List Arrival) (a : Arrival) (old now new : Comparison)
     → IsTaking r captures greatest waited waits old now → waits ≡ a ∷ rest → is_first_settled r captures greatest waits ≡ true → new ≡ with_arrival captures a now
     → IsTaking r captures greatest waited rest old new

@@ -5,6 +5,7 @@ use Rattle.std.specs.List.{AllByRecursion}
 use Rattle.std.proofs.ByRecursion.{all_kept_by}
 use Rattle.afdx_units.specs.Time.{second, last_second, last_instant}
 use Rattle.afdx_pcap.specs.Record.{Record}
+use Rattle.afdx_pcap.proofs.Early.{capture_early}
 use Rattle.afdx_table.specs.declared.rows.PortRow.{PortRow}
 use Rattle.afdx_table.specs.Content.{Content}
 use Rattle.afdx_table.specs.WellFormed.{IsWellFormed}
@@ -21,7 +22,7 @@ use Rattle.afdx_core.specs.Rows.{feed_of}
 use Rattle.afdx_session.specs.Texts.{Text}
 use Rattle.afdx_session.specs.Reading.{AreCaptures}
 use Rattle.afdx_session.specs.Output.{rows_of, written, sent_by, output_of}
-use Rattle.afdx_session.proofs.Gathering.{capture_early, port_every}
+use Rattle.afdx_session.proofs.Gathering.{port_every}
 use Rattle.afdx_session.proofs.Joining.{by_stamp_every}
 use Rattle.afdx_session.proofs.Last.{IsSmall, items_small, sent_soon, sent_at, delay_within}
 use Rattle.afdx_recordings.specs.declared.recordings.Recordings.{Recordings}

@@ -9,20 +9,6 @@ use Rattle.afdx_units.specs.Time.{stamp_end}
 use Rattle.afdx_earliest.specs.Instants.{instant_at, IsFirstIn}
 use Rattle.afdx_earliest.specs.Inner.Groups.{none, instant_in, instants_in, IsFirstFrom, AreGrouped}
 
--- or not
-pub first_stays : {numbers : List ℕ} {low mid high first least other number : ℕ} → IsFirstFrom numbers low mid first least → IsFirstFrom numbers mid high other number
-    → least ≤ number → IsFirstFrom numbers low high first least
-first_stays a b le = record {
-  past = a.past;
-  within = let w = a.within in let p = b.past in let q = b.within in omega (arith, w, p, q);
-  here = a.here;
-  no_less = λ j from to. elim (cases_lt j _) [
-    | inl before ↦ a.no_less j from before
-    | inr after ↦ let known = b.no_less j after to in omega (arith, known, le)
-  ];
-  former = a.former;
-}
-
 -- ---- the instants that numbers are kept for
 
 pub length-instants_in : (places : ℕ) (numbers : List ℕ) → length numbers ≡ 24 → places ≤ 24 → length (instants_in places numbers) ≡ places

@@ -1,5 +1,5 @@
 -- One frame's fate more.
-use Rattle.std.proofs.Common.{◌≡◌, ℕ, ◌+◌, Bool, true, List, [], ◌∷◌, map, drop, length, Option, Some, None, refl, sym, ap, subst, ◌∙◌, arith, inl, inr}
+use Rattle.std.proofs.Common.{◌≡◌, ℕ, ◌+◌, Bool, true, List, [], ◌∷◌, map, drop, length, Option, Some, refl, sym, ap, subst, ◌∙◌, arith, inl, inr}
 use Rattle.std.specs.Prelude.{slice_get}
 use Rattle.std.specs.List.{list_any}
 use Rattle.std.proofs.lemmas.Bool.{cases_Bool}
@@ -15,10 +15,6 @@ use Rattle.afdx_following.proofs.InStep.{fate_in_step}
 pub first_and_rest : {X : Type 0} (xs : List X) (x : X) → slice_get xs 0 ≡ Some x → xs ≡ x ∷ drop 1 xs
 first_and_rest [] x get = absurd (let none = get in cc)
 first_and_rest {X} (y ∷ xs) x get = (let same : y ≡ x = cc in ap (λ (z : X). z ∷ xs) same)
-
-pub none_at_all : {X : Type 0} (xs : List X) → slice_get xs 0 ≡ None → xs ≡ []
-none_at_all [] none = refl
-none_at_all (x ∷ xs) none = absurd (let some = none in cc)
 
 -- the frames that wait are given beside the link
 whatever_waits : (at : Option ℕ) (ns more : List Numbered) (f : Watched) → decided at ns (record f { undecided = more }) ≡ decided at ns f

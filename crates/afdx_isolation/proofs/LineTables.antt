@@ -62,9 +62,6 @@ shown p (x ∷ xs) = All-cons (λ y. p y ≡ true → list_any p (x ∷ xs) ≡ 
 shares : (a b n : ℕ) → 0 < n → a ≤ b → a / n ≤ b / n
 shares a b n some le = le-div (a / n) b n some (omega (arith, le, div-mul-le_self a n))
 
-equal : (m n : ℕ) → (m == n) ≡ true → nat_eq m n ≡ true
-equal m n h = grind (arith, nat_tests)
-
 -- ---- a port of a table
 
 module _ (t : Content) (row : PortRow) (well : IsWellFormed t) (rounding_at : ℕ → Option ℕ) where

@@ -10,3 +10,4 @@ pub mod Opening
 pub mod Reading
 pub mod Rising
 pub mod Stopping
+pub mod Timed

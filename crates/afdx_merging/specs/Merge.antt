@@ -10,6 +10,10 @@ use Rattle.afdx_merging.specs.declared.clock.Clock.{Clock}
 abbrev pub moved : Clock → ℕ → ℕ
 moved c stamp = min ((stamp + c.later) - c.sooner) last_instant
 
+-- the clock of all captures: stamps are as they are
+abbrev pub same_clock : Clock
+same_clock = record { later = 0; sooner = 0; delay = 0 }
+
 -- the instant by which a record of this stamp by the clock is in order with those of other captures
 abbrev pub due_at : Clock → ℕ → ℕ
 due_at c stamp = stamp + c.delay

@@ -8,7 +8,7 @@ use Rattle.std.specs.Option.{option_map}
 use Rattle.afdx_table.specs.WellFormed.{IsWellFormed}
 use Rattle.afdx_count.specs.Tally.{Tally}
 use Rattle.afdx_count.specs.Run.{counts_of}
-use Rattle.afdx_merging.specs.Merge.{Arrival}
+use Rattle.afdx_merging.specs.Merge.{Arrival, same_clock}
 use Rattle.afdx_merging.specs.Read.{AreMerged}
 use Rattle.afdx_session.specs.Texts.{Text}
 use Rattle.afdx_session.specs.Output.{rows_of}
@@ -22,7 +22,7 @@ use Rattle.afdx_network.specs.declared.intake.Intake.{Intake}
 use Rattle.afdx_network.specs.Runs.{Given, IsUncheckedRunOf}
 use Rattle.afdx_network.specs.Given.{open_ends, AreGivenBy}
 use Rattle.afdx_network.specs.Written.{captures_in, AreWritten as ArePut}
-use Rattle.afdx_network.specs.Inner.Intake.{same_clock, HasTakenAll, AreGivenSoFar, AreOverLines}
+use Rattle.afdx_network.specs.Inner.Intake.{HasTakenAll, AreGivenSoFar, AreOverLines}
 use Rattle.afdx_network.specs.Inner.Outputs.{HaveGone}
 use Rattle.afdx_network.specs.Inner.Sites.{Site, HasLed, counts_at, texts_of}
 use Rattle.afdx_network.specs.Inner.Windows.{HasRunThrough, IsRunOver}

@@ -1,6 +1,5 @@
 -- A record that left a port goes over its wires, one after the other.
 use Rattle.std.proofs.Common.{◌≡◌, ◌<◌, ◌≤◌, ◌+◌, ℕ, Bool, true, false, cond, List, [], ◌∷◌, ◌++◌, map, length, slice_get, Some, refl, ap, sym, ◌∙◌, arith, inl, inr, subst}
-use Rattle.std.specs.Prelude.{Contains}
 use Rattle.std.specs.Option.{option_map}
 use Rattle.std.specs.List.{AllByRecursion, position_or_len}
 use Rattle.std.proofs.lemmas.Bool.{cases_eq}
@@ -18,10 +17,6 @@ use Rattle.afdx_network_check.specs.Net.{Network, wire_to}
 use Rattle.afdx_network.specs.Way.{delayed}
 use Rattle.afdx_network.specs.Inner.Sites.{Site, lane_there, carried, IsCarried, IsPending, wire_place}
 use Rattle.afdx_network.proofs.Lanes.{ChangesAt, cases_end, stays}
-
--- each wire is the first one to its port, by its value
-abbrev pub OneEach : List Wire → Type 0
-OneEach wires = (w : Wire) → Contains wires w → slice_get wires (wire_place wires w) ≡ Some w
 
 pub one_each : (net : Network) (w : Wire) → wire_to net w.to ≡ Some w → slice_get net.layout.wires (wire_place net.layout.wires w) ≡ Some w
 one_each net w is = sym (find_at (λ (v : Wire). is_end v.to w.to) net.layout.wires) ∙ is

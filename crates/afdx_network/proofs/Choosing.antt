@@ -1,5 +1,5 @@
 -- The least of all times, the first wire to a port, and the first instant at which anything can happen.
-use Rattle.std.proofs.Common.{◌≡◌, ◌<◌, ◌≤◌, ◌+◌, ◌==◌, ◌&&◌, ℕ, min, nat_lt, Bool, true, false, cond, List, [], ◌∷◌, ◌++◌, length, take, get_or, slice_get, Option, Some, None, refl, ap}
+use Rattle.std.proofs.Common.{◌≡◌, ◌<◌, ◌≤◌, ◌+◌, ◌==◌, ℕ, min, nat_lt, Bool, true, false, cond, List, [], ◌∷◌, ◌++◌, length, take, get_or, slice_get, Option, Some, None, refl, ap}
 use Rattle.std.proofs.Common.{sym, ◌∙◌, arith, inl, inr, subst}
 use Rattle.std.specs.Prelude.{All, ◌↔◌}
 use Rattle.std.specs.List.{position, AllZip}
@@ -14,11 +14,11 @@ use Rattle.std.proofs.lemmas.Option.{same_Some, get_or_from_slice_get}
 use Rattle.afdx_units.specs.Line.{cost_of, least_size}
 use Rattle.afdx_table.specs.declared.rows.PortRow.{PortRow}
 use Rattle.afdx_table.specs.Content.{Content, port_row}
-use Rattle.afdx_wiring.specs.declared.layout.End.{End}
 use Rattle.afdx_wiring.specs.declared.layout.Wire.{Wire}
 use Rattle.afdx_wiring.specs.File.{is_end}
 use Rattle.afdx_network_check.specs.Net.{Network}
 use Rattle.afdx_network.specs.Inner.Sites.{Site, IsWithin, wire_place, acts_before, earlier_of, IsFirst}
+use Rattle.afdx_network.proofs.Rows.{is_itself}
 
 -- ---- the least of the times of all wires
 
@@ -49,7 +49,7 @@ pub first_there : (wires : List Wire) (index : ℕ) (d w : Wire) (found : Option
 first_there wires index d w found lt is at =
     is ∙ ap (λ (u : Wire). position (λ (v : Wire). is_end v.to u.to) wires) same
     ∙ ap (λ b. cond b (Some (wire_place wires w)) None) (lt-ltb (wire_place wires w) (length wires) (elim (cases_lt index (wire_place wires w)) [
-      | inl past ↦ absurd (differ (sym (fails_before_first (λ (v : Wire). is_end v.to w.to) wires index d past) ∙ ap (λ (u : Wire). is_end u.to w.to) same ∙ itself w.to))
+      | inl past ↦ absurd (differ (sym (fails_before_first (λ (v : Wire). is_end v.to w.to) wires index d past) ∙ ap (λ (u : Wire). is_end u.to w.to) same ∙ is_itself w.to))
       | inr most ↦ omega (arith, most, lt)
     ])) where
       same : get_or wires index d ≡ w
@@ -57,9 +57,6 @@ first_there wires index d w found lt is at =
 
       differ : false ≡ true → ⊥
       differ e = cc
-
-      itself : (e : End) → is_end e e ≡ true
-      itself e = ap (λ a. a && (e.port == e.port)) (eq-eqb e.switch e.switch refl) ∙ eq-eqb e.port e.port refl
 
 pub nowhere : (n : ℕ) {P : Type 0} → None ≡ Some n → P
 nowhere n e = absurd cc

@@ -13,9 +13,6 @@ alone : {X : Type 0} (x y : X) (k : ℕ) → slice_get (x ∷ []) k ≡ Some y �
 alone x y zero is = (refl, same_Some x y is)
 alone x y (suc k) is = absurd cc
 
-pub none_coming : {R : Type 0} (remaining : R → Option (List ℕ)) (l : Layout) (ends : List End) → AreComing remaining l ends [] []
-none_coming remaining l ends = record { many = refl; each = λ place e r i at of is. absurd cc }
-
 pub one_coming : {R : Type 0} (remaining : R → Option (List ℕ)) (l : Layout) (ends : List End) (readers : List R) (all : List (Incoming R)) (e : End) (r : R) (i : Incoming R)
     → AreComing remaining l ends readers all → slice_get ends (length all) ≡ Some e → coming remaining i ≡ comes remaining (is_down l.switches e.switch) r
     → AreComing remaining l ends (readers ++ r ∷ []) (all ++ i ∷ [])

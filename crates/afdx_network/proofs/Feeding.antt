@@ -17,6 +17,7 @@ use Rattle.afdx_table.specs.Content.{Content}
 use Rattle.afdx_table.specs.WellFormed.{Rises as PortsRise, IsWellFormed}
 use Rattle.afdx_merging.specs.Merge.{Arrival, at_place}
 use Rattle.afdx_merging.specs.Inner.Merging.{lesser}
+use Rattle.afdx_merging.proofs.Timed.{there_at}
 use Rattle.afdx_session.specs.Texts.{Text}
 use Rattle.afdx_paced.specs.Paced.{Lane, lane_at, changed, came_in, put_refusal}
 use Rattle.afdx_paced.specs.Laws.{LaterRecordsChangeNothing, OutGoesOn}
@@ -37,7 +38,7 @@ use Rattle.afdx_network.proofs.Lists.{all_weaken}
 use Rattle.afdx_network.proofs.OpenEnds.{IsOpenEnd, open_there, all_apart, first_place, place_has}
 use Rattle.afdx_network.proofs.Outs.{not_refused}
 use Rattle.afdx_network.proofs.SiteCalls.{running_puts, puts_sent}
-use Rattle.afdx_network.proofs.SoFar.{given_so_far, there_at}
+use Rattle.afdx_network.proofs.SoFar.{given_so_far}
 use Rattle.afdx_network.proofs.Started.{filter_has, text_of, ports_among, each_lane, lane_of_row, row_of}
 
 abbrev pub Unique : Type 0

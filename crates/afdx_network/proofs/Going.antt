@@ -11,14 +11,16 @@ use Rattle.std.proofs.lemmas.List.Elements.{All-from_recursion, All-weaker}
 use Rattle.std.proofs.lemmas.Option.{same_Some, slice_get-map, slice_get_read, slice_get_within}
 use Rattle.afdx_units.specs.Time.{second, last_second, last_instant}
 use Rattle.afdx_pcap.specs.Record.{Record}
+use Rattle.afdx_pcap.proofs.Early.{first_early}
 use Rattle.afdx_pairing.specs.Events.{Numbered}
 use Rattle.afdx_load.specs.Accepted.{IsAccepted}
 use Rattle.afdx_core.specs.Inner.Merge.{ByStampIsOrdered}
 use Rattle.afdx_merging.specs.declared.clock.Clock.{Clock}
 use Rattle.afdx_merging.specs.declared.lane.Lane.{Lane as Reading}
-use Rattle.afdx_merging.specs.Merge.{Arrival, numbered_from}
+use Rattle.afdx_merging.specs.Merge.{Arrival, numbered_from, same_clock}
 use Rattle.afdx_merging.specs.Inner.Lanes.{HasGiven}
 use Rattle.afdx_merging.specs.Inner.Merging.{IsLaneOf, least_of, lesser, stamp_of}
+use Rattle.afdx_merging.proofs.Timed.{there_at}
 use Rattle.afdx_session.specs.Texts.{Text}
 use Rattle.afdx_session.specs.Inner.Early.{RecordsAreEarly}
 use Rattle.afdx_session.specs.Streams.{AllStartBeforeTheLastInstant}
@@ -33,7 +35,7 @@ use Rattle.afdx_network.specs.declared.fault.Stop.TheVariants as stop
 use Rattle.afdx_network.specs.declared.intake.Intake.{Intake}
 use Rattle.afdx_network.specs.Runs.{Given}
 use Rattle.afdx_network.specs.Given.{open_ends, NoneShareAPort, HasOrder, NoneComesLate, NoneIsLateAnywhere, IsWireFault}
-use Rattle.afdx_network.specs.Inner.Intake.{same_clock, end_place, came_at, HasTaken, AreGivenSoFar, IsNotBefore, NoneCameLate, next_of}
+use Rattle.afdx_network.specs.Inner.Intake.{end_place, came_at, HasTaken, AreGivenSoFar, IsNotBefore, NoneCameLate, next_of}
 use Rattle.afdx_network.specs.Inner.Outputs.{HaveGone}
 use Rattle.afdx_network.specs.Inner.Sites.{Site, end_at, IsSite, IsCarried, HasCome, IsIn, IsLook, AreInWindow, HaveCome, acts_before, earlier_of, IsFirst, AreEarly, HandsOver, after_hops, gone_at}
 use Rattle.afdx_network.specs.Inner.Sites.{gone_of}
@@ -43,10 +45,8 @@ use Rattle.afdx_network.proofs.Carried.{AreWritten}
 use Rattle.afdx_network.proofs.Carries.{KeepEarly}
 use Rattle.afdx_network.proofs.Feeding.{Unique, all_at_place}
 use Rattle.afdx_network.proofs.Found.{all_at}
-use Rattle.afdx_network.proofs.Arriving.{first_early}
 use Rattle.afdx_network.proofs.InWindow.{at_site}
 use Rattle.afdx_network.proofs.Lists.{zip_long, zip_back}
-use Rattle.afdx_network.proofs.SoFar.{there_at}
 use Rattle.afdx_network.proofs.Rounds.{all_are_quiet, all_have_started}
 use Rattle.afdx_network.proofs.WindowEnds.{begins_in}
 

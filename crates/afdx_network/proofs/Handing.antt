@@ -1,9 +1,9 @@
 -- A record is handed out at a port, and goes over the port's wires: what each call needs and keeps.
-use Rattle.std.proofs.Common.{◌≡◌, ◌<◌, ◌≤◌, ◌+◌, ◌-◌, ◌==◌, ◌&&◌, ℕ, Bool, true, false, List, [], ◌∷◌, ◌++◌, length, find, slice_get, Option, Some, None, Ok}
+use Rattle.std.proofs.Common.{◌≡◌, ◌<◌, ◌≤◌, ◌+◌, ◌-◌, ℕ, List, [], ◌∷◌, ◌++◌, length, find, slice_get, Option, Some, None, Ok}
 use Rattle.std.proofs.Common.{refl, ap, sym, ◌∙◌, arith, inl, inr, subst}
 use Rattle.std.specs.Prelude.{All, Contains, slice_set}
 use Rattle.std.specs.Option.{option_map}
-use Rattle.std.proofs.lemmas.Bool.{cases_eq, eqb-true, eq-eqb}
+use Rattle.std.proofs.lemmas.Bool.{cases_eq}
 use Rattle.std.proofs.lemmas.List.{length-append}
 use Rattle.std.proofs.lemmas.List.Elements.{All-contains}
 use Rattle.std.proofs.lemmas.Option.{same_Some, slice_get_within, get_or_from_slice_get}
@@ -14,11 +14,10 @@ use Rattle.afdx_table.specs.declared.rows.PortRow.{PortRow}
 use Rattle.afdx_table.specs.Content.{port_row}
 use Rattle.afdx_load.specs.Accepted.{IsAccepted}
 use Rattle.afdx_session.specs.Texts.{Text}
-use Rattle.afdx_paced.specs.Paced.{Lane, Paced, changed, lane_at, out_up_to, came_in, went_out, after_put, after_leaving, GoesOut}
+use Rattle.afdx_paced.specs.Paced.{Lane, Paced, changed, lane_at, came_in, went_out, after_put, after_leaving, GoesOut}
 use Rattle.afdx_paced.specs.Laws.{LaterRecordsChangeNothing, OutGoesOn}
 use Rattle.afdx_wiring.specs.declared.layout.End.{End}
 use Rattle.afdx_wiring.specs.declared.layout.Wire.{Wire}
-use Rattle.afdx_wiring.specs.File.{is_end}
 use Rattle.afdx_network_check.specs.Net.{Network, wire_to}
 use Rattle.afdx_network_check.specs.Order.{lost_port}
 use Rattle.afdx_network.specs.declared.fault.NetworkRunFault.{NetworkRunFault}
@@ -37,19 +36,6 @@ use Rattle.afdx_network.proofs.Started.{HasEnds, all_ends, port_there}
 use Rattle.afdx_network.proofs.Visiting.{puts_on, set_on}
 
 -- ---- ends of wires
-
-pub same_end : (d e : End) → is_end d e ≡ true → d ≡ e
-same_end d e is = by (d.switch == e.switch) refl (d.port == e.port) refl is where
-  end_by : ℕ → ℕ → End
-  end_by n p = record { switch = n; port = p }
-
-  by : (a : Bool) → (d.switch == e.switch) ≡ a → (b : Bool) → (d.port == e.port) ≡ b → (a && b) ≡ true → d ≡ e
-  by true switch true port both = ap (λ n. end_by n d.port) (eqb-true d.switch e.switch switch) ∙ ap (end_by e.switch) (eqb-true d.port e.port port)
-  by true switch false port both = absurd cc
-  by false switch b port both = absurd cc
-
-pub end_itself : (e : End) → is_end e e ≡ true
-end_itself e = ap (λ a. a && (e.port == e.port)) (eq-eqb e.switch e.switch refl) ∙ eq-eqb e.port e.port refl
 
 -- both ends of a wire are switches of the network
 pub ends_within : (net : Network) (w : Wire) → lost_port net.tables net.layout.wires ≡ Ok tt → Contains net.layout.wires w → (w.from.switch < length net.tables) × (w.to.switch < length net.tables)
@@ -79,9 +65,6 @@ handed_port sites e place old new (Some out) at h is = record {
   text = h.text ++ record_text out;
   text_is = ap (λ (texts : List Text). slice_get texts place) h.left ∙ set_here old.left place (e.port, h.text) (e.port, h.text ++ record_text out) h.was;
 }
-
-waits_by : Paced → PortRow → Lane → ℕ
-waits_by v p l = length (out_up_to v (Some v.reached) p) - length l.left
 
 -- fewer wait then
 pub waits_less : (old new : Site) (place port : ℕ) (out : Record) → HandsOut old new place port out → waits_at (Some new) port < waits_at (Some old) port

@@ -4,11 +4,11 @@ use Rattle.std.proofs.Math.Seq.{drop-cons}
 use Rattle.afdx_table.specs.declared.rows.PortRow.{PortRow}
 use Rattle.afdx_table.specs.Content.{Content}
 use Rattle.afdx_merging.specs.declared.clock.Clock.{Clock}
+use Rattle.afdx_merging.specs.Merge.{same_clock}
+use Rattle.afdx_merging.proofs.Timed.{there_at}
 use Rattle.afdx_wiring.specs.declared.layout.End.{End}
 use Rattle.afdx_network.specs.Given.{all_from}
-use Rattle.afdx_network.specs.Inner.Intake.{same_clock}
 use Rattle.afdx_network.specs.Inner.Sites.{end_at}
-use Rattle.afdx_network.proofs.SoFar.{there_at}
 
 next_number : (n : ℕ) → suc n ≡ n + 1
 next_number n = omega arith

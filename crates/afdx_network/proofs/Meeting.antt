@@ -14,6 +14,7 @@ use Rattle.afdx_merging.specs.declared.clock.Clock.{Clock}
 use Rattle.afdx_merging.specs.declared.merging.Merging.{Merging}
 use Rattle.afdx_merging.specs.Merge.{Arrival, arrival_at, at_place, numbered_from}
 use Rattle.afdx_merging.specs.Inner.Merging.{HasMerged}
+use Rattle.afdx_merging.proofs.Timed.{there_at, all_last}
 use Rattle.afdx_session.specs.Lined.{RecordsKeepToLineWithin}
 use Rattle.afdx_wiring.specs.declared.layout.End.{End}
 use Rattle.afdx_network_check.specs.Net.{Network, port_at, stamp_rounding}
@@ -23,9 +24,7 @@ use Rattle.afdx_network.specs.Inner.Intake.{records_at, AreMet, IsOverItsLine, A
 use Rattle.afdx_network.specs.Inner.OneLine.{HasBrought, IsFirstBroken}
 use Rattle.afdx_network.proofs.Found.{all_at}
 use Rattle.afdx_network.proofs.OpenEnds.{mapped, open_there}
-use Rattle.afdx_network.proofs.SoFar.{there_at}
 use Rattle.afdx_network.proofs.Started.{row_of}
-use Rattle.afdx_network.proofs.Taking.{all_last}
 
 -- ---- the number of a record
 

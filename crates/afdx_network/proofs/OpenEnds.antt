@@ -1,9 +1,9 @@
 -- The ports to which no wire goes: each is there once.
-use Rattle.std.proofs.Common.{◌≡◌, ◌<◌, ◌≤◌, ◌+◌, ◌==◌, ◌&&◌, ℕ, zero, suc, Bool, true, false, cond, not, List, [], ◌∷◌, ◌++◌, map, filter, slice_get, Option, Some, None, is_some}
+use Rattle.std.proofs.Common.{◌≡◌, ◌<◌, ◌≤◌, ◌+◌, ℕ, zero, suc, Bool, true, false, cond, not, List, [], ◌∷◌, ◌++◌, map, filter, slice_get, Option, Some, None, is_some}
 use Rattle.std.proofs.Common.{refl, ap, sym, ◌∙◌, arith, inl, inr, subst}
 use Rattle.std.specs.Prelude.{Contains, ◌⊎◌}
 use Rattle.std.specs.List.{AllByRecursion}
-use Rattle.std.proofs.lemmas.Bool.{eq-eqb, ne_eqb, cases_eq, false≢true}
+use Rattle.std.proofs.lemmas.Bool.{false≢true}
 use Rattle.std.proofs.lemmas.Option.{same_Some}
 use Rattle.afdx_table.specs.declared.rows.PortRow.{PortRow}
 use Rattle.afdx_table.specs.Content.{Content}
@@ -12,11 +12,13 @@ use Rattle.afdx_wiring.specs.declared.layout.End.{End}
 use Rattle.afdx_wiring.specs.declared.layout.Wire.{Wire}
 use Rattle.afdx_wiring.specs.File.{is_end}
 use Rattle.afdx_network_check.specs.Net.{Network, wire_to}
+use Rattle.afdx_origins.proofs.Rows.{same_end}
 use Rattle.afdx_network.specs.Given.{is_open, ends_from}
 use Rattle.afdx_network.specs.Inner.Intake.{end_place}
 use Rattle.afdx_network.specs.Inner.Sites.{end_at}
 use Rattle.afdx_network.proofs.Found.{contains_head, contains_tail}
 use Rattle.afdx_network.proofs.Lists.{all_kept, all_map, all_weaken}
+use Rattle.afdx_network.proofs.Rows.{is_itself}
 
 -- ---- what such a port is
 
@@ -142,30 +144,16 @@ all_apart net n (t ∷ tables) formed =
 
 -- ---- its place
 
-itself : (e : End) → is_end e e ≡ true
-itself e = ap (λ a. a && (e.port == e.port)) (eq-eqb e.switch e.switch refl) ∙ eq-eqb e.port e.port refl
-
-pub end_is : (x e : End) → is_end x e ≡ true → x ≡ e
-end_is x e is = elim (cases_eq x.switch e.switch) [
-  | inl switch ↦ elim (cases_eq x.port e.port) [
-    | inl port ↦ ap (λ n. by n x.port) switch ∙ ap (by e.switch) port
-    | inr other ↦ absurd (false≢true (sym (ap (λ a. a && (x.port == e.port)) (eq-eqb x.switch e.switch switch) ∙ ne_eqb x.port e.port other) ∙ is))
-  ]
-  | inr other ↦ absurd (false≢true (sym (ap (λ a. a && (x.port == e.port)) (ne_eqb x.switch e.switch other)) ∙ is))
-] where
-  by : ℕ → ℕ → End
-  by n p = record { switch = n; port = p }
-
 pub first_place : (ends : List End) (k : ℕ) (e : End) → Apart ends → slice_get ends k ≡ Some e → end_place ends e ≡ k
 first_place [] k e apart is = absurd cc
-first_place (x ∷ ends) zero e apart is = ap (λ b. cond (not b) (1 + end_place ends e) 0) (ap (λ (y : End). is_end y e) (same_Some x e is) ∙ itself e)
+first_place (x ∷ ends) zero e apart is = ap (λ b. cond (not b) (1 + end_place ends e) 0) (ap (λ (y : End). is_end y e) (same_Some x e is) ∙ is_itself e)
 first_place (x ∷ ends) (suc k) e apart is =
     ap (λ b. cond (not b) (1 + end_place ends e) 0) (differ (is_end x e) refl) ∙ ap (λ n. 1 + n) (first_place ends k e apart.1 is) ∙ one_more where
       one_more : 1 + k ≡ suc k
       one_more = omega arith
 
       differ : (b : Bool) → is_end x e ≡ b → is_end x e ≡ false
-      differ true same = absurd (none ends k apart.0 is (end_is x e same)) where
+      differ true same = absurd (none ends k apart.0 is (same_end x e same)) where
         none : (es : List End) (j : ℕ) → AllByRecursion (λ (y : End). x ≡ y → ⊥) es → slice_get es j ≡ Some e → x ≡ e → ⊥
         none [] j all at same = absurd cc
         none (y ∷ es) zero all at same = all.0 (same ∙ sym (same_Some y e at))
@@ -182,7 +170,7 @@ place_has (y ∷ ends) e x k place at = by (is_end y e) refl (λ there. place_ha
   by : (b : Bool) → is_end y e ≡ b → (slice_get ends (end_place ends e) ≡ Some x → x ≡ e) → x ≡ e
   by true same rest =
       let here : k ≡ 0 = sym place ∙ ap (λ b. cond (not b) (1 + end_place ends e) 0) same in
-      sym (same_Some y x (sym (ap (slice_get (y ∷ ends)) here) ∙ at)) ∙ end_is y e same
+      sym (same_Some y x (sym (ap (slice_get (y ∷ ends)) here) ∙ at)) ∙ same_end y e same
   by false other rest =
       let further : k ≡ suc (end_place ends e) = sym place ∙ ap (λ b. cond (not b) (1 + end_place ends e) 0) other ∙ one_more (end_place ends e) in
       rest (sym (ap (slice_get (y ∷ ends)) further) ∙ at)

@@ -1,17 +1,9 @@
 -- Places in lists, one of which is written.
-use Rattle.std.proofs.Common.{◌≡◌, ◌⊎◌, ℕ, zero, suc, List, [], ◌∷◌, ◌++◌, length, map, slice_get, Some, refl, ap, inl, inr, subst}
-use Rattle.std.specs.Prelude.{Contains, slice_set}
-use Rattle.std.proofs.lemmas.List.Elements.{All-set, All-weaker, All-contains, All-contains_itself}
+use Rattle.std.proofs.Common.{◌≡◌, ◌⊎◌, ℕ, zero, suc, List, [], ◌∷◌, map, slice_get, Some, refl, ap, inl, inr, subst}
+use Rattle.std.specs.Prelude.{slice_set}
 use Rattle.std.proofs.lemmas.Option.{same_Some}
 
--- what is in a list after a write was there, or was written
-pub members : {X : Type 0} (xs : List X) (place : ℕ) (v x : X) → Contains (slice_set xs place v) x → Contains xs x ⊎ (v ≡ x)
-members {X = X} xs place v x among =
-    let P : X → Type 0 = λ y. Contains xs y ⊎ (v ≡ y) in
-    All-contains P (slice_set xs place v) x
-    (All-set P xs place v (inr refl) (All-weaker (λ y. Contains xs y) P (λ y has. inl has) xs (All-contains_itself xs))) among
-
--- and so at a place
+-- what is at a place after a write was written there, or was there before
 pub got_set : {X : Type 0} (xs : List X) (place n : ℕ) (v x : X) → slice_get (slice_set xs place v) n ≡ Some x → ((n ≡ place) × (v ≡ x)) ⊎ (slice_get xs n ≡ Some x)
 got_set [] place n v x is = inr is
 got_set (y ∷ ys) zero zero v x is = inl (refl, same_Some _ _ is)
@@ -30,13 +22,3 @@ map_stays {Y = Y} f (x ∷ xs) zero v was is same =
       sym_some : Some x ≡ Some was → was ≡ x
       sym_some h = cc
 map_stays {Y = Y} f (x ∷ xs) (suc place) v was is same = ap (λ (ys : List Y). f x ∷ ys) (map_stays f xs place v was is same)
-
--- and after a push
-pub got_push : {X : Type 0} (xs : List X) (v x : X) (n : ℕ) → slice_get (xs ++ v ∷ []) n ≡ Some x → (slice_get xs n ≡ Some x) ⊎ ((n ≡ length xs) × (v ≡ x))
-got_push [] v x zero is = inr (refl, same_Some _ _ is)
-got_push [] v x (suc n) is = absurd cc
-got_push (y ∷ ys) v x zero is = inl is
-got_push (y ∷ ys) v x (suc n) is = by (got_push ys v x n is) where
-  by : (slice_get ys n ≡ Some x) ⊎ ((n ≡ length ys) × (v ≡ x)) → (slice_get ys n ≡ Some x) ⊎ ((suc n ≡ suc (length ys)) × (v ≡ x))
-  by (inl there) = inl there
-  by (inr here) = inr (ap suc here.0, here.1)

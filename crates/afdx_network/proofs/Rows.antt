@@ -4,7 +4,7 @@ use Rattle.std.specs.Prelude.{Contains}
 use Rattle.std.proofs.lemmas.List.{get_or-map, length-map}
 use Rattle.std.proofs.lemmas.List.Elements.{Contains-append_left, Contains-append_right}
 use Rattle.std.proofs.lemmas.Option.{same_Some}
-use Rattle.std.proofs.lemmas.Bool.{eq-eqb, eqb-true, and_parts}
+use Rattle.std.proofs.lemmas.Bool.{eq-eqb}
 use Rattle.afdx_units.specs.declared.line.Priority.{Priority}
 use Rattle.afdx_units.specs.declared.line.Priority.TheVariants.{High, Low}
 use Rattle.afdx_table.specs.Link.{Link, leads_to}
@@ -18,18 +18,11 @@ use Rattle.afdx_wiring.specs.declared.layout.End.{End}
 use Rattle.afdx_wiring.specs.declared.layout.Wire.{Wire}
 use Rattle.afdx_wiring.specs.File.{is_end}
 use Rattle.afdx_network_check.specs.Net.{Network, Row, row_at, row_in, rows_from, rows_of, rows_on, wire_to, bound_in}
+use Rattle.afdx_origins.proofs.Rows.{same_end}
 use Rattle.afdx_network.proofs.Lists.{all_tested}
 use Rattle.afdx_network.proofs.Found.{all_by, of_all, found_passes}
 
 -- ---- ends
-
-abbrev end_of : ℕ → ℕ → End
-end_of switch port = record { switch = switch; port = port }
-
-pub same_end : (e f : End) → is_end e f ≡ true → e ≡ f
-same_end e f is =
-    let parts = and_parts (e.switch == f.switch) (e.port == f.port) is in
-    ap (λ (n : ℕ). end_of n e.port) (eqb-true e.switch f.switch parts.0) ∙ ap (end_of f.switch) (eqb-true e.port f.port parts.1)
 
 pub is_itself : (e : End) → is_end e e ≡ true
 is_itself e = ap (λ b. b && (e.port == e.port)) (eq-eqb e.switch e.switch refl) ∙ eq-eqb e.port e.port refl

@@ -189,9 +189,3 @@ counts_last (x ∷ done) s = ap (λ (all : List Tally). counts_of x.paced.table 
 pub counts_more : (done : List Site) (s : Site) (counts : List Tally) (one : Tally) → counts ≡ counts_at done → one ≡ counts_of s.paced.table (rows_of s.paced.table (arrivals s.paced))
     → counts ++ one ∷ [] ≡ counts_at (done ++ s ∷ [])
 counts_more done s counts one are is = ap (λ (all : List Tally). all ++ one ∷ []) are ∙ ap (λ (x : Tally). counts_at done ++ x ∷ []) is ∙ sym (counts_last done s)
-
--- nothing is left of the others
-pub all_settled : {F : Type 0} (contents : F → Option (List ℕ)) (all done : List Site) (before files start : List F) (first : ℕ) → AreSettled contents all done [] before files first → done ≡ all
-    → HaveGone contents start before (gone_of all) → HaveGone contents start files (texts_of all)
-all_settled contents all done before files start first a is have =
-    subst (λ (sites : List Site). HaveGone contents start files (texts_of sites)) is (subst (HaveGone contents start files) (append-nil (texts_of done)) (a.gone start have))

@@ -7,17 +7,18 @@ use Rattle.std.specs.Option.{option_map}
 use Rattle.std.proofs.lemmas.Bool.{ne_eqb, cases_lt}
 use Rattle.std.proofs.lemmas.List.{map-append, length-map}
 use Rattle.std.proofs.lemmas.Option.{same_Some, slice_get-map, slice_get_within}
-use Rattle.afdx_units.specs.Time.{last_second}
 use Rattle.afdx_pcap.specs.Record.{Record}
 use Rattle.afdx_pcap.specs.Capture.{IsCapture}
 use Rattle.afdx_pcap.specs.Text.{capture_text}
 use Rattle.afdx_pcap.specs.Reading.{AreFirst}
+use Rattle.afdx_pcap.proofs.Early.{first_early}
 use Rattle.afdx_pairing.specs.Events.{Numbered}
 use Rattle.afdx_merging.specs.declared.clock.Clock.{Clock}
 use Rattle.afdx_merging.specs.declared.lane.Lane.{Lane as Reading}
-use Rattle.afdx_merging.specs.Merge.{Arrival, arrival_at, at_place, moved, numbered_from}
+use Rattle.afdx_merging.specs.Merge.{Arrival, at_place, numbered_from, same_clock}
 use Rattle.afdx_merging.specs.Inner.Lanes.{HasGiven}
 use Rattle.afdx_merging.specs.Inner.Merging.{IsLaneOf}
+use Rattle.afdx_merging.proofs.Timed.{numbered_back, frames_of, there_at}
 use Rattle.afdx_table.specs.declared.rows.PortRow.{PortRow}
 use Rattle.afdx_table.specs.Content.{Content}
 use Rattle.afdx_session.specs.Texts.{Text}
@@ -26,35 +27,10 @@ use Rattle.afdx_network_check.specs.Net.{Network}
 use Rattle.afdx_network.specs.declared.intake.Intake.{Intake}
 use Rattle.afdx_network.specs.Runs.{Given}
 use Rattle.afdx_network.specs.Given.{is_open, open_ends, AreOpen}
-use Rattle.afdx_network.specs.Inner.Intake.{same_clock, end_place, came_at, HasTaken, AreGivenSoFar}
+use Rattle.afdx_network.specs.Inner.Intake.{end_place, came_at, HasTaken, AreGivenSoFar}
 use Rattle.afdx_network.specs.Inner.Sites.{end_at}
 use Rattle.afdx_network.proofs.Carried.{AreWritten}
 use Rattle.afdx_network.proofs.Cutting.{text_of_first}
-use Rattle.afdx_network.proofs.Arriving.{first_early}
-
--- ---- records by the clock of all captures
-
-by_stamp : Record → ℕ → Record
-by_stamp r n = record { stamp = n; original = r.original; bytes = r.bytes }
-
-same_stamp : (n : ℕ) → n < last_second → moved same_clock n ≡ n
-same_stamp n early = omega (arith, early)
-
-pub numbered_back : (n : ℕ) (rs : List Record) → AllByRecursion (λ (r : Record). r.stamp < last_second) rs → map (λ (m : Numbered). m.frame) (numbered_from n same_clock rs) ≡ rs
-unfolding by_stamp
-numbered_back n [] early = refl
-numbered_back n (r ∷ rs) early =
-    ap (λ (q : Record). q ∷ map (λ (m : Numbered). m.frame) (numbered_from (n + 1) same_clock rs)) (ap (by_stamp r) (same_stamp r.stamp early.0))
-    ∙ ap (λ (qs : List Record). r ∷ qs) (numbered_back (n + 1) rs early.1)
-
-pub frames_of : (place : ℕ) (c : Clock) (given : List Numbered) → map (λ (a : Arrival). a.head.frame) (map (arrival_at place c) given) ≡ map (λ (m : Numbered). m.frame) given
-frames_of place c [] = refl
-frames_of place c (m ∷ given) = ap (λ (rs : List Record). m.frame ∷ rs) (frames_of place c given)
-
-pub there_at : {X : Type 0} (xs : List X) (k : ℕ) → k < length xs → (x : X) × (slice_get xs k ≡ Some x)
-there_at [] k lt = absurd (omega (arith, lt))
-there_at (x ∷ xs) zero lt = (x, refl)
-there_at (x ∷ xs) (suc k) lt = there_at xs k (omega (arith, lt))
 
 -- ---- one capture
 

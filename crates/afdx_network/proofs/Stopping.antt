@@ -15,8 +15,9 @@ use Rattle.afdx_pcap.specs.Fault.{IsFault}
 use Rattle.afdx_table.specs.declared.rows.PortRow.{PortRow}
 use Rattle.afdx_table.specs.Content.{Content}
 use Rattle.afdx_load.specs.Accepted.{IsAccepted}
-use Rattle.afdx_merging.specs.Merge.{Arrival, arrival_at, numbered_from}
+use Rattle.afdx_merging.specs.Merge.{Arrival, arrival_at, numbered_from, same_clock}
 use Rattle.afdx_merging.specs.Read.{AreMerged}
+use Rattle.afdx_merging.proofs.Timed.{there_at, of_each_place}
 use Rattle.afdx_session.specs.Texts.{Text}
 use Rattle.afdx_session.specs.Reading.{IsSound, IsFirstFault}
 use Rattle.afdx_wiring.specs.declared.layout.End.{End}
@@ -28,7 +29,7 @@ use Rattle.afdx_network.specs.declared.fault.NetworkRunFault.TheVariants as faul
 use Rattle.afdx_network.specs.Runs.{Given}
 use Rattle.afdx_network.specs.Given.{is_open, ends_from, open_ends, AreOpen, AreGiven, AreGivenBy, AreSound, HasOrder, NoneComesLate, NoneIsLateAnywhere, IsUncheckedRefusal}
 use Rattle.afdx_network.specs.Given.{IsFaultOver}
-use Rattle.afdx_network.specs.Inner.Intake.{same_clock, records_at, AreOverLines, BreaksALine, HasTakenAll, IsIntakeFault, NoneCameLate}
+use Rattle.afdx_network.specs.Inner.Intake.{records_at, AreOverLines, BreaksALine, HasTakenAll, IsIntakeFault, NoneCameLate}
 use Rattle.afdx_network.specs.Inner.Sites.{end_at}
 use Rattle.afdx_network.specs.Inner.Windows.{IsRunFault, StopsOnWay}
 use Rattle.afdx_network.proofs.Answering.{all_places}
@@ -38,8 +39,6 @@ use Rattle.afdx_network.proofs.Feeding.{Unique}
 use Rattle.afdx_network.proofs.Going.{soon_before}
 use Rattle.afdx_network.proofs.Handed.{took, front_is, rest_is}
 use Rattle.afdx_network.proofs.Refusing.{first_fault, refused_run}
-use Rattle.afdx_network.proofs.SoFar.{there_at}
-use Rattle.afdx_network.proofs.Taking.{of_each_place}
 use Rattle.afdx_network.proofs.Whole.{IsSplit, IsOfItsPlace, AreOfTheirPlaces, zip_places, split, split_given, split_read, all_split, all_given_by, of_places, lines_kept}
 
 -- ---- the ports of what is given, and its texts

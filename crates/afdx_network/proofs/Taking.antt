@@ -1,89 +1,26 @@
 -- What is known of arrivals that were taken: when they came, and in which order.
-use Rattle.std.proofs.Common.{◌≡◌, ◌<◌, ◌≤◌, ◌+◌, ◌==◌, ℕ, Bool, true, false, cond, List, [], ◌∷◌, ◌++◌, length, map, slice_get, Option, Some, None, refl, ap, sym, ◌∙◌, arith, inl, inr, subst}
+use Rattle.std.proofs.Common.{◌≡◌, ◌<◌, ◌≤◌, ◌+◌, ℕ, List, [], ◌∷◌, ◌++◌, length, map, slice_get, Option, Some, None, refl, ap, sym, ◌∙◌, arith, inl, inr, subst}
 use Rattle.std.proofs.Common.{append_assoc}
-use Rattle.std.specs.Prelude.{◌⊎◌, option_to_list}
-use Rattle.std.specs.Option.{option_map}
+use Rattle.std.specs.Prelude.{◌⊎◌}
 use Rattle.std.specs.List.{AllByRecursion}
-use Rattle.std.proofs.lemmas.Bool.{eq-eqb}
 use Rattle.std.proofs.lemmas.List.{append-nil, length-map}
-use Rattle.std.proofs.lemmas.Option.{slice_get-map}
 use Rattle.afdx_units.specs.Time.{last_second}
 use Rattle.afdx_pcap.specs.Record.{Record}
-use Rattle.afdx_pairing.specs.Events.{Numbered}
 use Rattle.afdx_merging.specs.declared.clock.Clock.{Clock}
 use Rattle.afdx_merging.specs.declared.fault.MergeFault.{MergeFault}
 use Rattle.afdx_merging.specs.declared.fault.MergeFault.TheVariants as merge
 use Rattle.afdx_merging.specs.declared.merging.Merging.{Merging}
-use Rattle.afdx_merging.specs.Merge.{Arrival, arrival_at, at_place, numbered_from, IsBy, IsAfter}
+use Rattle.afdx_merging.specs.Merge.{Arrival, IsBy, IsAfter, same_clock}
 use Rattle.afdx_merging.specs.Read.{AreMerged, IsMergeFault}
 use Rattle.afdx_merging.specs.Inner.Merging.{HasMerged, lesser}
+use Rattle.afdx_merging.proofs.Timed.{IsTimed, all_timed, all_last}
 use Rattle.afdx_wiring.specs.declared.layout.End.{End}
 use Rattle.afdx_network_check.specs.Net.{Network}
 use Rattle.afdx_network.specs.declared.intake.Intake.{Intake}
 use Rattle.afdx_network.specs.declared.fault.NetworkRunFault.{NetworkRunFault}
 use Rattle.afdx_network.specs.Given.{open_ends}
-use Rattle.afdx_network.specs.Inner.Intake.{same_clock, next_of, AreMet, HasTaken, AreOverLines, HasTakenAll, IsLineFault, IsNextIn, IsFaultAt, IsAmong, IsIntakeFault}
+use Rattle.afdx_network.specs.Inner.Intake.{next_of, AreMet, HasTaken, AreOverLines, HasTakenAll, IsLineFault, IsNextIn, IsFaultAt, IsAmong, IsIntakeFault}
 use Rattle.afdx_network.specs.declared.fault.NetworkRunFault.TheVariants as fault
-use Rattle.afdx_network.proofs.Arriving.{first_early}
-use Rattle.afdx_network.proofs.SoFar.{there_at}
-
--- what holds of the arrivals of each capture holds of all
-pub of_each_place : (P : Arrival → Type 0) (count : ℕ) (came : List Arrival) → AllByRecursion (λ (a : Arrival). a.place < count) came
-    → ((k : ℕ) → k < count → AllByRecursion P (at_place k came)) → AllByRecursion P came
-of_each_place P count [] within each = tt
-of_each_place P count (a ∷ came) within each = (first, of_each_place P count came within.1 rest) where
-  first : P a
-  first = (subst (λ b. AllByRecursion P (cond b (a ∷ at_place a.place came) (at_place a.place came))) (eq-eqb a.place a.place refl) (each a.place within.0)).0
-
-  rest : (k : ℕ) → k < count → AllByRecursion P (at_place k came)
-  rest k lt = by (a.place == k) (each k lt) where
-    by : (b : Bool) → AllByRecursion P (cond b (a ∷ at_place k came) (at_place k came)) → AllByRecursion P (at_place k came)
-    by true all = all.1
-    by false all = all
-
--- an arrival by the clock of all captures
-pub record IsTimed (a : Arrival) : Type 0 where
-  pub due : a.due ≡ a.head.frame.stamp
-  pub early : a.head.frame.stamp < last_second
-
-front_early : (n : ℕ) (given more : List Numbered) (rs : List Record) → given ++ more ≡ numbered_from n same_clock rs → AllByRecursion (λ (r : Record). r.stamp < last_second) rs
-    → AllByRecursion (λ (m : Numbered). m.frame.stamp < last_second) given
-front_early n [] more rs is early = tt
-front_early n (m ∷ given) more [] is early = absurd cc
-front_early n (m ∷ given) more (r ∷ rs) is early =
-    let first = early.0 in (
-      subst (λ (k : ℕ). k < last_second) (sym (ap (λ (x : Numbered). x.frame.stamp) (head_is is))) (omega (arith, first)),
-      front_early (n + 1) given more rs (tail_is is) early.1,
-    ) where
-      head_is : {x y : Numbered} {xs ys : List Numbered} → x ∷ xs ≡ y ∷ ys → x ≡ y
-      head_is e = cc
-
-      tail_is : {x y : Numbered} {xs ys : List Numbered} → x ∷ xs ≡ y ∷ ys → xs ≡ ys
-      tail_is e = cc
-
-timed_at : (place : ℕ) (given : List Numbered) → AllByRecursion (λ (m : Numbered). m.frame.stamp < last_second) given → AllByRecursion IsTimed (map (arrival_at place same_clock) given)
-timed_at place [] early = tt
-timed_at place (m ∷ given) early = (record { due = omega arith; early = early.0 }, timed_at place given early.1)
-
-pub all_timed : {R : Type 0} (remaining : R → Option (List ℕ)) (net : Network) (first now : List R) (i : Intake) (came : List Arrival) → HasTaken remaining net first now i came
-    → AllByRecursion IsTimed came
-all_timed remaining net first now i came taken = of_each_place IsTimed (length (map (λ (x : End). same_clock) (open_ends net))) came taken.merged.within each where
-  each : (k : ℕ) → k < length (map (λ (x : End). same_clock) (open_ends net)) → AllByRecursion IsTimed (at_place k came)
-  each k lt =
-      let count = length-map (open_ends net) (λ (x : End). same_clock) in
-      let f = there_at first k (let long = taken.merged.long in omega (arith, lt, long)) in
-      let r = there_at now k (let long = taken.merged.readers in omega (arith, lt, long)) in
-      let l = there_at i.merging.lanes.items k (let long = taken.merged.many in omega (arith, lt, long)) in
-      let e = there_at (open_ends net) k (omega (arith, lt, count)) in
-      let is = taken.merged.each k same_clock f.0 r.0 l.0 (slice_get-map (λ (x : End). same_clock) (open_ends net) k ∙ ap (option_map (λ (x : End). same_clock)) e.1) f.1 r.1 l.1 in
-      let has = is.read.has in
-      subst (AllByRecursion IsTimed) (sym is.are)
-      (timed_at k is.given (front_early 1 is.given (option_to_list l.0.head) has.records (has.numbered ∙ ap (λ (c : Clock). numbered_from 1 c has.records) is.clock)
-      (first_early l.0.reader.bytes has.records has.taken.first)))
-
-pub all_last : (P : Arrival → Type 0) (came : List Arrival) (a : Arrival) → AllByRecursion P (came ++ a ∷ []) → P a
-all_last P [] a all = all.0
-all_last P (b ∷ came) a all = all_last P came a all.1
 
 -- none of those before came later
 pub in_order : (came : List Arrival) (a : Arrival) → IsTimed a → AllByRecursion IsTimed came → AllByRecursion (λ (b : Arrival). IsBy b a) came
@@ -121,7 +58,7 @@ takes_next remaining net first before now old new came a to frame taken ends met
   to_is = ap (λ (es : List End). slice_get es a.place) (sym taken.ends) ∙ at;
   frame_is = is;
   taken = now_taken;
-  last = subst (λ (r : Record). AllByRecursion (λ (b : Arrival). b.head.frame.stamp ≤ r.stamp) came) (sym is) (in_order came a timed (all_timed remaining net first before old came taken) after.after);
+  last = subst (λ (r : Record). AllByRecursion (λ (b : Arrival). b.head.frame.stamp ≤ r.stamp) came) (sym is) (in_order came a timed (all_timed remaining (open_ends net) first before old.merging came taken.merged) after.after);
   least = subst (λ (r : Record). lesser (Some r.stamp) (next_of new) ≡ next_of old) (sym is) least;
   early = subst (λ (r : Record). r.stamp < last_second) (sym is) timed.early;
 } where
@@ -129,7 +66,7 @@ takes_next remaining net first before now old new came a to frame taken ends met
   now_taken = record { ends = ends ∙ taken.ends; met = met; merged = merged }
 
   timed : IsTimed a
-  timed = all_last IsTimed came a (all_timed remaining net first now new (came ++ a ∷ []) now_taken)
+  timed = all_last IsTimed came a (all_timed remaining (open_ends net) first now new.merging (came ++ a ∷ []) now_taken.merged)
 
 -- ---- all of them
 

@@ -7,23 +7,23 @@ use Rattle.std.specs.List.{AllByRecursion, AllZip}
 use Rattle.std.proofs.lemmas.List.{length-map}
 use Rattle.std.proofs.lemmas.Option.{same_Some, slice_get-map, slice_get_within}
 use Rattle.afdx_pcap.specs.Capture.{IsCapture}
+use Rattle.afdx_pcap.proofs.Early.{capture_early}
 use Rattle.afdx_table.specs.declared.rows.PortRow.{PortRow}
 use Rattle.afdx_table.specs.Content.{Content}
 use Rattle.afdx_table.specs.WellFormed.{IsWellFormed}
-use Rattle.afdx_merging.specs.Merge.{Arrival, numbered_from}
+use Rattle.afdx_merging.specs.Merge.{Arrival, numbered_from, same_clock}
 use Rattle.afdx_merging.specs.Read.{AreRead, AreMerged}
+use Rattle.afdx_merging.proofs.Timed.{numbered_back, frames_of, there_at}
 use Rattle.afdx_session.specs.Texts.{Text}
 use Rattle.afdx_session.specs.Lined.{RecordsKeepToLineWithin}
 use Rattle.afdx_wiring.specs.declared.layout.End.{End}
 use Rattle.afdx_network_check.specs.Net.{Network, stamp_rounding}
 use Rattle.afdx_network.specs.Runs.{Given, KeepTheirLines}
 use Rattle.afdx_network.specs.Given.{is_open, ends_from, open_ends, AreOpen, AreGiven, AreGivenBy}
-use Rattle.afdx_network.specs.Inner.Intake.{same_clock, records_at, AreGivenSoFar, AreOverLines}
+use Rattle.afdx_network.specs.Inner.Intake.{records_at, AreGivenSoFar, AreOverLines}
 use Rattle.afdx_network.specs.Inner.Sites.{Site, end_at, AreCarried}
 use Rattle.afdx_network.proofs.Feeding.{Unique, fed_of, brought_of, site_of}
-use Rattle.afdx_network.proofs.Arriving.{capture_early}
 use Rattle.afdx_network.proofs.OpenEnds.{all_apart, first_place}
-use Rattle.afdx_network.proofs.SoFar.{numbered_back, frames_of, there_at}
 
 -- ---- lists side by side
 

@@ -1,10 +1,10 @@
 //! What is given for a run: captures that readers give, of the ports to which no wire goes.
 
 ghost use Rattle.std.specs.Prelude.{◌≡◌, ◌++◌, [], List, None, length, map, IfOk, IfErr, OnOk, IfSome, IfNone};
-ghost use Rattle.afdx_merging.specs.Merge.{Arrival as Came};
+ghost use Rattle.afdx_merging.specs.Merge.{Arrival as Came, same_clock};
 ghost use Rattle.afdx_network_check.specs.Net.{Network as Net};
 ghost use Rattle.afdx_network.specs.Given.{open_ends};
-ghost use Rattle.afdx_network.specs.Inner.Intake.{same_clock, HasTaken, next_of, IsNextIn, HasTakenAll, AreMet, AreOverLines, IsLineFault, IsAmong, IsFaultAt, IsIntakeFault};
+ghost use Rattle.afdx_network.specs.Inner.Intake.{HasTaken, next_of, IsNextIn, HasTakenAll, AreMet, AreOverLines, IsLineFault, IsAmong, IsFaultAt, IsIntakeFault};
 
 use crate::fault::NetworkRunFault;
 use crate::given::open_ends;

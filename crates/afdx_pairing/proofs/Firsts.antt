@@ -15,7 +15,7 @@ use Rattle.afdx_units.specs.Line.{size_of, cost_of}
 use Rattle.afdx_pcap.specs.Record.{Record}
 use Rattle.afdx_pairing.specs.declared.limits.Limits.{Limits}
 use Rattle.afdx_pairing.specs.Events.{Numbered}
-use Rattle.afdx_pairing.specs.Limits.{left_at, most_of, is_early, in_bound, came_within, stays}
+use Rattle.afdx_pairing.specs.Limits.{left_at, most_of, is_early, in_bound, came_within}
 use Rattle.afdx_pairing.specs.Queue.{is_from, is_within}
 use Rattle.afdx_pairing.specs.Inner.Queue.{ComeInOrder}
 
@@ -87,14 +87,6 @@ no_place_of {X} p xs same =
     let most = prefix_len-le-length (λ (x : X). not (p x)) xs in
     let least = ltb-false (position_or_len p xs) (length xs) (by_none (nat_lt (position_or_len p xs) (length xs)) (position_or_len p xs) same) in
     omega (arith, most, least)
-
-pub place_same : {X : Type 0} (p q : X → Bool) → ((x : X) → p x ≡ q x) → (xs : List X) → position_or_len p xs ≡ position_or_len q xs
-place_same p q same [] = refl
-place_same p q same (x ∷ xs) =
-    elim (cases_Bool (q x)) [
-      | inl is ↦ first_here p x xs (same x ∙ is) ∙ sym (first_here q x xs is)
-      | inr isnt ↦ first_later p x xs (same x ∙ isnt) ∙ ap (λ (n : ℕ). 1 + n) (place_same p q same xs) ∙ sym (first_later q x xs isnt)
-    ]
 
 any_later : (a b : Bool) → a ≡ false → (a || b) ≡ b
 any_later true b isnt = cc
@@ -294,9 +286,6 @@ pub late_stays : (m : Limits) (left : Record) → IsMonotone (λ n. nat_lt n.fra
 late_stays m left = record {
   later = λ x y has le late. le-ltb y.frame.stamp (left_at m left) (omega (arith, ltb-false x.frame.stamp (left_at m left) late, le));
 }
-
-pub gone_is : (m : Limits) (at : ℕ) (ns : List Numbered) → position_or_len (λ n. nat_le (at - 2 * most_of m) n.frame.stamp) ns ≡ position_or_len (λ n. stays m at n.frame) ns
-gone_is m at ns = sym (place_same (λ n. stays m at n.frame) (λ n. nat_le (at - 2 * most_of m) n.frame.stamp) (λ n. le_moves at (2 * most_of m) n.frame.stamp) ns)
 
 -- ---- what was found, as it is asked
 

@@ -1,5 +1,5 @@
 -- Where the records of a queue stand, by their bytes.
-use Rattle.std.proofs.Common.{◌≡◌, ◌==◌, ℕ, zero, suc, ◌+◌, ◌-◌, ◌^◌, ◌≤◌, ◌<◌, nat_le, nat_lt, true, false, cond, List, [], ◌∷◌, ◌++◌, drop, length, Option, Some, None}
+use Rattle.std.proofs.Common.{◌≡◌, ◌==◌, ℕ, zero, suc, ◌+◌, ◌-◌, ◌^◌, ◌≤◌, ◌<◌, nat_le, nat_lt, true, false, cond, List, [], ◌∷◌, ◌++◌, length, Option, Some, None}
 use Rattle.std.proofs.Common.{Bool, refl, sym, ap, subst, ◌∙◌, arith, inl, inr}
 use Rattle.std.specs.Bool.{OnTrue}
 use Rattle.std.specs.Prelude.{slice_index_or, slice_get}
@@ -166,15 +166,6 @@ pub spot_from : (from : ℕ) (ss : List Spot) (i : ℕ) → i ≤ length ss
 spot_from from ss i most point =
     find_at (λ (s : Spot). nat_le from s.stamp) ss
     ∙ ap (λ (n : ℕ). slice_get ss n) (sym (sooner_counted (λ (s : Spot). s.stamp) nowhere from ss i most point))
-
--- the first of all is the first of those that have its bytes
-pub one_less : (b : List ℕ) (k : ℕ) (n : Numbered) (ns : List Numbered)
-    → spots_of b (k + 1) ns ≡ cond (bytes_eq n.frame.bytes b) (drop 1 (spots_of b k (n ∷ ns))) (spots_of b k (n ∷ ns))
-one_less b k n ns =
-    elim (cases_Bool (bytes_eq n.frame.bytes b)) [
-      | inl same ↦ rw same refl
-      | inr differ ↦ rw differ refl
-    ]
 
 -- ---- the first of those that have these bytes
 

@@ -1,6 +1,7 @@
 pub mod Parts
 pub mod Splitting
 pub mod Written
+pub mod Early
 pub mod Unique
 pub mod More
 pub mod Streaming

@@ -24,9 +24,6 @@ one_record f k l bytes r q a b =
     same_record r q (a.stamp ∙ sym b.stamp) (a.original ∙ sym b.original)
     (a.data_is ∙ ap (λ (n : ℕ). take n (drop 16 bytes)) len ∙ sym b.data_is)
 
-fine : (b : Bool) (e : PcapFault) (other : Option PcapFault) → b ≡ false → cond b (Some e) other ≡ other
-fine b e other h = rw h refl
-
 -- a whole record has no fault
 pub begins_fine : (f : Format) (last n : ℕ) (bytes : List ℕ) (r : Record) → Begins f last bytes r → record_fault f last n bytes ≡ None
 unfolding record_fault

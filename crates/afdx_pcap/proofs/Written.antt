@@ -1,5 +1,5 @@
 -- The written text is read again.
-use Rattle.std.proofs.Common.{◌≡◌, ℕ, ◌+◌, ◌/◌, ◌%◌, ◌<◌, ◌≤◌, ◌^◌, List, [], ◌∷◌, ◌++◌, length, take, drop, refl, sym, ap, ◌∙◌, arith, Result, Ok, append_assoc, get_or, subst}
+use Rattle.std.proofs.Common.{◌≡◌, ℕ, ◌+◌, ◌/◌, ◌%◌, ◌<◌, ◌≤◌, ◌^◌, List, [], ◌∷◌, ◌++◌, length, take, drop, refl, sym, ap, ◌∙◌, arith, Ok, append_assoc, get_or, subst}
 use Rattle.std.specs.List.{flat_map}
 use Rattle.std.proofs.lemmas.List.{take_at, drop_at, length-append, take_all, take_more, flat_map_more}
 use Rattle.std.proofs.lemmas.List.Concat.{flat_map-cons}
@@ -12,7 +12,6 @@ use Rattle.afdx_pcap.specs.declared.format.Endian.TheVariants.{Little}
 use Rattle.afdx_pcap.specs.declared.format.Resolution.TheVariants.{Nanos}
 use Rattle.afdx_pcap.specs.declared.format.Format.{Format}
 use Rattle.afdx_pcap.specs.declared.format.Head.{Head}
-use Rattle.afdx_pcap.specs.declared.fault.PcapFault.{PcapFault}
 use Rattle.afdx_pcap.specs.Record.{Record, captured_limit, IsWithinLimit}
 use Rattle.afdx_pcap.specs.Number.{number}
 use Rattle.afdx_pcap.specs.Capture.{header_of, head_of, Begins, after, Splits, IsCapture}
@@ -20,9 +19,6 @@ use Rattle.afdx_pcap.specs.Text.{header_text, word, head_text, record_text, capt
 
 abbrev pub written : Format
 written = record { endian = Little; resolution = Nanos }
-
-good : Format → Result Format PcapFault
-good f = Ok f
 
 pub header_is : (x : List ℕ) → header_of (header_text ++ x) ≡ Ok written
 unfolding header_of number

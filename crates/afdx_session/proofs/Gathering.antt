@@ -1,16 +1,14 @@
 -- What is true of the records of captures, and of every arrival of their merge.
-use Rattle.std.proofs.Common.{◌≡◌, ℕ, ◌<◌, ◌≤◌, ◌==◌, false, List, [], ◌∷◌, ◌++◌, map, drop, cond, refl, sym, arith, inl, inr, subst}
+use Rattle.std.proofs.Common.{◌≡◌, ℕ, ◌<◌, ◌≤◌, ◌==◌, false, List, [], ◌∷◌, ◌++◌, map, drop, cond, refl, sym, inl, inr, subst}
 use Rattle.std.specs.List.{AllByRecursion}
 use Rattle.std.proofs.lemmas.Bool.{cases_Bool, eq-eqb}
 use Rattle.std.specs.Prelude.{is_none, find}
 use Rattle.afdx_table.specs.declared.rows.PortRow.{PortRow}
 use Rattle.afdx_units.specs.Time.{last_second}
 use Rattle.afdx_pcap.specs.declared.format.Format.{Format}
-use Rattle.afdx_pcap.specs.declared.format.Resolution.{Resolution}
-use Rattle.afdx_pcap.specs.declared.format.Resolution.TheVariants.{Micros, Nanos}
-use Rattle.afdx_pcap.specs.declared.format.Head.{Head}
 use Rattle.afdx_pcap.specs.Record.{Record}
-use Rattle.afdx_pcap.specs.Capture.{Splits, IsCapture, after, parts_of_second, stamp_of, head_of}
+use Rattle.afdx_pcap.specs.Capture.{Splits, IsCapture, after}
+use Rattle.afdx_pcap.proofs.Early.{capture_early}
 use Rattle.afdx_core.specs.Merge.{Arrival, Capture, Rises, records_of, arrivals_of}
 use Rattle.afdx_core.specs.Inner.Merge.{AreInOrder, ByStampIsOrdered}
 use Rattle.afdx_session.specs.Texts.{Text}
@@ -30,19 +28,6 @@ splits_rise f last bytes (r ∷ rs) rest splits =
 
 pub capture_rises : (bytes : List ℕ) (rs : List Record) → IsCapture bytes rs → Rises rs
 capture_rises bytes rs capture = (splits_rise capture.format 0 (drop 24 bytes) rs [] capture.records).1
-
-stamp_early : (resolution : Resolution) (h : Head) → h.seconds ≤ 4294967294 → h.fraction < parts_of_second resolution → stamp_of resolution h < last_second
-stamp_early Micros h seconds fraction = omega (arith, seconds, fraction)
-stamp_early Nanos h seconds fraction = omega (arith, seconds, fraction)
-
-pub splits_early : (f : Format) (last : ℕ) (bytes : List ℕ) (rs : List Record) (rest : List ℕ) → Splits f last bytes rs rest → AllByRecursion (λ (r : Record). r.stamp < last_second) rs
-splits_early f last bytes [] rest splits = tt
-splits_early f last bytes (r ∷ rs) rest splits =
-    let b = splits.0 in
-    (subst (λ (n : ℕ). n < last_second) (sym b.stamp) (stamp_early f.resolution (head_of f.endian bytes) b.not_late b.fraction), splits_early f r.stamp (after r bytes) rs rest splits.1)
-
-pub capture_early : (bytes : List ℕ) (rs : List Record) → IsCapture bytes rs → AllByRecursion (λ (r : Record). r.stamp < last_second) rs
-capture_early bytes rs capture = splits_early capture.format 0 (drop 24 bytes) rs [] capture.records
 
 pub records_are_early : RecordsAreEarly
 records_are_early [] [] port are = tt

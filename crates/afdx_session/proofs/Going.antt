@@ -7,8 +7,8 @@ use Rattle.std.proofs.lemmas.Bool.{cases_Bool, both_ways}
 use Rattle.std.proofs.lemmas.Option.{same_Some}
 use Rattle.afdx_units.specs.Time.{last_second}
 use Rattle.afdx_pcap.specs.Record.{Record}
-use Rattle.afdx_pcap.specs.Reading.{AreFirst}
 use Rattle.afdx_pcap.specs.Fault.{last_stamp}
+use Rattle.afdx_pcap.proofs.Early.{first_early}
 use Rattle.afdx_table.specs.declared.rows.PortRow.{PortRow}
 use Rattle.afdx_table.specs.Content.{Content}
 use Rattle.afdx_table.specs.WellFormed as table
@@ -23,7 +23,6 @@ use Rattle.afdx_session.specs.Inner.Lanes.{Adds, waiting_of, with_waiting}
 use Rattle.afdx_session.specs.Inner.Kept.{IsLaneOf, AreLanesOf, AreOfTable, come_to, text_up_to, IsOut, AreOut, Every, IsGoing}
 use Rattle.afdx_session.proofs.Joining.{AllFrom, records_weaken, by_stamp_every}
 use Rattle.afdx_session.proofs.Numbered.{all_append}
-use Rattle.afdx_session.proofs.Gathering.{splits_early}
 use Rattle.afdx_session.proofs.Growing.{HaveReached, have_reached, reached_on, frontier_above, all_ended, no_frontier, AllEnded, further_of, reached-weaken, rises_back}
 use Rattle.afdx_session.proofs.Settling.{all_prefix, all_back, by_stamp_out, arrived, all_arrived}
 use Rattle.afdx_session.proofs.Readings.{first_rises, streams_with, one_reads, reads_settle}
@@ -32,10 +31,6 @@ abbrev pub Early : Arrival → Type 0
 Early a = a.frame.stamp < last_second
 
 -- ---- the captures of lanes
-
-first_early : (bytes : List ℕ) (rs : List Record) → AreFirst bytes rs → AllByRecursion (λ (r : Record). r.stamp < last_second) rs
-first_early bytes [] first = tt
-first_early bytes (r ∷ rs) first = let held = first.1 in splits_early held.format 0 (drop 24 bytes) (r ∷ rs) first.0 held.records
 
 arrivals_early : {Z : Type 0} (lanes : List (Lane Z)) (streams : List Stream) → AreLanesOf lanes streams → AllByRecursion Early (arrivals_of (captures_of streams))
 arrivals_early [] [] are = tt

@@ -1,9 +1,9 @@
 -- What goes to the files of the ports in parts.
-use Rattle.std.proofs.Common.{◌≡◌, ◌≢◌, ◌⊎◌, ℕ, zero, suc, ◌+◌, ◌<◌, ◌≤◌, ◌^◌, true, List, [], ◌∷◌, ◌++◌, map, length, take, drop, set, slice_get, Option, Some, option_map}
+use Rattle.std.proofs.Common.{◌≡◌, ◌≢◌, ◌⊎◌, ℕ, zero, suc, ◌+◌, ◌<◌, ◌≤◌, ◌^◌, List, [], ◌∷◌, ◌++◌, map, length, take, drop, set, slice_get, Option, Some, option_map}
 use Rattle.std.proofs.Common.{refl, ap, sym, ◌∙◌, arith, subst, append_assoc, inl, inr, length-set}
 use Rattle.std.specs.List.{AllByRecursion}
 use Rattle.std.specs.Io.KnownBytes.{Appends}
-use Rattle.std.proofs.KnownBytes.{Appends-nil, Appends-trans}
+use Rattle.std.proofs.KnownBytes.{Appends-trans}
 use Rattle.std.proofs.Math.Seq.{take-append_seam}
 use Rattle.std.proofs.lemmas.List.{length-drop, length-map}
 use Rattle.std.proofs.lemmas.Option.{same_Some, slice_get-map}
@@ -27,8 +27,7 @@ use Rattle.afdx_session.specs.Inner.Settled.{IsSettling}
 use Rattle.afdx_session.specs.Inner.Lanes.{waiting_of}
 use Rattle.afdx_session.specs.Inner.Lent.{IsOver, texts_over, taken_by, left_of, left_in, IsCarrying, HandsOn}
 use Rattle.afdx_session.specs.Inner.Kept.{IsLaneOf, AreLanesOf, AreOfTable, text_up_to, IsOutAt, IsOut, IsGoing, IsOfSameTable}
-use Rattle.afdx_session.specs.Inner.View.{AreFreshLanes}
-use Rattle.afdx_session.specs.Inner.Files.{HandsOver, HavePrefixes, HaveMore, PutsOut, Proceeds, HasWritten}
+use Rattle.afdx_session.specs.Inner.Files.{HandsOver, HavePrefixes, HaveMore, PutsOut, Proceeds}
 use Rattle.afdx_session.proofs.Bounded.{text_bound}
 use Rattle.afdx_session.proofs.Carrying.{texts_set}
 use Rattle.afdx_session.proofs.Drawing.{takes_first}
@@ -36,7 +35,7 @@ use Rattle.afdx_session.proofs.Ending.{TakenAreTheCapture}
 use Rattle.afdx_session.proofs.Going.{get-set}
 use Rattle.afdx_session.proofs.Gone.{port_of_lane}
 use Rattle.afdx_session.proofs.Intakes.{still_of_table}
-use Rattle.afdx_session.proofs.Lending.{ports_stay, none_taken}
+use Rattle.afdx_session.proofs.Lending.{ports_stay}
 use Rattle.afdx_session.proofs.Numbered.{all_slice_get}
 use Rattle.afdx_session.proofs.ReadUp.{read_same, all_set}
 use Rattle.afdx_session.proofs.Prefix.{TakenBeginTheCapture, OneReading, out_is_a_prefix}
@@ -178,17 +177,6 @@ pub have_over : {F : Type 0} (contents : F → Option (List ℕ)) (t u : Content
 have_over contents t u texts others taken start now table same have =
     subst (λ ts. HaveMore contents u ts taken start now) same (subst (λ (c : Content). HaveMore contents c texts taken start now) table have)
 
--- nothing was taken, and nothing went
-pub more_none : {F : Type 0} (contents : F → Option (List ℕ)) (t : Content) (texts : List Text) (taken : List ℕ) (files : List F) → AllByRecursion (λ n. n ≡ 0) taken
-    → HaveMore contents t texts taken files files
-more_none {F} contents t texts taken files none read are = record {
-  long = refl;
-  each = λ place k p f g is_port is_k is_f is_g.
-      let zero_is : k ≡ 0 = all_slice_get (λ n. n ≡ 0) taken place k none is_k in
-      subst (λ n. Appends (contents f) (contents g) (take n (output_text t (merged read) p))) (sym zero_is)
-      (subst (λ (x : F). Appends (contents f) (contents x) []) (same_Some f g (sym is_f ∙ is_g)) (Appends-nil (contents f)));
-}
-
 -- ---- all lanes, one after the other
 
 pub puts_none : {F Z : Type 0} (contents : F → Option (List ℕ)) (m : Machine Z) (files : List F) → IsCarrying m → PutsOut contents m files m.lanes.items files
@@ -300,23 +288,8 @@ proceeds_then {F} {Z} contents start m next files now after was on = record {
 
 -- ---- all have ended
 
-zeros : {Z : Type 0} (lanes : List (Lane Z)) → AllByRecursion (λ (l : Lane Z). l.taken ≡ 0) lanes → AllByRecursion (λ n. n ≡ 0) (taken_by lanes)
-zeros [] none = tt
-zeros (l ∷ lanes) none = (none.0, zeros lanes none.1)
-
 -- the switch went on, and nothing was put
 pub proceeds_hands : {F Z : Type 0} (contents : F → Option (List ℕ)) (start m next : Machine Z) (files now : List F) → Proceeds contents start files m now → HandsOn m next
     → Proceeds contents start files next now
 proceeds_hands contents start m next files now was on =
     proceeds_then contents start m next files now now was (proceeds_out contents m next next now now on (puts_none contents next now on.carrying) refl refl)
-
--- of lanes that were fresh
-pub all_written : {F Z : Type 0} (contents : F → Option (List ℕ)) (ports : List PortRow) (texts : List Text) (old : List (Lane Z)) (mid new : Machine Z) (files now : List F) → AreFreshLanes ports old
-    → taken_by mid.lanes.items ≡ taken_by old → texts_over mid.lanes.items ≡ texts → Proceeds contents mid files new now
-    → AllByRecursion (λ (l : Lane Z). l.ended ≡ true) new.lanes.items → HasWritten contents texts new files now
-all_written {F} {Z} contents ports texts old mid new files now fresh taken over on all = record {
-  gone = record { carrying = on.carrying; over = on.texts ∙ over; all = all };
-  more = have_over contents mid.switch.run.table new.switch.run.table (texts_over mid.lanes.items) texts (taken_by new.lanes.items) files now (sym on.same.table) over
-      (on.more files (more_none contents mid.switch.run.table (texts_over mid.lanes.items) (taken_by mid.lanes.items) files
-      (zeros mid.lanes.items (none_taken ports old mid.lanes.items fresh taken))));
-}

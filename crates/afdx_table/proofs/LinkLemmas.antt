@@ -26,9 +26,6 @@ Entry = ℕ × Link
 abbrev pub AreNamed : List Entry → Type 0
 AreNamed es = AllByRecursion (λ e. e.0 ≡ e.1.id) es
 
-abbrev pub rows_of : List Entry → List Link
-rows_of es = map (λ e. e.1) es
-
 turned : (a b : ℕ) → nat_eq a b ≡ nat_eq b a
 turned a b = grind (arith, nat_tests)
 

@@ -259,9 +259,6 @@ speed-says version mbit Ten h = (grind (arith, nat_tests), tt)
 speed-says version mbit Hundred h = (grind (arith, nat_tests), tt)
 speed-says version mbit Thousand h = (grind (arith, nat_tests), grind (arith, nat_tests))
 
-equal : (a b : ℕ) → (a == b) ≡ true → b ≡ a
-equal a b h = grind (arith, nat_tests)
-
 pub bag-says : (ms : ℕ) (bag : Bag) → bag_of ms ≡ Some bag → ms ≡ bag_ms bag
 unfolding bag_of
 bag-says ms bag h = grind (arith, gets, nat_tests, find_at (λ b. bag_ms b == ms) bags, passes_at_first (λ b. bag_ms b == ms) bags)

@@ -70,15 +70,6 @@ unfolding told_lines
 lines_later s t [] row = refl
 lines_later s t (x ∷ rows) row = refl
 
--- what is shown once a frame has come that is the first, or is not
-pub shown_first : (s : Selection) (rows : List Row) (row : Row) (count : ℕ) (shown : Shown) → count ≡ length rows → count ≡ 0 → shown ≡ shown_of s (row ∷ []) → shown ≡ shown_of s (rows ++ row ∷ [])
-shown_first s [] row count shown many none is = is
-shown_first s (x ∷ rows) row count shown many none is = absurd (omega (arith, many, none))
-
-pub shown_later : (s : Selection) (rows : List Row) (row : Row) (count : ℕ) (shown : Shown) → count ≡ length rows → (count ≡ 0 → ⊥) → shown ≡ shown_of s rows → shown ≡ shown_of s (rows ++ row ∷ [])
-shown_later s [] row count shown many some is = absurd (some many)
-shown_later s (x ∷ rows) row count shown many some is = is
-
 -- ---- one arrival more
 
 module _ {Z : Type 0} (s : Selection) (r : Run) (row : Row) (old begun : Tracing Z) (tells : Tells s r old) (shown_is : begun.shown ≡ shown_of s (r.rows ++ row ∷ [])) where

@@ -20,9 +20,10 @@ use Rattle.afdx_core.specs.Rows.{row_of}
 use Rattle.afdx_core.specs.State.{Run, State, fresh_run, after_row, after_finish, refusal_of}
 use Rattle.afdx_merging.specs.declared.clock.Clock.{Clock}
 use Rattle.afdx_merging.specs.declared.merging.Merging.{Merging}
-use Rattle.afdx_merging.specs.Merge.{Arrival as Came, IsBy, IsAfter}
+use Rattle.afdx_merging.specs.Merge.{Arrival as Came, IsBy, IsAfter, same_clock}
 use Rattle.afdx_merging.specs.Inner.Merging.{HasMerged}
 use Rattle.afdx_merging.specs.Read.{AreMerged}
+use Rattle.afdx_merging.proofs.Timed.{IsTimed, all_timed, all_last}
 use Rattle.afdx_trace.specs.declared.shown.Selection.{Selection}
 use Rattle.afdx_trace.specs.declared.tracing.Tracing.{Tracing}
 use Rattle.afdx_trace.specs.Inner.Telling.{Tells, IsFresh, HasToldRun}
@@ -30,8 +31,8 @@ use Rattle.afdx_session.specs.Output.{rows_of}
 use Rattle.afdx_session.specs.Outcome.{IsDoneOf}
 use Rattle.afdx_session.specs.Inner.OneMerge.{MergedIsTheOnlyOne}
 use Rattle.afdx_trace_run.specs.Traced.{IsTraced}
-use Rattle.afdx_trace_run.specs.Inner.Running.{same_clock, clocks_of, number_at, arrival_of, arrivals_of, TookAll, HasTold, HasTakenAll}
-use Rattle.afdx_trace_run.proofs.Timed.{IsTimed, all_timed, merged_timed, all_last, all_but_last}
+use Rattle.afdx_trace_run.specs.Inner.Running.{clocks_of, number_at, arrival_of, arrivals_of, TookAll, HasTold, HasTakenAll}
+use Rattle.afdx_trace_run.proofs.Timed.{merged_timed, all_but_last}
 use Rattle.afdx_trace_run.proofs.Merged as side
 
 -- ---- no arrival

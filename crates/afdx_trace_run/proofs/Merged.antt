@@ -9,19 +9,20 @@ use Rattle.std.proofs.lemmas.List.{length-map, append-nil}
 use Rattle.std.proofs.lemmas.Option.{same_Some, slice_get-map}
 use Rattle.afdx_pcap.specs.Record.{Record}
 use Rattle.afdx_pcap.specs.Capture.{IsCapture}
+use Rattle.afdx_pcap.proofs.Early.{capture_early}
 use Rattle.afdx_table.specs.declared.rows.PortRow.{PortRow}
 use Rattle.afdx_table.specs.Content.{Content}
 use Rattle.afdx_table.specs.WellFormed.{IsWellFormed, Rises}
 use Rattle.afdx_core.specs.Merge.{Arrival, Capture, merged, records_of, Rises as RisesInStamp}
 use Rattle.afdx_core.specs.Inner.Merge.{part_at, Precedes, AreByStampAndPort}
-use Rattle.afdx_merging.specs.Merge.{Arrival as Came, at_place, numbered_from, IsBy, AreInOrder}
+use Rattle.afdx_merging.specs.Merge.{Arrival as Came, at_place, numbered_from, IsBy, AreInOrder, same_clock}
 use Rattle.afdx_merging.specs.Read.{AreRead as AreReadInOrder, AreMerged}
+use Rattle.afdx_merging.proofs.Timed.{IsTimed, numbered_back, frames_of, there_at}
 use Rattle.afdx_session.specs.Texts.{Text, AreOfPorts}
 use Rattle.afdx_session.specs.Reading.{AreCaptures}
 use Rattle.afdx_session.specs.Sources.{AreRead}
 use Rattle.afdx_session.specs.Inner.OneMerge.{MergedIsTheOnlyOne}
-use Rattle.afdx_trace_run.specs.Inner.Running.{same_clock, clocks_of, arrival_of, arrivals_of}
-use Rattle.afdx_trace_run.proofs.Timed.{IsTimed, capture_early, numbered_back, frames_of, there_at}
+use Rattle.afdx_trace_run.specs.Inner.Running.{clocks_of, arrival_of, arrivals_of}
 
 -- ---- texts and captures beside the numbers of their ports
 

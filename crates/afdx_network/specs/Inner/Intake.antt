@@ -6,10 +6,9 @@ use Rattle.afdx_pcap.specs.Record.{Record}
 use Rattle.afdx_pcap.specs.Capture.{IsCapture}
 use Rattle.afdx_session.specs.Texts.{Text}
 use Rattle.afdx_session.specs.Lined.{RecordsKeepToLineWithin}
-use Rattle.afdx_merging.specs.declared.clock.Clock.{Clock}
 use Rattle.afdx_merging.specs.declared.fault.MergeFault.{MergeFault}
 use Rattle.afdx_merging.specs.declared.fault.MergeFault.TheVariants as merge
-use Rattle.afdx_merging.specs.Merge.{Arrival, at_place}
+use Rattle.afdx_merging.specs.Merge.{Arrival, at_place, same_clock}
 use Rattle.afdx_merging.specs.Read.{AreMerged, HasFirstFault}
 use Rattle.afdx_merging.specs.Inner.Merging.{HasMerged, least_of, lesser}
 use Rattle.afdx_table.specs.declared.rows.PortRow.{PortRow}
@@ -25,10 +24,6 @@ use Rattle.afdx_network.specs.Runs.{Given}
 use Rattle.afdx_network.specs.Given.{open_ends, AreGiven, IsBreachAt}
 use Rattle.afdx_network.specs.Inner.OneLine.{HasBrought}
 use Rattle.afdx_network.specs.Inner.Sites.{end_at}
-
--- the clock of all captures: stamps are as they are
-abbrev pub same_clock : Clock
-same_clock = record { later = 0; sooner = 0; delay = 0 }
 
 -- the place of a port among these
 abbrev pub end_place : List End → End → ℕ

@@ -7,7 +7,7 @@ use Rattle.afdx_merging.specs.declared.clock.Clock.{Clock}
 use Rattle.afdx_merging.specs.declared.fault.MergeFault.{MergeFault}
 use Rattle.afdx_merging.specs.declared.fault.MergeFault.TheVariants as merge
 use Rattle.afdx_merging.specs.declared.merging.Merging.{Merging}
-use Rattle.afdx_merging.specs.Merge.{Arrival as Came}
+use Rattle.afdx_merging.specs.Merge.{Arrival as Came, same_clock}
 use Rattle.afdx_merging.specs.Read.{AreMerged}
 use Rattle.afdx_merging.specs.Inner.Merging.{HasMerged}
 use Rattle.afdx_core.specs.Isolation.{IsRun}
@@ -20,10 +20,6 @@ use Rattle.afdx_trace.specs.Inner.Telling.{Tells, HaveGone}
 use Rattle.afdx_session.specs.Output.{rows_of}
 use Rattle.afdx_session.specs.declared.sources.SourceFault.{SourceFault}
 use Rattle.afdx_session.specs.declared.sources.SourceFault.TheVariants as source
-
--- the clock of all captures: stamps are as they are
-abbrev pub same_clock : Clock
-same_clock = record { later = 0; sooner = 0; delay = 0 }
 
 abbrev pub clocks_of : List PortRow → List Clock
 clocks_of ports = map (λ p. same_clock) ports

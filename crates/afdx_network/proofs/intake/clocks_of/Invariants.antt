@@ -1,5 +1,5 @@
 use Rattle.std.proofs.Common.{◌≡◌, ◌++◌, map, drop}
-use Rattle.afdx_network.specs.Inner.Intake.{same_clock}
+use Rattle.afdx_merging.specs.Merge.{same_clock}
 use Rattle.afdx_network.proofs.intake.clocks_of.Given as goal
 
 abbrev pub invariant-loop-end : goal.invariant-loop-end

@@ -4,7 +4,7 @@ use Rattle.std.proofs.lemmas.Option.{get_or_from_slice_get}
 use Rattle.afdx_table.specs.Content.{Content}
 use Rattle.afdx_origins.specs.declared.at_switch.AtSwitch.{AtSwitch}
 use Rattle.afdx_origins.specs.Inner.Known.{IsFreshSwitch}
-use Rattle.afdx_origins.proofs.Found.{each_pushed}
+use Rattle.afdx_measure.proofs.Fresh.{each_pushed}
 use Rattle.afdx_origins.proofs.Starting.{known_fresh}
 use Rattle.afdx_origins.proofs.origins.nothing_known.Goals as goal
 

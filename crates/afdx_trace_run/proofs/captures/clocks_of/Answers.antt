@@ -1,6 +1,6 @@
 use Rattle.std.proofs.Common.{[], ◌∷◌, List, ◌++◌, sym, ap, ◌∙◌}
 use Rattle.afdx_merging.specs.declared.clock.Clock.{Clock}
-use Rattle.afdx_trace_run.specs.Inner.Running.{same_clock}
+use Rattle.afdx_merging.specs.Merge.{same_clock}
 use Rattle.afdx_trace_run.proofs.Timed.{clocks_next}
 use Rattle.afdx_trace_run.proofs.captures.clocks_of.Goals as goal
 

@@ -5,10 +5,11 @@ use Rattle.afdx_table.specs.Content.{Content}
 use Rattle.afdx_merging.specs.declared.clock.Clock.{Clock}
 use Rattle.afdx_merging.specs.Inner.Merging.{HasMerged}
 use Rattle.afdx_merging.proofs.Failing.{of_error}
+use Rattle.afdx_merging.specs.Merge.{same_clock}
 use Rattle.afdx_session.specs.declared.sources.SourceFault.{SourceFault}
 use Rattle.afdx_session.specs.declared.sources.SourceFault.TheVariants.{Memory}
 use Rattle.afdx_session.specs.Sources.{IsSourceFault}
-use Rattle.afdx_trace_run.specs.Inner.Running.{same_clock, source_fault}
+use Rattle.afdx_trace_run.specs.Inner.Running.{source_fault}
 use Rattle.afdx_trace_run.proofs.Faults.{is_among, is_source_fault}
 use Rattle.afdx_trace_run.proofs.captures.opened.Goals as goal
 

@@ -3,13 +3,13 @@ use Rattle.std.specs.Prelude.{IfSome, IfNone}
 use Rattle.std.proofs.lemmas.List.{length-map}
 use Rattle.std.proofs.lemmas.Result.{IfOk-weaker, IfErr-weaker}
 use Rattle.afdx_merging.specs.declared.clock.Clock.{Clock}
-use Rattle.afdx_merging.specs.Merge.{Arrival, IsAfter}
+use Rattle.afdx_merging.specs.Merge.{Arrival, IsAfter, same_clock}
 use Rattle.afdx_merging.specs.Read.{AreMerged}
 use Rattle.afdx_merging.specs.Inner.Merging.{HasMerged, lesser, least_of}
 use Rattle.afdx_wiring.specs.declared.layout.End.{End}
 use Rattle.afdx_network_check.specs.Net.{Network}
 use Rattle.afdx_network.specs.Given.{open_ends}
-use Rattle.afdx_network.specs.Inner.Intake.{same_clock, AreMet, AreOverLines, HasTaken, HasTakenAll, IsLineFault, IsIntakeFault}
+use Rattle.afdx_network.specs.Inner.Intake.{AreMet, AreOverLines, HasTaken, HasTakenAll, IsLineFault, IsIntakeFault}
 use Rattle.afdx_network.specs.declared.line.Line.{Line}
 use Rattle.afdx_network.proofs.Answering.{written_back}
 use Rattle.afdx_network.proofs.Meeting.{next_number}

@@ -3,11 +3,11 @@ use Rattle.std.specs.Prelude.{IfSome}
 use Rattle.std.proofs.lemmas.List.{length-map}
 use Rattle.std.proofs.lemmas.Option.{slice_get_read}
 use Rattle.afdx_merging.specs.declared.clock.Clock.{Clock}
-use Rattle.afdx_merging.specs.Merge.{Arrival, IsAfter}
+use Rattle.afdx_merging.specs.Merge.{Arrival, IsAfter, same_clock}
 use Rattle.afdx_merging.specs.Inner.Merging.{HasMerged, lesser, least_of}
 use Rattle.afdx_wiring.specs.declared.layout.End.{End}
 use Rattle.afdx_network.specs.Given.{open_ends}
-use Rattle.afdx_network.specs.Inner.Intake.{same_clock, AreMet}
+use Rattle.afdx_network.specs.Inner.Intake.{AreMet}
 use Rattle.afdx_network.specs.declared.line.Line.{Line}
 use Rattle.afdx_network.proofs.Answering.{written_back}
 use Rattle.afdx_network.proofs.Meeting.{next_number}

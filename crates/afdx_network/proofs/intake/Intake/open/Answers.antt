@@ -1,7 +1,7 @@
 use Rattle.std.proofs.Common.{List, [], length, map, sym, ap, ◌∙◌}
 use Rattle.std.proofs.lemmas.List.{length-map}
+use Rattle.afdx_merging.specs.Merge.{same_clock}
 use Rattle.afdx_wiring.specs.declared.layout.End.{End}
-use Rattle.afdx_network.specs.Inner.Intake.{same_clock}
 use Rattle.afdx_network.proofs.Taking.{opened, fault_among, fault_there}
 use Rattle.afdx_network.proofs.intake.Intake.open.Goals as goal
 
