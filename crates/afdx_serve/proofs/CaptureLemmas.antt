@@ -1,19 +1,14 @@
 -- Captures that were got, and files that were put or not.
-use Rattle.std.proofs.Common.{◌≡◌, ℕ, ◌+◌, ◌<◌, List, [], ◌∷◌, ◌++◌, map, length, take, Option, Some, Result, Ok, Err, string_bytes, inl, inr, sym, ap, subst, ◌∙◌, get_or, slice_get}
-use Rattle.std.proofs.Common.{Vec}
+use Rattle.std.proofs.Common.{◌≡◌, ℕ, ◌<◌, List, map, length, Option, Some, Result, Ok, Err, string_bytes, inl, inr, sym, ap, subst, ◌∙◌, get_or, slice_get}
 use Rattle.std.specs.Prelude.{option_map, MatchResult}
-use Rattle.std.proofs.lemmas.List.{map-append, take_more, take-map}
-use Rattle.std.proofs.lemmas.Simd.{map-map}
 use Rattle.std.proofs.lemmas.Option.{slice_get-map, slice_get-get_or}
-use Rattle.afdx_table.specs.declared.rows.PortRow.{PortRow}
-use Rattle.afdx_session.specs.Texts.{Text, texts_of}
 use Rattle.afdx_table.specs.Content.{Content}
 use Rattle.afdx_messages.specs.declared.failure.Failure.{Failure}
 use Rattle.afdx_messages.specs.declared.failure.Failure.TheVariants as failure
-use Rattle.afdx_folder.specs.Files.{Files, Shows, ShowsAll, KeepsFiles, KeepsOthers, PutsFiles, DeviceLog, one_more, settled_after}
-use Rattle.afdx_serve.specs.Runs.{capture_name, names_in, bytes_of_captures, GetsUpTo, port_names, StopsAt, StopsSettling, EndsAt, FailsToGet, FailsToGetAll, FailsToPutOne, FailsToPut}
+use Rattle.afdx_folder.specs.Files.{Files, KeepsFiles, PutsFiles, DeviceLog, one_more, settled_after}
+use Rattle.afdx_serve.specs.Runs.{GetsUpTo, StopsAt, StopsSettling, EndsAt, FailsToPutOne, FailsToPut}
 use Rattle.afdx_serve.specs.Inner.Outputs.{FailsToSettle, FailsToMove}
-use Rattle.afdx_serve.proofs.FileLemmas.{KeepsFiles-trans, Shows-before, PutsFiles-before, ShowsAll-before, ShowsAll-push}
+use Rattle.afdx_serve.proofs.FileLemmas.{KeepsFiles-trans, PutsFiles-before, ShowsAll-before}
 
 -- ---- failures
 
@@ -23,51 +18,21 @@ pub not_settled : (f : Failure) (name : List ℕ) (names : List (List ℕ)) (i :
 not_settled (failure.Put s) name names i first before after is same fails =
     subst (λ (n : List ℕ). StopsSettling n names first after) (sym fails.0) (i, is, fails.1 ∙ ap (one_more name) same)
 not_settled failure.Memory name names i first before after is same fails = tt
-not_settled failure.Found name names i first before after is same fails = absurd fails
-not_settled failure.Usage name names i first before after is same fails = absurd fails
-not_settled (failure.Table r) name names i first before after is same fails = absurd fails
-not_settled (failure.Capture r) name names i first before after is same fails = absurd fails
-not_settled (failure.PortCapture p r) name names i first before after is same fails = absurd fails
-not_settled (failure.OutputCapture p r) name names i first before after is same fails = absurd fails
-not_settled (failure.Get s) name names i first before after is same fails = absurd fails
-not_settled (failure.Load r) name names i first before after is same fails = absurd fails
-not_settled (failure.Network r) name names i first before after is same fails = absurd fails
-not_settled failure.Read name names i first before after is same fails = absurd fails
-not_settled failure.Write name names i first before after is same fails = absurd fails
+not_settled f name names i first before after is same fails = absurd fails
 
 -- so none was put
 pub none_put : (f : Failure) (names all : List (List ℕ)) (old new : Option Files) (before after : DeviceLog) → KeepsFiles old new → FailsToSettle f names before after
     → FailsToPut f names all old new before after
 none_put (failure.Put s) names all old new before after keeps fails = inl (fails, keeps)
 none_put failure.Memory names all old new before after keeps fails = inl keeps
-none_put failure.Found names all old new before after keeps fails = absurd fails
-none_put failure.Usage names all old new before after keeps fails = absurd fails
-none_put (failure.Table r) names all old new before after keeps fails = absurd fails
-none_put (failure.Capture r) names all old new before after keeps fails = absurd fails
-none_put (failure.PortCapture p r) names all old new before after keeps fails = absurd fails
-none_put (failure.OutputCapture p r) names all old new before after keeps fails = absurd fails
-none_put (failure.Get s) names all old new before after keeps fails = absurd fails
-none_put (failure.Load r) names all old new before after keeps fails = absurd fails
-none_put (failure.Network r) names all old new before after keeps fails = absurd fails
-none_put failure.Read names all old new before after keeps fails = absurd fails
-none_put failure.Write names all old new before after keeps fails = absurd fails
+none_put f names all old new before after keeps fails = absurd fails
 
 -- all new files were taken, and then put or not
 module _ (names all : List (List ℕ)) (old new : Option Files) (first before after : DeviceLog) (taken : before ≡ settled_after (length names) first) where
   not_all_moved : (f : Failure) → FailsToMove f names all old new before after → FailsToPut f names all old new first after
   not_all_moved (failure.Put s) fails = inr (fails.0, fails.1 ∙ ap (one_more (string_bytes s)) taken)
   not_all_moved failure.Memory fails = inr fails
-  not_all_moved failure.Found fails = absurd fails
-  not_all_moved failure.Usage fails = absurd fails
-  not_all_moved (failure.Table r) fails = absurd fails
-  not_all_moved (failure.Capture r) fails = absurd fails
-  not_all_moved (failure.PortCapture p r) fails = absurd fails
-  not_all_moved (failure.OutputCapture p r) fails = absurd fails
-  not_all_moved (failure.Get s) fails = absurd fails
-  not_all_moved (failure.Load r) fails = absurd fails
-  not_all_moved (failure.Network r) fails = absurd fails
-  not_all_moved failure.Read fails = absurd fails
-  not_all_moved failure.Write fails = absurd fails
+  not_all_moved f fails = absurd fails
 
   pub moved : {T : Type 0} (r : Result T Failure)
       → MatchResult r (λ _. PutsFiles old new names all × (after ≡ before)) (λ f. FailsToMove f names all old new before after)

@@ -161,19 +161,9 @@ faulty_under remaining files names readers t r leaves port why opened is =
 -- names were not all got
 pub not_opened : (f : Failure) (names : List (List ℕ)) (t : Content) (r : Recordings) (files : Option Files) (before after : DeviceLog) → FailsToGetNamed f files names before after
     → FailsUnder f names t r files before after
-not_opened failure.Found names t r files before after h = absurd h
-not_opened failure.Usage names t r files before after h = absurd h
-not_opened (failure.Table e) names t r files before after h = absurd h
-not_opened (failure.Load e) names t r files before after h = absurd h
-not_opened (failure.Capture e) names t r files before after h = absurd h
-not_opened (failure.PortCapture p e) names t r files before after h = absurd h
-not_opened (failure.OutputCapture p e) names t r files before after h = absurd h
-not_opened (failure.Network e) names t r files before after h = absurd h
 not_opened (failure.Get s) names t r files before after h = h
-not_opened (failure.Put s) names t r files before after h = absurd h
-not_opened failure.Read names t r files before after h = absurd h
-not_opened failure.Write names t r files before after h = absurd h
 not_opened failure.Memory names t r files before after h = tt
+not_opened f names t r files before after h = absurd h
 
 -- the name at a place was opened, and could not be read
 pub unread_under : (f : Failure) (names : List (List ℕ)) (t : Content) (r : Recordings) (files : Option Files) (name : List ℕ) (before after : DeviceLog) → GetsNamed name files names
@@ -203,19 +193,11 @@ faulty_before a b names t r leaves port why keeps is = record { texts = is.texts
 -- nothing was put before
 under_before : (f : Failure) (names : List (List ℕ)) (t : Content) (r : Recordings) (a b : Option Files) (first before after : DeviceLog) → KeepsFiles a b → before ≡ first
     → FailsUnder f names t r b before after → FailsUnder f names t r a first after
-under_before failure.Found names t r a b first before after keeps same h = absurd h
-under_before failure.Usage names t r a b first before after keeps same h = absurd h
-under_before (failure.Table e) names t r a b first before after keeps same h = absurd h
-under_before (failure.Load e) names t r a b first before after keeps same h = absurd h
-under_before (failure.Capture e) names t r a b first before after keeps same h = absurd h
 under_before (failure.PortCapture p e) names t r a b first before after keeps same h = (faulty_before a b names t r false p e keeps h.0, h.1 ∙ same)
 under_before (failure.OutputCapture p e) names t r a b first before after keeps same h = (faulty_before a b names t r true p e keeps h.0, h.1 ∙ same)
-under_before (failure.Network e) names t r a b first before after keeps same h = absurd h
 under_before (failure.Get s) names t r a b first before after keeps same h = (GetsNamed-before (string_bytes s) a b names keeps h.0, h.1 ∙ ap (one_more (string_bytes s)) same)
-under_before (failure.Put s) names t r a b first before after keeps same h = absurd h
-under_before failure.Read names t r a b first before after keeps same h = absurd h
-under_before failure.Write names t r a b first before after keeps same h = absurd h
 under_before failure.Memory names t r a b first before after keeps same h = tt
+under_before f names t r a b first before after keeps same h = absurd h
 
 -- ---- tables
 
@@ -235,19 +217,10 @@ module _ (files : Option Files) (path : List ℕ) (r : Recordings) (t : Content)
 -- a table was not got
 pub not_varying : (f : Failure) (files : Option Files) (path : List ℕ) (r : Recordings) (before after : DeviceLog) → FailsToRead f files path before after
     → FailsToGetVarying f files path r before after
-not_varying failure.Found files path r before after h = absurd h
-not_varying failure.Usage files path r before after h = absurd h
 not_varying (failure.Table e) files path r before after h = h
-not_varying (failure.Load e) files path r before after h = absurd h
-not_varying (failure.Capture e) files path r before after h = absurd h
-not_varying (failure.PortCapture p e) files path r before after h = absurd h
-not_varying (failure.OutputCapture p e) files path r before after h = absurd h
-not_varying (failure.Network e) files path r before after h = absurd h
 not_varying (failure.Get s) files path r before after h = h
-not_varying (failure.Put s) files path r before after h = absurd h
-not_varying failure.Read files path r before after h = absurd h
-not_varying failure.Write files path r before after h = absurd h
 not_varying failure.Memory files path r before after h = h
+not_varying f files path r before after h = absurd h
 
 pub never_refused : (c : Compare) (r : Recordings) (files : Option Files) (before after : DeviceLog) → FailsToFind failure.Usage c r files before after → ⊥
 never_refused c r files before after (inl h) = h
@@ -310,20 +283,10 @@ module _ (c : Compare) (r : Recordings) (a b d : Option Files) (first before aft
 
   pub rows_not_put : (form : Form) (f : Failure) (w v : Option (List ℕ)) → Keeps w v → FailsToPut f (rows_names c) (rows_texts c r found) b d before after
       → FailsToCompareAll f form c r (world w a first) (world v d after)
-  rows_not_put form failure.Found w v none h = absurd h
-  rows_not_put form failure.Usage w v none h = absurd h
-  rows_not_put form (failure.Table e) w v none h = absurd h
-  rows_not_put form (failure.Load e) w v none h = absurd h
-  rows_not_put form (failure.Capture e) w v none h = absurd h
-  rows_not_put form (failure.PortCapture p e) w v none h = absurd h
-  rows_not_put form (failure.OutputCapture p e) w v none h = absurd h
-  rows_not_put form (failure.Network e) w v none h = absurd h
-  rows_not_put form (failure.Get s) w v none h = absurd h
   rows_not_put form (failure.Put s) w v none h = ((from, until, found, is, EndsAt-before (string_bytes s) (rows_names c) (rows_texts c r found) a b d first before after keeps same h), none)
-  rows_not_put form failure.Read w v none h = absurd h
-  rows_not_put form failure.Write w v none h = absurd h
   rows_not_put form failure.Memory w v none (inl kept) = (inl (KeepsFiles-trans a b d keeps kept), none)
   rows_not_put form failure.Memory w v none (inr h) = (inr (h.0, (from, until, found, is, StopsAt-before _ _ _ a b d keeps h.1)), none)
+  rows_not_put form f w v none h = absurd h
 
 -- of a name that failed: no file has changed, or those before a name were put
 pub rows_ended : (name : List ℕ) (c : Compare) (r : Recordings) (a d : Option Files) (before after : DeviceLog) → EndsRows name c r a d before after

@@ -1,9 +1,9 @@
 -- Networks that were got: the files of tables, and why they were not.
-use Rattle.std.proofs.Common.{◌≡◌, ◌≢◌, ℕ, ◌+◌, ◌<◌, ◌≤◌, List, [], ◌∷◌, ◌++◌, map, length, take, Option, Some, Result, Ok, Err, Vec, inr, sym, ap, subst, ◌∙◌, arith, get_or}
+use Rattle.std.proofs.Common.{◌≡◌, ◌≢◌, ℕ, ◌+◌, ◌<◌, List, [], ◌∷◌, ◌++◌, map, length, take, Option, Some, Result, Ok, Err, Vec, inr, sym, ap, subst, ◌∙◌, arith, get_or}
 use Rattle.std.proofs.Common.{slice_get, length-append, string_bytes}
 use Rattle.std.specs.Prelude.{option_map, MatchResult}
 use Rattle.std.specs.Path.{path_with_file_name}
-use Rattle.std.proofs.lemmas.List.{get_or-map, map-append, take_more, take_all, take-map}
+use Rattle.std.proofs.lemmas.List.{get_or-map, map-append, take_more, take-map}
 use Rattle.std.proofs.lemmas.Option.{slice_get-map, slice_get-get_or}
 use Rattle.afdx_table.specs.Content.{Content}
 use Rattle.afdx_table.specs.Text.{table_of}
@@ -66,17 +66,7 @@ pub not_got_text : (f : Failure) (files : Option Files) (path name : List ℕ) (
 not_got_text (failure.Get s) files path name switches first before after same fails upto =
     subst (λ (n : List ℕ). GetsTables n files path switches × (after ≡ one_more n first)) (sym fails.0) (upto, fails.1 ∙ ap (one_more name) same)
 not_got_text failure.Memory files path name switches first before after same fails upto = tt
-not_got_text failure.Found files path name switches first before after same fails upto = absurd fails
-not_got_text failure.Usage files path name switches first before after same fails upto = absurd fails
-not_got_text (failure.Table r) files path name switches first before after same fails upto = absurd fails
-not_got_text (failure.Capture r) files path name switches first before after same fails upto = absurd fails
-not_got_text (failure.PortCapture p r) files path name switches first before after same fails upto = absurd fails
-not_got_text (failure.OutputCapture p r) files path name switches first before after same fails upto = absurd fails
-not_got_text (failure.Put s) files path name switches first before after same fails upto = absurd fails
-not_got_text (failure.Load r) files path name switches first before after same fails upto = absurd fails
-not_got_text (failure.Network r) files path name switches first before after same fails upto = absurd fails
-not_got_text failure.Read files path name switches first before after same fails upto = absurd fails
-not_got_text failure.Write files path name switches first before after same fails upto = absurd fails
+not_got_text f files path name switches first before after same fails upto = absurd fails
 
 -- ---- why the rest was not
 
@@ -92,9 +82,6 @@ one_more_table texts i old new t lt are grown is =
     ∙ ap (λ (l : List (Result Content TableFault)). l ++ table_of (get_or texts i []) ∷ []) are
     ∙ ap (λ (r : Result Content TableFault). map (λ (x : Content). Ok x) old ++ r ∷ []) is ∙ sym (map-append (λ (x : Content). Ok x) old (t ∷ [])) ∙ ap (map (λ (x : Content). Ok x)) (sym grown)
 
-pub all_tables : (texts : List (List ℕ)) (i : ℕ) (tables : List Content) → length texts ≤ i → AreTables (take i texts) tables → AreTables texts tables
-all_tables texts i tables past are = subst (λ (all : List (List ℕ)). AreTables all tables) (take_all i texts past) are
-
 -- the failure of a table of the switch at a place
 pub stops_at_table : (f : Failure) (refusal : TableFault) (switches : List Switch) (texts : List (List ℕ)) (i : ℕ) (d : Switch) (tables : List Content) → i < length texts → i < length switches
     → AreTables (take i texts) tables → (refusal ≢ table.Memory → table_of (get_or texts i []) ≡ Err refusal) → IsRefusedTable refusal (get_or switches i d).name f
@@ -108,22 +95,8 @@ stops_at_table (failure.Network (network.Table r n)) refusal switches texts i d 
   refused = is h.1 ∙ ap (λ (x : TableFault). Err x) (sym h.0);
   name_is = slice_get-map (λ (s : Switch). s.name) switches i ∙ ap (option_map (λ (s : Switch). s.name)) (slice_get-get_or switches i d within) ∙ ap (λ (n : List ℕ). Some n) (sym h.2);
 }
-stops_at_table (failure.Network (network.Refused e name)) refusal switches texts i d tables in_texts within are is h = absurd h
-stops_at_table (failure.Network (network.Capture p e name)) refusal switches texts i d tables in_texts within are is h = absurd h
-stops_at_table (failure.Network (network.Rows rule shorts names)) refusal switches texts i d tables in_texts within are is h = absurd h
-stops_at_table (failure.Network (network.Line p number name)) refusal switches texts i d tables in_texts within are is h = absurd h
 stops_at_table failure.Memory refusal switches texts i d tables in_texts within are is h = tt
-stops_at_table failure.Found refusal switches texts i d tables in_texts within are is h = absurd h
-stops_at_table failure.Usage refusal switches texts i d tables in_texts within are is h = absurd h
-stops_at_table (failure.Table r) refusal switches texts i d tables in_texts within are is h = absurd h
-stops_at_table (failure.Capture r) refusal switches texts i d tables in_texts within are is h = absurd h
-stops_at_table (failure.PortCapture p r) refusal switches texts i d tables in_texts within are is h = absurd h
-stops_at_table (failure.OutputCapture p r) refusal switches texts i d tables in_texts within are is h = absurd h
-stops_at_table (failure.Put s) refusal switches texts i d tables in_texts within are is h = absurd h
-stops_at_table (failure.Get s) refusal switches texts i d tables in_texts within are is h = absurd h
-stops_at_table (failure.Load r) refusal switches texts i d tables in_texts within are is h = absurd h
-stops_at_table failure.Read refusal switches texts i d tables in_texts within are is h = absurd h
-stops_at_table failure.Write refusal switches texts i d tables in_texts within are is h = absurd h
+stops_at_table f refusal switches texts i d tables in_texts within are is h = absurd h
 
 -- ---- a network
 
@@ -139,21 +112,9 @@ not_joined_before : (f : Failure) (a b : Option Files) (path : List ℕ) (l : La
 not_joined_before (failure.Network (network.Table refusal name)) a b path l before after keeps h = ((h.0.0, has_before a b path l.switches h.0.0 keeps h.0.1, h.0.2), h.1)
 not_joined_before (failure.Network (network.Refused e name)) a b path l before after keeps h =
     ((h.0.0, h.0.1, has_before a b path l.switches h.0.0 keeps h.0.2, h.0.3, h.0.4), h.1, h.2)
-not_joined_before (failure.Network (network.Capture p e name)) a b path l before after keeps h = absurd h
-not_joined_before (failure.Network (network.Rows rule shorts names)) a b path l before after keeps h = absurd h
-not_joined_before (failure.Network (network.Line p number name)) a b path l before after keeps h = absurd h
 not_joined_before (failure.Get s) a b path l before after keeps h = (gets_before (string_bytes s) a b path l.switches keeps h.0, h.1)
 not_joined_before failure.Memory a b path l before after keeps h = tt
-not_joined_before failure.Found a b path l before after keeps h = absurd h
-not_joined_before failure.Usage a b path l before after keeps h = absurd h
-not_joined_before (failure.Table r) a b path l before after keeps h = absurd h
-not_joined_before (failure.Capture r) a b path l before after keeps h = absurd h
-not_joined_before (failure.PortCapture p r) a b path l before after keeps h = absurd h
-not_joined_before (failure.OutputCapture p r) a b path l before after keeps h = absurd h
-not_joined_before (failure.Put s) a b path l before after keeps h = absurd h
-not_joined_before (failure.Load r) a b path l before after keeps h = absurd h
-not_joined_before failure.Read a b path l before after keeps h = absurd h
-not_joined_before failure.Write a b path l before after keeps h = absurd h
+not_joined_before f a b path l before after keeps h = absurd h
 
 -- the network of a layout that was got, or why it was not
 pub network_of : (r : Result Network Failure) (a b : Option Files) (path : List ℕ) (l : Layout) (first before after : DeviceLog) → before ≡ first → KeepsFiles a b → HasLayout a path l

@@ -38,17 +38,7 @@ pub not_got_named : (f : Failure) (files : Option Files) (name : List ℕ) (name
 not_got_named (failure.Get s) files name names first before after same fails upto =
     subst (λ (n : List ℕ). GetsNamed n files names × (after ≡ one_more n first)) (sym fails.0) (upto, fails.1 ∙ ap (one_more name) same)
 not_got_named failure.Memory files name names first before after same fails upto = tt
-not_got_named failure.Found files name names first before after same fails upto = absurd fails
-not_got_named failure.Usage files name names first before after same fails upto = absurd fails
-not_got_named (failure.Table r) files name names first before after same fails upto = absurd fails
-not_got_named (failure.Capture r) files name names first before after same fails upto = absurd fails
-not_got_named (failure.PortCapture p r) files name names first before after same fails upto = absurd fails
-not_got_named (failure.OutputCapture p r) files name names first before after same fails upto = absurd fails
-not_got_named (failure.Put s) files name names first before after same fails upto = absurd fails
-not_got_named (failure.Load r) files name names first before after same fails upto = absurd fails
-not_got_named (failure.Network r) files name names first before after same fails upto = absurd fails
-not_got_named failure.Read files name names first before after same fails upto = absurd fails
-not_got_named failure.Write files name names first before after same fails upto = absurd fails
+not_got_named f files name names first before after same fails upto = absurd fails
 
 pub GetsNamed-before : (name : List ℕ) (a b : Option Files) (names : List (List ℕ)) → KeepsFiles a b → GetsNamed name b names → GetsNamed name a names
 GetsNamed-before name a b names keeps s = record { place = s.place; got = s.got; is_there = s.is_there; earlier = ShowsAll-before a b _ _ keeps s.earlier }
@@ -60,17 +50,7 @@ not_got_given (failure.Get s) files path net names before after named fails =
     let at = subst (λ (ns : List (List ℕ)). GetsNamed (string_bytes s) files ns) named fails.0 in
     (record { place = at.place; got = at.got; is_there = at.is_there; earlier = at.earlier }, fails.1)
 not_got_given failure.Memory files path net names before after named fails = tt
-not_got_given failure.Found files path net names before after named fails = absurd fails
-not_got_given failure.Usage files path net names before after named fails = absurd fails
-not_got_given (failure.Table r) files path net names before after named fails = absurd fails
-not_got_given (failure.Capture r) files path net names before after named fails = absurd fails
-not_got_given (failure.PortCapture p r) files path net names before after named fails = absurd fails
-not_got_given (failure.OutputCapture p r) files path net names before after named fails = absurd fails
-not_got_given (failure.Put s) files path net names before after named fails = absurd fails
-not_got_given (failure.Load r) files path net names before after named fails = absurd fails
-not_got_given (failure.Network r) files path net names before after named fails = absurd fails
-not_got_given failure.Read files path net names before after named fails = absurd fails
-not_got_given failure.Write files path net names before after named fails = absurd fails
+not_got_given f files path net names before after named fails = absurd fails
 
 -- ---- names of captures, by switch
 

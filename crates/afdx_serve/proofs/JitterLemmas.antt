@@ -15,7 +15,7 @@ module _ (form : Form) (path : List ℕ) (old new : World) (keeps : KeepsFiles o
   -- the network was not got
   pub not_got : (f : Failure) → FailsToGetNetwork f old.files path old.failed new.failed → FailsToGiveJitters f form path old new
   not_got =
-      of_lost (λ f. FailsToGiveJitters f form path old new) old.files path old.failed new.failed (inl (keeps, none)) (λ e h. inl (inl h, keeps, none)) (λ name h. (inl h, keeps, none))
+      of_lost (λ f. FailsToGiveJitters f form path old new) old.files path old.failed new.failed (inl (keeps, none)) (λ e h. inl (inl h, keeps, none)) (λ name h. inl (inl h, keeps, none))
 
   -- it does not fit
   pub not_fit : (net : Network) → HasNetwork old.files path net → new.failed ≡ old.failed → (e : NetworkFault) → (e ≢ fault.Memory → fit_of net ≡ Err e)

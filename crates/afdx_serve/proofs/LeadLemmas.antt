@@ -208,17 +208,7 @@ named_capture (failure.Get s) files path t names before after named fails =
     let at = subst (λ ns. GetsNamed (string_bytes s) files ns) named fails.0 in
     (record { place = at.place; got = at.got; is_there = at.is_there; earlier = at.earlier }, fails.1)
 named_capture failure.Memory files path t names before after named fails = tt
-named_capture failure.Found files path t names before after named fails = absurd fails
-named_capture failure.Usage files path t names before after named fails = absurd fails
-named_capture (failure.Table r) files path t names before after named fails = absurd fails
-named_capture (failure.Capture r) files path t names before after named fails = absurd fails
-named_capture (failure.PortCapture p r) files path t names before after named fails = absurd fails
-named_capture (failure.OutputCapture p r) files path t names before after named fails = absurd fails
-named_capture (failure.Put s) files path t names before after named fails = absurd fails
-named_capture (failure.Load r) files path t names before after named fails = absurd fails
-named_capture (failure.Network r) files path t names before after named fails = absurd fails
-named_capture failure.Read files path t names before after named fails = absurd fails
-named_capture failure.Write files path t names before after named fails = absurd fails
+named_capture f files path t names before after named fails = absurd fails
 
 -- that at a place was opened, and could not be read
 pub unread_capture : {X : Type 0} (str : X → List ℕ) {R : Type 0} (remaining : R → Option (List ℕ)) (f : Failure) (files : Option Files) (path : List ℕ) (t : Content) (names : List X)

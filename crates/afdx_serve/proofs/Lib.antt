@@ -19,7 +19,7 @@ pub mod CompareLemmas
 mod PutLemmas
 mod NetworkRunLemmas
 pub mod NetworkMeasureLemmas
-pub mod NetworkRowLemmas
+pub mod NetworkTextLemmas
 pub mod WithinLemmas
 mod WatchLemmas
 mod NetworkTraceLemmas

@@ -36,50 +36,21 @@ pub of_lost : (P : Failure → Type 0) (files : Option Files) (path : List ℕ) 
 of_lost P files path before after out refused unread failure.Memory h = out
 of_lost P files path before after out refused unread (failure.Network e) h = refused e h
 of_lost P files path before after out refused unread (failure.Get name) h = unread name h
-of_lost P files path before after out refused unread failure.Found h = absurd (got files path before after h)
-of_lost P files path before after out refused unread failure.Usage h = absurd (got files path before after h)
-of_lost P files path before after out refused unread (failure.Table e) h = absurd (got files path before after h)
-of_lost P files path before after out refused unread (failure.Load e) h = absurd (got files path before after h)
-of_lost P files path before after out refused unread (failure.Capture e) h = absurd (got files path before after h)
-of_lost P files path before after out refused unread (failure.PortCapture p e) h = absurd (got files path before after h)
-of_lost P files path before after out refused unread (failure.OutputCapture p e) h = absurd (got files path before after h)
-of_lost P files path before after out refused unread (failure.Put name) h = absurd (got files path before after h)
-of_lost P files path before after out refused unread failure.Read h = absurd (got files path before after h)
-of_lost P files path before after out refused unread failure.Write h = absurd (got files path before after h)
+of_lost P files path before after out refused unread f h = absurd (got files path before after h)
 
 -- a refusal leads to itself, or to memory
 pub of_refused : (P : Failure → Type 0) (names : Names) (e : NetworkFault) → P failure.Memory
     → ((x : NetworkFailure) → IsRefused names e (failure.Network x) → P (failure.Network x)) → (f : Failure) → IsRefused names e f → P f
 of_refused P names e out refused failure.Memory h = out
 of_refused P names e out refused (failure.Network x) h = refused x h
-of_refused P names e out refused failure.Found h = absurd h
-of_refused P names e out refused failure.Usage h = absurd h
-of_refused P names e out refused (failure.Table x) h = absurd h
-of_refused P names e out refused (failure.Load x) h = absurd h
-of_refused P names e out refused (failure.Capture x) h = absurd h
-of_refused P names e out refused (failure.PortCapture p x) h = absurd h
-of_refused P names e out refused (failure.OutputCapture p x) h = absurd h
-of_refused P names e out refused (failure.Get name) h = absurd h
-of_refused P names e out refused (failure.Put name) h = absurd h
-of_refused P names e out refused failure.Read h = absurd h
-of_refused P names e out refused failure.Write h = absurd h
+of_refused P names e out refused f h = absurd h
 
 -- rows that are refused lead to themselves, or to memory
 pub of_rows : (P : Failure → Type 0) (names : Names) (rule : JitterRule) (shorts : List Short) → P failure.Memory
     → ((x : NetworkFailure) → AreRefusedRows names rule shorts (failure.Network x) → P (failure.Network x)) → (f : Failure) → AreRefusedRows names rule shorts f → P f
 of_rows P names rule shorts out refused failure.Memory h = out
 of_rows P names rule shorts out refused (failure.Network x) h = refused x h
-of_rows P names rule shorts out refused failure.Found h = absurd h
-of_rows P names rule shorts out refused failure.Usage h = absurd h
-of_rows P names rule shorts out refused (failure.Table x) h = absurd h
-of_rows P names rule shorts out refused (failure.Load x) h = absurd h
-of_rows P names rule shorts out refused (failure.Capture x) h = absurd h
-of_rows P names rule shorts out refused (failure.PortCapture p x) h = absurd h
-of_rows P names rule shorts out refused (failure.OutputCapture p x) h = absurd h
-of_rows P names rule shorts out refused (failure.Get name) h = absurd h
-of_rows P names rule shorts out refused (failure.Put name) h = absurd h
-of_rows P names rule shorts out refused failure.Read h = absurd h
-of_rows P names rule shorts out refused failure.Write h = absurd h
+of_rows P names rule shorts out refused f h = absurd h
 
 -- a verdict never leads to refused arguments
 judged_usage : (names : Names) (verdict : NetworkVerdict) → LeadsToFailure names verdict failure.Usage → ⊥
@@ -113,10 +84,11 @@ never_usage (ask.Check path form) old new h = elim h.0 [
   | inr fails ↦ judged_usage (names_of fails.0.layout.switches) (verdict_of fails.0) fails.2
 ]
 never_usage (ask.Size path form) old new h = got old.files path.now old.failed new.failed h.0
-never_usage (ask.Jitter path form) old new h = elim h.0 [
+never_usage (ask.Jitter path form) old new (inl h) = elim h.0 [
   | inl fails ↦ got old.files path.now old.failed new.failed fails
   | inr fails ↦ fails.2.2
 ]
+never_usage (ask.Jitter path form) old new (inr h) = h.4
 never_usage (ask.Run paths form) old new h = not_led paths.network.now paths.unchecked paths.input.now old.files old.failed new.failed h.0.0
 never_usage (ask.Measure inputs form) old new h = not_led inputs.network.now inputs.unchecked inputs.input.now old.files old.failed new.failed h.0
 never_usage (ask.Survey inputs form) old new h = not_led inputs.network.now inputs.unchecked inputs.input.now old.files old.failed new.failed h.0
@@ -145,39 +117,13 @@ spares failure.Usage r old new made h = absurd made
 spares failure.Read r old new made h = absurd made
 spares failure.Write r old new made h = absurd made
 spares failure.Memory r old new made h = absurd made
-spares (failure.Table e) (ask.Check path form) old new made h = inl (h.2, h.1)
-spares (failure.Load e) (ask.Check path form) old new made h = inl (h.2, h.1)
-spares (failure.Capture e) (ask.Check path form) old new made h = inl (h.2, h.1)
-spares (failure.PortCapture p e) (ask.Check path form) old new made h = inl (h.2, h.1)
-spares (failure.OutputCapture p e) (ask.Check path form) old new made h = inl (h.2, h.1)
-spares (failure.Network e) (ask.Check path form) old new made h = inl (h.2, h.1)
-spares (failure.Get name) (ask.Check path form) old new made h = inl (h.2, h.1)
-spares (failure.Put name) (ask.Check path form) old new made h = inl (h.2, h.1)
-spares (failure.Table e) (ask.Size path form) old new made h = inl (h.2, h.1)
-spares (failure.Load e) (ask.Size path form) old new made h = inl (h.2, h.1)
-spares (failure.Capture e) (ask.Size path form) old new made h = inl (h.2, h.1)
-spares (failure.PortCapture p e) (ask.Size path form) old new made h = inl (h.2, h.1)
-spares (failure.OutputCapture p e) (ask.Size path form) old new made h = inl (h.2, h.1)
-spares (failure.Network e) (ask.Size path form) old new made h = inl (h.2, h.1)
-spares (failure.Get name) (ask.Size path form) old new made h = inl (h.2, h.1)
-spares (failure.Put name) (ask.Size path form) old new made h = inl (h.2, h.1)
-spares (failure.Table e) (ask.Jitter path form) old new made h = inl (h.2, h.1)
-spares (failure.Load e) (ask.Jitter path form) old new made h = inl (h.2, h.1)
-spares (failure.Capture e) (ask.Jitter path form) old new made h = inl (h.2, h.1)
-spares (failure.PortCapture p e) (ask.Jitter path form) old new made h = inl (h.2, h.1)
-spares (failure.OutputCapture p e) (ask.Jitter path form) old new made h = inl (h.2, h.1)
-spares (failure.Network e) (ask.Jitter path form) old new made (inl h) = inl (h.2, h.1)
+spares f (ask.Check path form) old new made h = inl (h.2, h.1)
+spares f (ask.Size path form) old new made h = inl (h.2, h.1)
+spares f (ask.Jitter path form) old new made (inl h) = inl (h.2, h.1)
 spares (failure.Network e) (ask.Jitter path form) old new made (inr h) = inr (inr (h.0, h.1, h.2, h.3, tt))
-spares (failure.Get name) (ask.Jitter path form) old new made h = inl (h.2, h.1)
-spares (failure.Put name) (ask.Jitter path form) old new made h = inl (h.2, h.1)
-spares (failure.Table e) (ask.Run paths form) old new made h = inl (h.1, h.0.1)
-spares (failure.Load e) (ask.Run paths form) old new made h = inl (h.1, h.0.1)
-spares (failure.Capture e) (ask.Run paths form) old new made h = inl (h.1, h.0.1)
-spares (failure.PortCapture p e) (ask.Run paths form) old new made h = inl (h.1, h.0.1)
-spares (failure.OutputCapture p e) (ask.Run paths form) old new made h = inl (h.1, h.0.1)
-spares (failure.Network e) (ask.Run paths form) old new made h = inl (h.1, h.0.1)
-spares (failure.Get name) (ask.Run paths form) old new made h = inl (h.1, h.0.1)
+spares f (ask.Jitter path form) old new made (inr h) = absurd h.4
 spares (failure.Put name) (ask.Run paths form) old new made h = inr (network_ended _ paths _ _ _ _ h.0, h.1)
+spares f (ask.Run paths form) old new made h = inl (h.1, h.0.1)
 spares f (ask.Measure inputs form) old new made h = inl (h.2, h.1)
 spares f (ask.Survey inputs form) old new made h = inl (h.2, h.1)
 spares (failure.Put name) (ask.Trace paths) old new made h = inr (network_trace_ended _ paths _ _ _ _ h.0, h.1)

@@ -6,9 +6,7 @@ use Rattle.std.specs.List.Sorted.{IsPermutation, IsSorted}
 use Rattle.std.proofs.lemmas.List.{append_assoc, append-nil, length-append, length-map, take_more}
 use Rattle.afdx_core.specs.State.{State}
 use Rattle.afdx_count.specs.Tally.{Tally}
-use Rattle.afdx_count.specs.Report.{report_of as counts_text}
 use Rattle.afdx_measure.specs.declared.delays.Delays.{Delays}
-use Rattle.afdx_measure.specs.Policing.{policing_of}
 use Rattle.afdx_session.specs.Texts.{Text}
 use Rattle.afdx_session.specs.Outcome.{Results}
 use Rattle.afdx_network_check.specs.declared.exit.Exit.{Exit}
@@ -23,14 +21,12 @@ use Rattle.afdx_network.specs.Runs.{Given, IsUncheckedRunOf}
 use Rattle.afdx_network.specs.Watched.{AreEnded, HaveSent}
 use Rattle.afdx_folder.specs.Files.{Files, KeepsFiles}
 use Rattle.afdx_origins.specs.Origins.{Origins, IsSummary}
-use Rattle.afdx_network_report.specs.Lines.{Names, name_of, report_of}
+use Rattle.afdx_network_report.specs.Lines.{Names, name_of}
 use Rattle.afdx_network_report.specs.declared.link_ends.LinkEnd.{LinkEnd}
 use Rattle.afdx_network_report.specs.LinkEnds.{link_end_of}
 use Rattle.afdx_serve.specs.Networks.{names_of}
-use Rattle.afdx_serve.specs.declared.network_survey.Parts.{Parts}
-use Rattle.afdx_serve.specs.NetworkMeasures.{unchecked_end, AreEndsOf, HaveEndTexts, said_of, peaks_text, WatchesFrom}
+use Rattle.afdx_serve.specs.NetworkMeasures.{unchecked_end, AreEndsOf, HaveEndTexts, said_of, WatchesFrom}
 use Rattle.afdx_serve.specs.Inner.NetworkRunning.{AreOpenedEnds}
-use Rattle.afdx_serve.specs.Inner.Watching.{HasPartsMore, ArePartsOf}
 use Rattle.afdx_serve.proofs.GivenLemmas.{gave}
 use Rattle.afdx_serve.proofs.NetworkRunLemmas.{has_given_before}
 
@@ -132,39 +128,3 @@ next_named {X} yielded rest all x names whole many =
 pub all_taken : {X : Type 0} (yielded rest all : List X) → yielded ++ rest ≡ all → length rest ≡ 0 → yielded ≡ all
 all_taken yielded [] all whole none = sym (append-nil yielded) ∙ whole
 all_taken yielded (x ∷ rest) all whole none = absurd (omega (arith, none))
-
--- ---- the parts of a survey
-
-abbrev counted : List ℕ → Tally → State → List ℕ
-counted name counts s = report_of name (counts_text counts)
-
-abbrev filled : List ℕ → Tally → State → List ℕ
-filled name counts s = report_of name (peaks_text counts s)
-
-abbrev policed : List ℕ → Tally → State → List ℕ
-policed name counts s = report_of name (policing_of s.run)
-
-pub no_parts : (names : Names) (p : Parts) → p.reports.items ≡ [] → p.peaks.items ≡ [] → p.policing.items ≡ [] → ArePartsOf names [] p
-no_parts names p reports peaks policing = record {
-  reports = reports ∙ sym (none_said counted names);
-  peaks = peaks ∙ sym (none_said filled names);
-  policing = policing ∙ sym (none_said policed names);
-}
-
-pub parts_more : (names : Names) (switches : List (Tally × State)) (both : Tally × State) (switch : ℕ) (name : List ℕ) (old new : Parts) → switch ≡ length switches → switch < length names
-    → name ≡ name_of names switch → ArePartsOf names switches old → HasPartsMore name both.0 both.1 old new → ArePartsOf names (switches ++ both ∷ []) new
-parts_more names switches both switch name old new count lt named was more = record {
-  reports = one_more_said_of counted names switches both switch [] _ _ name count lt named was.reports more.reports;
-  peaks = one_more_said_of filled names switches both switch [] _ _ name count lt named was.peaks more.peaks;
-  policing = one_more_said_of policed names switches both switch [] _ _ name count lt named was.policing more.policing;
-}
-
--- they are joined, with other lines after the reports
-pub survey_joined : (names : Names) (switches : List (Tally × State)) (p : Parts) (lines text : List ℕ) → ArePartsOf names switches p
-    → text ≡ ((p.reports.items ++ lines) ++ p.peaks.items) ++ p.policing.items
-    → text ≡ said_of counted names switches ++ (lines ++ said_of filled names switches) ++ said_of policed names switches
-survey_joined names switches p lines text are is =
-    let reports = said_of counted names switches in
-    let peaks = said_of filled names switches in
-    let policing = said_of policed names switches in
-    rw (are.reports, are.peaks, are.policing) at is ∙ ap (λ (t : List ℕ). t ++ policing) (append_assoc reports lines peaks)

@@ -43,7 +43,7 @@ use Rattle.afdx_csv.specs.declared.form.Form.{Form}
 use Rattle.afdx_serve.specs.Serving.{world, PutsNetwork, FailsToRunNetwork}
 use Rattle.afdx_serve.specs.declared.network_plan.NetworkPlan.{NetworkPlan}
 use Rattle.afdx_serve.specs.declared.network_plan.NetworkPlan.TheVariants.{Unchecked, Accepted}
-use Rattle.afdx_serve.specs.Inner.NetworkRunning.{network_in, is_accepted, end_names, AreOpenedEnds, HasRun, LeadsFrom, IsCaptureFailure, IsLineFailure}
+use Rattle.afdx_serve.specs.Inner.NetworkRunning.{network_in, is_accepted, end_names, AreOpenedEnds, HasRun, LeadsFrom, IsGivenFailure}
 use Rattle.afdx_serve.proofs.CaptureLemmas.{StopsAt-before, EndsAt-before}
 use Rattle.afdx_serve.proofs.GivenLemmas.{open_named, left_named, gave, not_got_named, not_got_given}
 use Rattle.afdx_serve.proofs.LeadLemmas.{opened_shown}
@@ -259,63 +259,30 @@ unread_given str remaining f files path net names place d all before after table
             earlier = got.1;
           }
 
--- what they give is no run
+-- what they give is refused
+given_refused : {R : Type 0} (remaining : R → Option (List ℕ)) (files : Option Files) (path : List ℕ) (net : Network) (names : List (List ℕ)) (all : List (Incoming R)) (up : Given)
+    (why : NetworkRunFault) → length net.tables ≡ length net.layout.switches → AreOpenedEnds remaining files path net names all → AreGivenBy (coming remaining) net all up
+    → IsUncheckedRefusal net up why → (given : Given) × HasGiven files path (names_of net.layout.switches) given × IsUncheckedRefusal net (given_up net.layout given) why
+given_refused remaining files path net names all up why tables opened by refused =
+    let found = gave remaining files path net names all up (length-map net.layout.switches (λ (s : Switch). s.name) ∙ sym tables) opened by in
+    (found.0, found.1, subst (λ (given : Given). IsUncheckedRefusal net given why) (sym found.3) refused)
+
+-- so there is no run of it
 pub fault_given : {R : Type 0} (remaining : R → Option (List ℕ)) (f : Failure) (files : Option Files) (path : List ℕ) (net : Network) (names : List (List ℕ)) (all : List (Incoming R))
-    (switch port : ℕ)
-    (why : PcapFault) (before after : DeviceLog) → length net.tables ≡ length net.layout.switches → AreOpenedEnds remaining files path net names all
-    → IsFaultOver (coming remaining) net all (IsUncheckedRefusal net) (run.Capture switch port why) → IsCaptureFailure (names_of net.layout.switches) switch port why f → after ≡ before
-    → FailsToGetGiven f files path net before after
-fault_given remaining (failure.Network (network.Capture at reason name)) files path net names all switch port why before after tables opened fault is same =
-    let found = gave remaining files path net names all fault.0 (length-map net.layout.switches (λ (s : Switch). s.name) ∙ sym tables) opened fault.1 in
-    let refused = subst (λ (given : Given). IsUncheckedRefusal net given (run.Capture switch port why)) (sym found.3) fault.2 in
-    let here = subst (λ (p : ℕ). IsUncheckedRefusal net (given_up net.layout found.0) (run.Capture switch p why)) (sym is.0) refused in
+    (why : NetworkRunFault) (before after : DeviceLog) → length net.tables ≡ length net.layout.switches → AreOpenedEnds remaining files path net names all
+    → IsFaultOver (coming remaining) net all (IsUncheckedRefusal net) why → IsGivenFailure (names_of net.layout.switches) f why → after ≡ before → FailsToGetGiven f files path net before after
+fault_given remaining (failure.Network (network.Capture at reason name)) files path net names all (run.Capture switch port why) before after tables opened fault is same =
+    let found = given_refused remaining files path net names all fault.0 (run.Capture switch port why) tables opened fault.1 fault.2 in
+    let here = subst (λ (p : ℕ). IsUncheckedRefusal net (given_up net.layout found.0) (run.Capture switch p why)) (sym is.0) found.2 in
     let there = subst (λ (w : PcapFault). IsUncheckedRefusal net (given_up net.layout found.0) (run.Capture switch at w)) (sym is.1) here in
     ((found.0, switch, found.1, there, is.2), same)
-fault_given remaining failure.Memory files path net names all switch port why before after tables opened fault is same = tt
-fault_given remaining (failure.Network (network.Rows rule shorts name)) files path net names all switch port why before after tables opened fault is same = absurd is
-fault_given remaining (failure.Network (network.Line at number name)) files path net names all switch port why before after tables opened fault is same = absurd is
-fault_given remaining (failure.Network (network.Refused r name)) files path net names all switch port why before after tables opened fault is same = absurd is
-fault_given remaining (failure.Network (network.Table r name)) files path net names all switch port why before after tables opened fault is same = absurd is
-fault_given remaining failure.Found files path net names all switch port why before after tables opened fault is same = absurd is
-fault_given remaining failure.Usage files path net names all switch port why before after tables opened fault is same = absurd is
-fault_given remaining (failure.Table r) files path net names all switch port why before after tables opened fault is same = absurd is
-fault_given remaining (failure.Load r) files path net names all switch port why before after tables opened fault is same = absurd is
-fault_given remaining (failure.Capture r) files path net names all switch port why before after tables opened fault is same = absurd is
-fault_given remaining (failure.PortCapture p r) files path net names all switch port why before after tables opened fault is same = absurd is
-fault_given remaining (failure.OutputCapture p r) files path net names all switch port why before after tables opened fault is same = absurd is
-fault_given remaining (failure.Get s) files path net names all switch port why before after tables opened fault is same = absurd is
-fault_given remaining (failure.Put s) files path net names all switch port why before after tables opened fault is same = absurd is
-fault_given remaining failure.Read files path net names all switch port why before after tables opened fault is same = absurd is
-fault_given remaining failure.Write files path net names all switch port why before after tables opened fault is same = absurd is
-
--- what they give did not come over one line
-pub line_given : {R : Type 0} (remaining : R → Option (List ℕ)) (f : Failure) (files : Option Files) (path : List ℕ) (net : Network) (names : List (List ℕ)) (all : List (Incoming R))
-    (switch port : ℕ)
-    (number : ℕ) (before after : DeviceLog) → length net.tables ≡ length net.layout.switches → AreOpenedEnds remaining files path net names all
-    → IsFaultOver (coming remaining) net all (IsUncheckedRefusal net) (run.Line switch port number) → IsLineFailure (names_of net.layout.switches) switch port number f → after ≡ before
-    → FailsToGetGiven f files path net before after
-line_given remaining (failure.Network (network.Line at which name)) files path net names all switch port number before after tables opened fault is same =
-    let found = gave remaining files path net names all fault.0 (length-map net.layout.switches (λ (s : Switch). s.name) ∙ sym tables) opened fault.1 in
-    let refused = subst (λ (given : Given). IsUncheckedRefusal net given (run.Line switch port number)) (sym found.3) fault.2 in
-    let here = subst (λ (p : ℕ). IsUncheckedRefusal net (given_up net.layout found.0) (run.Line switch p number)) (sym is.0) refused in
+fault_given remaining (failure.Network (network.Line at which name)) files path net names all (run.Line switch port number) before after tables opened fault is same =
+    let found = given_refused remaining files path net names all fault.0 (run.Line switch port number) tables opened fault.1 fault.2 in
+    let here = subst (λ (p : ℕ). IsUncheckedRefusal net (given_up net.layout found.0) (run.Line switch p number)) (sym is.0) found.2 in
     let there = subst (λ (k : ℕ). IsUncheckedRefusal net (given_up net.layout found.0) (run.Line switch at k)) (sym is.1) here in
     ((found.0, switch, found.1, there, is.2), same)
-line_given remaining failure.Memory files path net names all switch port number before after tables opened fault is same = tt
-line_given remaining (failure.Network (network.Rows rule shorts name)) files path net names all switch port number before after tables opened fault is same = absurd is
-line_given remaining (failure.Network (network.Capture at reason name)) files path net names all switch port number before after tables opened fault is same = absurd is
-line_given remaining (failure.Network (network.Refused r name)) files path net names all switch port number before after tables opened fault is same = absurd is
-line_given remaining (failure.Network (network.Table r name)) files path net names all switch port number before after tables opened fault is same = absurd is
-line_given remaining failure.Found files path net names all switch port number before after tables opened fault is same = absurd is
-line_given remaining failure.Usage files path net names all switch port number before after tables opened fault is same = absurd is
-line_given remaining (failure.Table r) files path net names all switch port number before after tables opened fault is same = absurd is
-line_given remaining (failure.Load r) files path net names all switch port number before after tables opened fault is same = absurd is
-line_given remaining (failure.Capture r) files path net names all switch port number before after tables opened fault is same = absurd is
-line_given remaining (failure.PortCapture p r) files path net names all switch port number before after tables opened fault is same = absurd is
-line_given remaining (failure.OutputCapture p r) files path net names all switch port number before after tables opened fault is same = absurd is
-line_given remaining (failure.Get s) files path net names all switch port number before after tables opened fault is same = absurd is
-line_given remaining (failure.Put s) files path net names all switch port number before after tables opened fault is same = absurd is
-line_given remaining failure.Read files path net names all switch port number before after tables opened fault is same = absurd is
-line_given remaining failure.Write files path net names all switch port number before after tables opened fault is same = absurd is
+fault_given remaining failure.Memory files path net names all why before after tables opened fault is same = tt
+fault_given remaining f files path net names all why before after tables opened fault is same = absurd is
 
 -- no two wires go to one port, so that it is not why
 pub never_wrong : {R : Type 0} (remaining : R → Option (List ℕ)) (net : Network) (readers : List R) (why : NetworkRunFault) → NoneShareAPort net
@@ -420,19 +387,7 @@ not_given_before (failure.Network (network.Capture port why name)) a b path net 
     ((h.0.0, h.0.1, has_given_before a b path (names_of net.layout.switches) h.0.0 keeps h.0.2, h.0.3, h.0.4), h.1)
 not_given_before (failure.Network (network.Line port number name)) a b path net before after keeps h =
     ((h.0.0, h.0.1, has_given_before a b path (names_of net.layout.switches) h.0.0 keeps h.0.2, h.0.3, h.0.4), h.1)
-not_given_before (failure.Network (network.Rows rule shorts names)) a b path net before after keeps h = absurd h
-not_given_before (failure.Network (network.Refused r name)) a b path net before after keeps h = absurd h
-not_given_before (failure.Network (network.Table r name)) a b path net before after keeps h = absurd h
-not_given_before failure.Found a b path net before after keeps h = absurd h
-not_given_before failure.Usage a b path net before after keeps h = absurd h
-not_given_before (failure.Table r) a b path net before after keeps h = absurd h
-not_given_before (failure.Load r) a b path net before after keeps h = absurd h
-not_given_before (failure.Capture r) a b path net before after keeps h = absurd h
-not_given_before (failure.PortCapture p r) a b path net before after keeps h = absurd h
-not_given_before (failure.OutputCapture p r) a b path net before after keeps h = absurd h
-not_given_before (failure.Put s) a b path net before after keeps h = absurd h
-not_given_before failure.Read a b path net before after keeps h = absurd h
-not_given_before failure.Write a b path net before after keeps h = absurd h
+not_given_before f a b path net before after keeps h = absurd h
 
 -- no write and no put fails so early
 module _ (network : List ℕ) (unchecked : Bool) (input : List ℕ) (files : Option Files) (before after : DeviceLog) where
@@ -497,17 +452,7 @@ module _ (paths : NetworkPaths) (net : Network) (left : List Results) (names all
   not_put_network form (failure.Put name) w v none h = (ends_network (string_bytes name) h, none)
   not_put_network form failure.Memory w v none (inl kept) = (inl (KeepsFiles-trans a b c keeps kept), none)
   not_put_network form failure.Memory w v none (inr h) = (inr (h.0, stops_network h.0 h.1), none)
-  not_put_network form failure.Found w v none h = absurd h
-  not_put_network form failure.Usage w v none h = absurd h
-  not_put_network form (failure.Table r) w v none h = absurd h
-  not_put_network form (failure.Load r) w v none h = absurd h
-  not_put_network form (failure.Capture r) w v none h = absurd h
-  not_put_network form (failure.PortCapture p r) w v none h = absurd h
-  not_put_network form (failure.OutputCapture p r) w v none h = absurd h
-  not_put_network form (failure.Network r) w v none h = absurd h
-  not_put_network form (failure.Get s) w v none h = absurd h
-  not_put_network form failure.Read w v none h = absurd h
-  not_put_network form failure.Write w v none h = absurd h
+  not_put_network form f w v none h = absurd h
 
   -- all were
   pub puts_network : PutsFiles b c names all → after ≡ settled_after (length names) before → (w v : Option (List ℕ)) → PutsNetwork paths (world w a first) (world v c after) net left

@@ -1,9 +1,8 @@
 -- What a run did, and why it was not done.
-use Rattle.std.proofs.Common.{◌≡◌, ℕ, Bool, true, false, not, List, Option, Result, Ok, Err, sym, ap, subst, ◌∙◌, inl, inr}
+use Rattle.std.proofs.Common.{◌≡◌, ℕ, List, Option, Result, Ok, Err, sym, ap, ◌∙◌, inl, inr}
 use Rattle.std.specs.Prelude.{◌⊎◌, MatchResult}
-use Rattle.std.proofs.Common.{map, length, String, Global}
+use Rattle.std.proofs.Common.{map, length}
 use Rattle.std.specs.Prelude.{string_bytes}
-use Rattle.std.proofs.lemmas.List.{length-map}
 use Rattle.std.proofs.lemmas.Simd.{map-map}
 use Rattle.afdx_table.specs.declared.rows.PortRow.{PortRow}
 use Rattle.afdx_table.specs.Content.{Content}
@@ -11,23 +10,20 @@ use Rattle.afdx_core.specs.Merge.{merged}
 use Rattle.afdx_table.specs.WellFormed.{TablesAreWellFormed}
 use Rattle.afdx_session.specs.Texts.{Text}
 use Rattle.afdx_session.specs.Output.{output_text}
-use Rattle.afdx_core.specs.State.{State}
-use Rattle.afdx_core.specs.Isolation.{IsIsolatedRun}
 use Rattle.afdx_session.specs.declared.plan.Plan.{Plan}
-use Rattle.afdx_session.specs.Outcome.{Results, table_in, is_cleared, IsOutcome, IsDoneOf}
+use Rattle.afdx_session.specs.Outcome.{Results, table_in, IsOutcome}
 use Rattle.afdx_session.specs.Headline.{AcceptedRunsIsolate}
 use Rattle.afdx_arguments.specs.declared.request.Paths.{Paths}
 use Rattle.afdx_arguments.specs.declared.request.RunOptions.{RunOptions}
 use Rattle.afdx_arguments.specs.declared.request.TraceOptions.{TraceOptions}
 use Rattle.afdx_arguments.specs.declared.request.Inputs.{Inputs}
-use Rattle.afdx_trace.specs.declared.shown.Selection.{Selection}
 use Rattle.afdx_messages.specs.declared.failure.Failure.{Failure}
 use Rattle.afdx_messages.specs.declared.failure.Failure.TheVariants as failure
 use Rattle.afdx_folder.specs.Files.{Files, DeviceLog, KeepsFiles, PutsFiles, one_more, settled_after}
 use Rattle.afdx_serve.specs.Runs.{inputs_of, IsRunOf, LeadsTo, names_in, bytes_of_captures, StopsAt, EndsAt, StopsRun, EndsRun, FailsToPut, FailsToEnd, FailsToRun, HasPlan, FailsToGetAll}
 use Rattle.afdx_serve.specs.Runs.{FailsToGather, FailsToLead}
 use Rattle.afdx_serve.specs.Runs.{capture_name}
-use Rattle.afdx_serve.specs.Traces.{trace_names, trace_texts, IsTraceIn, PutsTrace, StopsTrace, EndsTrace, FailsToTrace}
+use Rattle.afdx_serve.specs.Traces.{trace_names, IsTraceIn, PutsTrace, StopsTrace, EndsTrace, FailsToTrace}
 use Rattle.std.specs.Io.KnownBytes.{Keeps}
 use Rattle.afdx_serve.specs.Serving.{world, PutsResults, FailsToRunAll}
 use Rattle.afdx_serve.proofs.CaptureLemmas.{StopsAt-before, EndsAt-before, GetsUpTo-before}
@@ -41,17 +37,7 @@ module _ (paths : Paths) (names all : List (List ℕ)) (a b c : Option Files) (f
   not_all_put (failure.Put name) h = ends (string_bytes name) (EndsAt-before (string_bytes name) names all a b c first before after keeps same h)
   not_all_put failure.Memory (inl kept) = inl (KeepsFiles-trans a b c keeps kept)
   not_all_put failure.Memory (inr h) = inr (h.0, stops h.0 (StopsAt-before _ _ _ a b c keeps h.1))
-  not_all_put failure.Found h = absurd h
-  not_all_put failure.Usage h = absurd h
-  not_all_put (failure.Table r) h = absurd h
-  not_all_put (failure.Capture r) h = absurd h
-  not_all_put (failure.PortCapture p r) h = absurd h
-  not_all_put (failure.OutputCapture p r) h = absurd h
-  not_all_put (failure.Get s) h = absurd h
-  not_all_put (failure.Load r) h = absurd h
-  not_all_put (failure.Network r) h = absurd h
-  not_all_put failure.Read h = absurd h
-  not_all_put failure.Write h = absurd h
+  not_all_put f h = absurd h
 
 module _ (paths : Paths) (results : Results) (a b c : Option Files) (first before after : DeviceLog) (leads : LeadsTo paths a results) (keeps : KeepsFiles a b) (same : before ≡ first) where
   stopped : (name : List ℕ) → StopsAt name (names_in paths.output.now results.captures) (bytes_of_captures results.captures) a c → StopsRun name paths a c
@@ -70,17 +56,7 @@ module _ (paths : Paths) (results : Results) (a b c : Option Files) (first befor
       → FailsToRunAll f paths options (world w a first) (world v c after)
   not_all options (failure.Put name) w v none h = (not_put_run (failure.Put name) h, none)
   not_all options failure.Memory w v none h = (not_put_run failure.Memory h, none)
-  not_all options failure.Found w v none h = absurd h
-  not_all options failure.Usage w v none h = absurd h
-  not_all options (failure.Table r) w v none h = absurd h
-  not_all options (failure.Capture r) w v none h = absurd h
-  not_all options (failure.PortCapture p r) w v none h = absurd h
-  not_all options (failure.OutputCapture p r) w v none h = absurd h
-  not_all options (failure.Get s) w v none h = absurd h
-  not_all options (failure.Load r) w v none h = absurd h
-  not_all options (failure.Network r) w v none h = absurd h
-  not_all options failure.Read w v none h = absurd h
-  not_all options failure.Write w v none h = absurd h
+  not_all options f w v none h = absurd h
 
   -- what was led to was put
   pub all_put : PutsFiles b c (names_in paths.output.now results.captures) (bytes_of_captures results.captures)
@@ -109,35 +85,15 @@ module _ (inputs : Inputs) (a b : Option Files) (t : Content) (first before afte
   pub not_gathered : (f : Failure) → FailsToGetAll f b inputs.input.now t before after → FailsToGather f inputs a first after
   not_gathered (failure.Get name) h = (h.1 ∙ ap (one_more (string_bytes name)) same, inr (t, plan, GetsUpTo-before _ _ a b t keeps h.0))
   not_gathered failure.Memory h = tt
-  not_gathered failure.Found h = absurd h
-  not_gathered failure.Usage h = absurd h
-  not_gathered (failure.Table r) h = absurd h
-  not_gathered (failure.Capture r) h = absurd h
-  not_gathered (failure.PortCapture p r) h = absurd h
-  not_gathered (failure.OutputCapture p r) h = absurd h
-  not_gathered (failure.Load r) h = absurd h
-  not_gathered (failure.Network r) h = absurd h
-  not_gathered (failure.Put s) h = absurd h
-  not_gathered failure.Read h = absurd h
-  not_gathered failure.Write h = absurd h
+  not_gathered f h = absurd h
 
 -- ---- what that leads to
 
 module _ (inputs : Inputs) (a : Option Files) (plan : Plan) (captures : List Text) (before after : DeviceLog) (of : IsRunOf inputs a plan captures) (count : after ≡ before) where
   pub not_led : (f : Failure) → FailsToLead f (table_in plan) captures → FailsToGather f inputs a before after
   not_led (failure.PortCapture p r) h = (table_in plan, captures, of.has_plan, of.has_captures, h, count)
-  not_led (failure.OutputCapture p r) h = absurd h
   not_led failure.Memory h = tt
-  not_led failure.Found h = absurd h
-  not_led failure.Usage h = absurd h
-  not_led (failure.Table r) h = absurd h
-  not_led (failure.Capture r) h = absurd h
-  not_led (failure.Load r) h = absurd h
-  not_led (failure.Network r) h = absurd h
-  not_led (failure.Get s) h = absurd h
-  not_led (failure.Put s) h = absurd h
-  not_led failure.Read h = absurd h
-  not_led failure.Write h = absurd h
+  not_led f h = absurd h
 
 -- what was reported was not all put, or was
 module _ (paths : Paths) (options : TraceOptions) (texts : List (List ℕ)) (a b c : Option Files) (first before after : DeviceLog) (is : IsTraceIn paths options a texts)
@@ -168,14 +124,7 @@ not_gathered_trace paths options a b first after keeps (failure.Table r) h = (h,
 not_gathered_trace paths options a b first after keeps (failure.Get s) h = (h, keeps)
 not_gathered_trace paths options a b first after keeps (failure.Load r) h = (h, keeps)
 not_gathered_trace paths options a b first after keeps (failure.PortCapture p r) h = (h, keeps)
-not_gathered_trace paths options a b first after keeps (failure.OutputCapture p r) h = absurd h
-not_gathered_trace paths options a b first after keeps failure.Found h = absurd h
-not_gathered_trace paths options a b first after keeps failure.Usage h = absurd h
-not_gathered_trace paths options a b first after keeps (failure.Network r) h = absurd h
-not_gathered_trace paths options a b first after keeps (failure.Capture r) h = absurd h
-not_gathered_trace paths options a b first after keeps (failure.Put s) h = absurd h
-not_gathered_trace paths options a b first after keeps failure.Read h = absurd h
-not_gathered_trace paths options a b first after keeps failure.Write h = absurd h
+not_gathered_trace paths options a b first after keeps f h = absurd h
 
 -- the files lead to nothing, and nothing was put or written
 pub not_gathered_run : (paths : Paths) (options : RunOptions) (a b : Option Files) (first after : DeviceLog) → KeepsFiles a b → (w v : Option (List ℕ)) → Keeps w v → (f : Failure)
@@ -186,14 +135,7 @@ not_gathered_run paths options a b first after keeps w v none (failure.Table r) 
 not_gathered_run paths options a b first after keeps w v none (failure.Get s) h = ((h, keeps), none)
 not_gathered_run paths options a b first after keeps w v none (failure.Load r) h = ((h, keeps), none)
 not_gathered_run paths options a b first after keeps w v none (failure.PortCapture p r) h = ((h, keeps), none)
-not_gathered_run paths options a b first after keeps w v none (failure.OutputCapture p r) h = absurd h
-not_gathered_run paths options a b first after keeps w v none failure.Found h = absurd h
-not_gathered_run paths options a b first after keeps w v none failure.Usage h = absurd h
-not_gathered_run paths options a b first after keeps w v none (failure.Network r) h = absurd h
-not_gathered_run paths options a b first after keeps w v none (failure.Capture r) h = absurd h
-not_gathered_run paths options a b first after keeps w v none (failure.Put s) h = absurd h
-not_gathered_run paths options a b first after keeps w v none failure.Read h = absurd h
-not_gathered_run paths options a b first after keeps w v none failure.Write h = absurd h
+not_gathered_run paths options a b first after keeps w v none f h = absurd h
 
 -- what the run of the captures leads to is what the files lead to
 pub leads_to : TablesAreWellFormed → AcceptedRunsIsolate → (paths : Paths) (files : Option Files) (plan : Plan) (captures : List Text) (results : Results)
@@ -215,7 +157,3 @@ same_names path t captures results is =
     ∙ map-map (capture_name path) (λ (p : PortRow). p.id) t.ports
     ∙ sym (map-map (λ (x : Text). capture_name path x.0) (λ (p : PortRow). (p.id, output_text t (merged is.read) p)) t.ports)
     ∙ ap (names_in path) (sym is.captures)
-
--- there are as many names as captures
-pub same_count : (path : List ℕ) (names : List (String Global)) (captures : List Text) → map (λ (s : String Global). string_bytes s) names ≡ names_in path captures → length names ≡ length captures
-same_count path names captures is = sym (length-map names (λ (s : String Global). string_bytes s)) ∙ ap length is ∙ length-map captures (λ (x : Text). capture_name path x.0)

@@ -1,7 +1,6 @@
 -- What new files have of what was told of a run, and of the files of a run's folder.
 use Rattle.std.proofs.Common.{◌≡◌, ◌+◌, ◌<◌, ℕ, zero, suc, Bool, List, [], ◌∷◌, ◌++◌, length, map, get_or, set, slice_get, Option, Some, None, refl, sym, ap, ◌∙◌, arith, subst}
 use Rattle.std.specs.Prelude.{flat_map, not, false}
-use Rattle.std.specs.Option.{option_map}
 use Rattle.std.specs.Io.KnownBytes.{Appends}
 use Rattle.std.proofs.lemmas.Option.{same_Some}
 use Rattle.afdx_table.specs.declared.rows.PortRow.{PortRow}
@@ -10,7 +9,7 @@ use Rattle.afdx_core.specs.State.{Run}
 use Rattle.afdx_trace.specs.declared.shown.Selection.{Selection}
 use Rattle.afdx_trace.specs.Shown.{shown_of}
 use Rattle.afdx_trace.specs.Arrivals.{arrivals_text}
-use Rattle.afdx_trace.specs.Departures.{departures_heading, departures_text, port_lines}
+use Rattle.afdx_trace.specs.Departures.{departures_heading, port_lines}
 use Rattle.afdx_trace_run.specs.Traced.{IsTraced}
 use Rattle.afdx_session.specs.declared.plan.Plan.{Plan}
 use Rattle.afdx_session.specs.Outcome.{table_in, is_cleared, IsDoneOf}

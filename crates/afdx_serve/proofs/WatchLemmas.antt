@@ -51,6 +51,7 @@ not_watched_from f inputs a b p first before after planned keeps same h =
 pub not_watched : (IsText : List ℕ → Type 0) (f : Failure) (inputs : NetworkInputs) (a b : Option Files) (first after : DeviceLog) → KeepsFiles a b → (w v : Option (List ℕ)) → Keeps w v
     → FailsToLeadFrom f inputs.network.now inputs.unchecked inputs.input.now a first after → FailsToWatchNetwork IsText f inputs (world w a first) (world v b after)
 not_watched IsText failure.Write inputs a b first after keeps w v none h = absurd (never_write inputs.network.now inputs.unchecked inputs.input.now a first after h)
+not_watched IsText failure.Memory inputs a b first after keeps w v none h = (keeps, none)
 not_watched IsText f inputs a b first after keeps w v none h = (h, keeps, none)
 
 -- of a run that was planned

@@ -30,12 +30,13 @@ use Rattle.afdx_folder.specs.Files.{Files, KeepsFiles}
 use Rattle.afdx_network_report.specs.Lines.{Names, last_end}
 use Rattle.afdx_network_report.specs.LinkEnds.{link_end_of}
 use Rattle.afdx_network_report.specs.declared.link_ends.LinkEnd.{LinkEnd}
+use Rattle.afdx_serve.specs.Checks.{heading_in}
 use Rattle.afdx_serve.specs.declared.network_watched.Planned.{Planned}
 use Rattle.afdx_serve.specs.Networks.{names_of}
 use Rattle.afdx_csv.specs.declared.form.Form.{Form}
 use Rattle.afdx_rows.specs.Delays.{network_measure_columns}
 use Rattle.afdx_rows.specs.Spells.{network_survey_columns}
-use Rattle.afdx_serve.specs.NetworkMeasures.{AreEndsOf, HaveEnds, IsWithinItsWay, heading_in, buffers_in, counts_in, policing_in, WatchesFrom, IsMeasuredNetwork}
+use Rattle.afdx_serve.specs.NetworkMeasures.{AreEndsOf, HaveEnds, IsWithinItsWay, buffers_in, counts_in, policing_in, WatchesFrom, IsMeasuredNetwork}
 use Rattle.afdx_serve.specs.NetworkMeasures.{IsMeasuredText, HasMeasuredText, HasSurveyText, MeasuresNetworkTo, SurveysNetworkTo}
 use Rattle.afdx_serve.specs.Inner.NetworkRunning.{network_in, is_accepted}
 use Rattle.afdx_serve.specs.Inner.Watching.{IsPlanned}

@@ -5,12 +5,15 @@ use Rattle.afdx_table.specs.declared.rows.PortRow.{PortRow}
 use Rattle.afdx_table.specs.Link.{Link}
 use Rattle.afdx_table.specs.Content.{Content}
 use Rattle.afdx_load.specs.Load.{Load, load_of}
+use Rattle.afdx_load.specs.Accepted.{IsAccepted}
 use Rattle.afdx_load.specs.Bounds.{backlog, byte_time, high_bound, low_bound}
 use Rattle.afdx_wiring.specs.Lines.{as_line}
 use Rattle.afdx_csv.specs.declared.form.Form.{Form}
 use Rattle.afdx_csv.specs.declared.form.Form.TheVariants.{Lines, Csv}
 use Rattle.afdx_csv.specs.Csv.{heading}
 use Rattle.afdx_rows.specs.Loads.{check_columns, check_row}
+use Rattle.afdx_folder.specs.Files.{Files}
+use Rattle.afdx_serve.specs.Runs.{HasTable}
 
 -- the least buffer of a port, in bytes, that holds what may wait and be on the line at once
 abbrev pub IsLeastBuffer : PortRow → Load → ℕ → Type 0
@@ -47,6 +50,11 @@ AreTextsOf Is (row ∷ rows) text = (line : List ℕ) × (rest : List ℕ) × Is
 abbrev pub AreLinesOf : Form → ℕ → List Link → List PortRow → List ℕ → Type 0
 AreLinesOf form latency links = AreTextsOf (λ row line. IsLineOf form row (load_of latency row.speed row.id links) line)
 
+-- rows are below a heading
+abbrev pub heading_in : Form → (columns : List (List ℕ)) → List ℕ
+heading_in Lines columns = []
+heading_in Csv columns = heading columns
+
 -- these, and that the table is accepted; or a heading, and these
 abbrev pub check_text : Form → List ℕ → List ℕ
 check_text Lines lines = lines ++ as_line (codes "accepted")
@@ -55,3 +63,7 @@ check_text Csv lines = heading check_columns ++ lines
 -- those of a table's ports by rising number
 abbrev pub IsCheckOf : Form → Content → List ℕ → Type 0
 IsCheckOf form t text = (lines : List ℕ) × AreLinesOf form t.latency t.links t.ports lines × (text ≡ check_text form lines)
+
+-- `check` reports this of the file's table, which is accepted
+abbrev pub ChecksTo : Form → List ℕ → Option Files → List ℕ → Type 0
+ChecksTo form path files text = (t : Content) × HasTable files path t × IsAccepted t × IsCheckOf form t text

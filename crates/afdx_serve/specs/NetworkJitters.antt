@@ -62,3 +62,7 @@ pub record JittersAre (form : Form) (files : Option Files) (path : List ℕ) (ne
   pub fits : fit_of net ≡ Ok tt
   pub needs : AreNeeds net rows past
   pub reported : text ≡ needs_text form (names_of net.layout.switches) rows
+
+-- `network jitter` reports this, whether one is past that or not
+abbrev pub GivesJittersTo : Form → List ℕ → Option Files → List ℕ → Type 0
+GivesJittersTo form path files text = (net : Network) × (rows : List RowNeed) × (past : Option Short) × JittersAre form files path net rows past text

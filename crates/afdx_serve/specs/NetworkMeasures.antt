@@ -3,7 +3,6 @@ use Rattle.std.specs.Prelude.{◌≡◌, ℕ, ◌≤◌, false, not, Bool, true,
 use Rattle.std.specs.List.Sorted.{IsPermutation, IsSorted}
 use Rattle.afdx_core.specs.State.{State}
 use Rattle.afdx_count.specs.Tally.{Tally}
-use Rattle.afdx_count.specs.Report.{report_of as counts_text}
 use Rattle.afdx_measure.specs.declared.delays.Delays.{Delays}
 use Rattle.afdx_measure.specs.Report.{port_line}
 use Rattle.afdx_measure.specs.Policing.{policing_of}
@@ -27,14 +26,13 @@ use Rattle.afdx_network_report.specs.LinkEnds.{link_end_of, link_end_text}
 use Rattle.afdx_network_report.specs.Rows.{link_end_row}
 use Rattle.afdx_csv.specs.declared.form.Form.{Form}
 use Rattle.afdx_csv.specs.declared.form.Form.TheVariants.{Lines, Csv}
-use Rattle.afdx_csv.specs.Csv.{heading}
-use Rattle.afdx_rows.specs.Counts.{counts_rows}
 use Rattle.afdx_rows.specs.Delays.{network_measure_columns, buffers_rows}
 use Rattle.afdx_rows.specs.Spells.{network_survey_columns, policing_rows}
 use Rattle.afdx_arguments.specs.declared.request.NetworkInputs.{NetworkInputs}
 use Rattle.afdx_folder.specs.Files.{Files}
+use Rattle.afdx_serve.specs.Checks.{heading_in}
 use Rattle.afdx_serve.specs.Networks.{names_of, HasNetwork}
-use Rattle.afdx_serve.specs.NetworkRuns.{HasGiven}
+use Rattle.afdx_serve.specs.NetworkRuns.{counts_of, HasGiven}
 
 -- ---- the ends of links
 
@@ -58,14 +56,14 @@ HaveEndTexts said o [] text = text ≡ []
 HaveEndTexts said o (e ∷ ends) text =
     (d : Delays) × (more : List ℕ) × IsSummary o.net o.sent e.link e.to d × HaveEndTexts said o ends more × (text ≡ said e d ++ more)
 
--- a line of each
-abbrev pub HaveEndLines : Names → Origins → List LinkEnd → List ℕ → Type 0
-HaveEndLines names = HaveEndTexts (λ e d. as_line (link_end_text names e d))
+-- what is said of an end in a form: a line, or a row under these columns
+abbrev pub end_text : Form → (columns : List (List ℕ)) → Names → LinkEnd → Delays → List ℕ
+end_text Lines columns names e d = as_line (link_end_text names e d)
+end_text Csv columns names e d = link_end_row columns names e d
 
--- in a form, whose rows are under these columns
+-- of these ends
 abbrev pub HaveEnds : Form → (columns : List (List ℕ)) → Names → Origins → List LinkEnd → List ℕ → Type 0
-HaveEnds Lines columns names = HaveEndLines names
-HaveEnds Csv columns names = HaveEndTexts (link_end_row columns names)
+HaveEnds form columns names = HaveEndTexts (end_text form columns names)
 
 -- no delay there is greater than the most that is promised
 abbrev pub IsWithinItsWay : Origins → LinkEnd → Type 0
@@ -78,26 +76,25 @@ abbrev pub said_of : (List ℕ → Tally → State → List ℕ) → Names → L
 said_of said (name ∷ names) (both ∷ switches) = said name both.0 both.1 ++ said_of said names switches
 said_of said _ _ = []
 
--- a text of each, with its name before each line
-abbrev pub named_texts : (Tally → State → List ℕ) → Names → List (Tally × State) → List ℕ
-named_texts text = said_of (λ name counts s. report_of name (text counts s))
+-- how full the buffers of the switch of this name were, in a form: lines, each after its name, or rows under these columns
+abbrev pub buffers_of : Form → (columns : List (List ℕ)) → (name : List ℕ) → State → List ℕ
+buffers_of Lines columns name s = report_of name (flat_map (port_line s.run) s.run.table.ports)
+buffers_of Csv columns name s = buffers_rows columns name s.run
 
--- how full the buffers were
-abbrev pub peaks_text : Tally → State → List ℕ
-peaks_text counts s = flat_map (port_line s.run) s.run.table.ports
+-- and when its links were policed and frames came
+abbrev pub spells_of : Form → (name : List ℕ) → State → List ℕ
+spells_of Lines name s = report_of name (policing_of s.run)
+spells_of Csv name s = policing_rows name s.run
 
--- in a form: how full the buffers were, the reports, and when links were policed and frames came
+-- of all switches: how full the buffers were, the counts, and when links were policed and frames came
 abbrev pub buffers_in : Form → (columns : List (List ℕ)) → Names → List (Tally × State) → List ℕ
-buffers_in Lines columns = named_texts peaks_text
-buffers_in Csv columns = said_of (λ name counts s. buffers_rows columns name s.run)
+buffers_in form columns = said_of (λ name counts s. buffers_of form columns name s)
 
 abbrev pub counts_in : Form → Names → List (Tally × State) → List ℕ
-counts_in Lines = named_texts (λ counts s. counts_text counts)
-counts_in Csv = said_of (λ name counts s. counts_rows network_survey_columns name counts)
+counts_in form = said_of (λ name counts s. counts_of form network_survey_columns name counts)
 
 abbrev pub policing_in : Form → Names → List (Tally × State) → List ℕ
-policing_in Lines = named_texts (λ counts s. policing_of s.run)
-policing_in Csv = said_of (λ name counts s. policing_rows name s.run)
+policing_in form = said_of (λ name counts s. spells_of form name s)
 
 -- ---- the run
 
@@ -120,11 +117,6 @@ pub record IsMeasuredNetwork (inputs : NetworkInputs) (files : Option Files) (ne
   pub accepted : inputs.unchecked ≡ false → IsAcceptedNetwork net
 
 -- ---- the texts of a run, whatever it is over
-
--- rows are below a heading
-abbrev pub heading_in : Form → (columns : List (List ℕ)) → List ℕ
-heading_in Lines columns = []
-heading_in Csv columns = heading columns
 
 -- what is measured of it: what is said of these ends, and how full buffers were
 pub record IsMeasuredText (form : Form) (columns : List (List ℕ)) (accepted : Bool) (net : Network) (names : Names) (switches : List (Tally × State)) (o : Origins) (text : List ℕ) : Type 0 where

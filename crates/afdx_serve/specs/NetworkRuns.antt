@@ -1,6 +1,8 @@
 -- What a run of a network does to a folder.
 use Rattle.std.specs.Prelude.{Bool, false, ◌≡◌, ◌⊎◌, ℕ, ◌+◌, codes, List, [], ◌∷◌, ◌++◌, map, filter, flat_map, take, slice_get, Option, Some, string_bytes}
 use Rattle.afdx_table.specs.Content.{Content}
+use Rattle.afdx_count.specs.Tally.{Tally}
+use Rattle.afdx_count.specs.Report.{report_of as counts_text}
 use Rattle.afdx_session.specs.Texts.{Text}
 use Rattle.afdx_session.specs.Outcome.{Results}
 use Rattle.afdx_network_check.specs.Net.{Network}
@@ -14,14 +16,14 @@ use Rattle.afdx_network.specs.declared.fault.NetworkRunFault.TheVariants as run
 use Rattle.afdx_network_report.specs.Lines.{Names, name_of, report_of}
 use Rattle.afdx_csv.specs.declared.form.Form.{Form}
 use Rattle.afdx_csv.specs.declared.form.Form.TheVariants.{Lines, Csv}
-use Rattle.afdx_csv.specs.Csv.{heading}
 use Rattle.afdx_rows.specs.Counts.{network_run_columns, counts_rows}
 use Rattle.afdx_arguments.specs.declared.request.NetworkPaths.{NetworkPaths}
 use Rattle.afdx_messages.specs.declared.network_failure.NetworkFailure.TheVariants as network
 use Rattle.afdx_messages.specs.declared.failure.Failure.{Failure}
 use Rattle.afdx_messages.specs.declared.failure.Failure.TheVariants as failure
 use Rattle.afdx_folder.specs.Files.{Files, ShowsAll, KeepsFiles, DeviceLog, one_more}
-use Rattle.afdx_serve.specs.Runs.{capture_name, names_in, bytes_of_captures, report_in, StopsAt, EndsAt}
+use Rattle.afdx_serve.specs.Checks.{heading_in}
+use Rattle.afdx_serve.specs.Runs.{capture_name, names_in, bytes_of_captures, StopsAt, EndsAt}
 use Rattle.afdx_serve.specs.Networks.{names_of, HasNetwork, FailsToGetNetwork, FailsToAcceptNetwork}
 
 -- ---- names
@@ -46,18 +48,14 @@ abbrev pub of_switches : (List ℕ → Results → List ℕ) → Names → List 
 of_switches said (name ∷ names) (r ∷ more) = said name r ++ of_switches said names more
 of_switches said _ _ = []
 
--- its report, with its name before each line
-abbrev pub reports_of : Names → List Results → List ℕ
-reports_of = of_switches (λ name r. report_of name (report_in r))
-
--- its rows
-abbrev pub switch_rows : Names → List Results → List ℕ
-switch_rows = of_switches (λ name r. counts_rows network_run_columns name r.counts)
+-- the counts of the switch of this name, in a form: its report, with its name before each line, or its rows under these columns
+abbrev pub counts_of : Form → (columns : List (List ℕ)) → (name : List ℕ) → Tally → List ℕ
+counts_of Lines columns name counts = report_of name (counts_text counts)
+counts_of Csv columns name counts = counts_rows columns name counts
 
 -- what is written of all switches
 abbrev pub runs_text : Form → Names → List Results → List ℕ
-runs_text Lines names left = reports_of names left
-runs_text Csv names left = heading network_run_columns ++ switch_rows names left
+runs_text form names left = heading_in form network_run_columns ++ of_switches (λ name r. counts_of form network_run_columns name r.counts) names left
 
 -- ---- what the files lead to
 

@@ -158,3 +158,8 @@ FailsToJoin f files path l before after = FailsToGetTexts f files path l.switche
 abbrev pub FailsToGetNetwork : Failure → Option Files → List ℕ → DeviceLog → DeviceLog → Type 0
 FailsToGetNetwork f files path before after =
     FailsToLayout f files path before after ⊎ ((l : Layout) × HasLayout files path l × FailsToJoin f files path l before after)
+
+-- or was, and is refused for this
+abbrev pub FailsToTakeNetwork : (Failure → Network → Type 0) → Failure → Option Files → List ℕ → DeviceLog → DeviceLog → Type 0
+FailsToTakeNetwork IsWhy f files path before after =
+    FailsToGetNetwork f files path before after ⊎ ((net : Network) × HasNetwork files path net × IsWhy f net × (after ≡ before))

@@ -5,7 +5,6 @@ use Rattle.afdx_table.specs.declared.fault.TableFault.{TableFault}
 use Rattle.afdx_table.specs.Content.{Content}
 use Rattle.afdx_table.specs.Text.{table_of}
 use Rattle.afdx_load.specs.Accepted.{IsAccepted, first_fault}
-use Rattle.afdx_count.specs.Report.{report_of}
 use Rattle.afdx_session.specs.Texts.{Text, AreOfPorts}
 use Rattle.afdx_session.specs.Reading.{IsFirstFault}
 use Rattle.afdx_session.specs.declared.plan.Plan.{Plan}
@@ -84,10 +83,6 @@ pub record GetsNamed (name : List ℕ) (files : Option Files) (names : List (Lis
   pub got : List (List ℕ)
   pub is_there : slice_get names place ≡ Some name
   pub earlier : ShowsAll files (take place names) got
-
--- the report of a run
-abbrev pub report_in : Results → List ℕ
-report_in results = report_of results.counts
 
 -- ---- what is put
 

@@ -11,12 +11,15 @@ use Rattle.afdx_load.specs.Fits.{broken_rules}
 use Rattle.afdx_load.specs.declared.fault.Rule.{Rule}
 use Rattle.afdx_load.specs.declared.fault.Rule.TheVariants.{Rate, Buffer, HighDelay, LowDelay}
 use Rattle.afdx_wiring.specs.Lines.{as_line}
+use Rattle.afdx_network_check.specs.Net.{Network}
 use Rattle.afdx_csv.specs.declared.form.Form.{Form}
 use Rattle.afdx_csv.specs.declared.form.Form.TheVariants.{Lines, Csv}
-use Rattle.afdx_csv.specs.Csv.{heading}
 use Rattle.afdx_rows.specs.Loads.{size_columns, network_size_columns, size_row}
 use Rattle.afdx_network_report.specs.Lines.{Names, name_of}
-use Rattle.afdx_serve.specs.Checks.{IsLeastBuffer, AreTextsOf}
+use Rattle.afdx_folder.specs.Files.{Files}
+use Rattle.afdx_serve.specs.Checks.{IsLeastBuffer, AreTextsOf, heading_in}
+use Rattle.afdx_serve.specs.Networks.{names_of, HasNetwork}
+use Rattle.afdx_serve.specs.Runs.{HasTable}
 
 -- a need beside its limit, in one unit
 abbrev pub pair_text : List ℕ → ℕ → List ℕ
@@ -76,8 +79,7 @@ size_in Csv switch row load least = size_row (columns_for switch) (unwrap_or swi
 
 -- before all of it
 abbrev pub size_heading : Form → Option (List ℕ) → List ℕ
-size_heading Lines switch = []
-size_heading Csv switch = heading (columns_for switch)
+size_heading form switch = heading_in form (columns_for switch)
 
 -- the line of a port; a port without links has none
 abbrev pub IsSizeOf : Form → Option (List ℕ) → PortRow → Load → List ℕ → Type 0
@@ -97,6 +99,10 @@ AreSizesWith form switch t text = AreSizesOf form switch t.latency t.links t.por
 abbrev pub AreSizesIn : Form → Content → List ℕ → Type 0
 AreSizesIn form t text = (lines : List ℕ) × AreSizesWith form None t lines × (text ≡ size_heading form None ++ lines)
 
+-- `size` reports this of the file's table, whether it fits or not
+abbrev pub SizesTo : Form → List ℕ → Option Files → List ℕ → Type 0
+SizesTo form path files text = (t : Content) × HasTable files path t × AreSizesIn form t text
+
 -- ---- of a network
 
 -- the lines of these tables, the first of which is that of the switch of this number
@@ -109,3 +115,7 @@ AreSizesFrom form n names (t ∷ tables) text =
 abbrev pub AreSizesOfAll : Form → Names → List Content → List ℕ → Type 0
 AreSizesOfAll form names tables text =
     (lines : List ℕ) × AreSizesFrom form 0 names tables lines × (text ≡ size_heading form (Some []) ++ lines)
+
+-- `network size` reports this of the tables of the file's network, each with the name of its switch, whether they fit or not
+abbrev pub SizesNetworkTo : Form → List ℕ → Option Files → List ℕ → Type 0
+SizesNetworkTo form path files text = (net : Network) × HasNetwork files path net × AreSizesOfAll form (names_of net.layout.switches) net.tables text

@@ -34,7 +34,7 @@ fn push_bound(line: &mut String, bound: Option<u128>) -> Result<(), AllocError>
     Ok(())
 }
 
-/// The line of a port with links, which needs so many bytes at least.
+/// Returns the line of a port with links, which needs so many bytes at least.
 fn load_line(alloc: Global, row: &PortRow, load: &Load, least: u128) -> Result<String, AllocError>
     ensures { IfOk result (λ line. string_bytes line ≡ as_line (load_text row.now load.now least)) }
 {
@@ -49,7 +49,7 @@ fn load_line(alloc: Global, row: &PortRow, load: &Load, least: u128) -> Result<S
     Ok(line)
 }
 
-/// The row of a port with links, which needs so many bytes at least.
+/// Returns the row of a port with links, which needs so many bytes at least.
 fn load_row(alloc: Global, row: &PortRow, load: &Load, least: u128) -> Result<String, AllocError>
     ensures { IfOk result (λ line. string_bytes line ≡ check_in Form.Csv row.now load.now least) }
 {
@@ -58,7 +58,7 @@ fn load_row(alloc: Global, row: &PortRow, load: &Load, least: u128) -> Result<St
     Ok(line)
 }
 
-/// What is written of a port with links.
+/// Returns what is written of a port with links.
 fn check_in(alloc: Global, form: Form, row: &PortRow, load: &Load) -> Result<String, AllocError>
     ensures { IfOk result (λ line. (least : ℕ) × IsLeastBuffer row.now load.now least × (string_bytes line ≡ check_in form row.now load.now least)) }
 {
@@ -69,7 +69,7 @@ fn check_in(alloc: Global, form: Form, row: &PortRow, load: &Load) -> Result<Str
     }
 }
 
-/// What is written of a port of the loads' table; where no link leads to it, no text.
+/// Returns what is written of a port of the loads' table: no text if no link leads to it.
 fn port_line(
     alloc: Global,
     form: Form,
@@ -86,7 +86,7 @@ fn port_line(
     }
 }
 
-/// What is written of the table's ports with links, in an empty text that may have room for them.
+/// Returns what is written of the table's ports with links, in an empty text that may have room for them.
 ///
 /// One pass over the links serves all ports: O(p + m) for p ports, of which there are at most 24, and links that
 /// together name m output ports.
@@ -103,7 +103,7 @@ fn port_lines(alloc: Global, form: Form, table: &Table, empty: String) -> Result
     Ok(text)
 }
 
-/// What is written of an accepted table, of whose ports this is written.
+/// Returns what is written of an accepted table, of whose ports this is written.
 fn with_ends(alloc: Global, form: Form, lines: String) -> Result<String, AllocError>
     ensures { IfOk result (λ text. string_bytes text ≡ check_text form (string_bytes lines)) }
 {
@@ -122,7 +122,7 @@ fn with_ends(alloc: Global, form: Form, lines: String) -> Result<String, AllocEr
     }
 }
 
-/// What is written of a table that is accepted, in an empty text that may have room for it.
+/// Checks a table and returns what is written of it, in an empty text that may have room for it.
 fn accepted_text(alloc: Global, form: Form, table: Table, empty: String) -> Result<String, Failure>
     requires { string_bytes empty ≡ [] }
     ensures { MatchResult result (λ text. IsAccepted table × IsCheckOf form table (string_bytes text)) (λ f. FailsToAccept f table) }
@@ -142,7 +142,7 @@ fn accepted_text(alloc: Global, form: Form, table: Table, empty: String) -> Resu
 ///
 /// # Errors
 ///
-/// What is met first: `Get`, `Table`, `Load`, `Write`; `Memory` where memory ran out.
+/// What is met first: `Get`, `Table`, `Load`, `Write`; `Memory` if memory ran out.
 pub(crate) fn check<O: Write, F: Folder>(
     alloc: Global,
     path: &str,

@@ -11,7 +11,7 @@ ghost use Rattle.afdx_serve.specs.Compares.{scatter_of, HasVaryingTable, output_
 ghost use Rattle.afdx_serve.specs.Inner.Leading.{AreOpened};
 ghost use Rattle.afdx_serve.specs.Serving.{world, Compares, FailsToCompareAll};
 
-use crate::get::{get_failure, get_table, open_all};
+use crate::get::{get_table, open_all, unread_failure};
 use crate::names::{capture_name, name_in, port_names};
 use crate::outputs::put_texts;
 use afdx_arguments::Compare;
@@ -26,7 +26,7 @@ use afdx_table::{PortRow, Table};
 use std::alloc::{AllocError, Global};
 use std::io::Write;
 
-/// By how many nanoseconds latencies differ at most.
+/// Returns by how many nanoseconds latencies differ at most.
 fn scatter_of(table: &Table, recordings: &Recordings) -> u64
     ensures scatter { result ≡ scatter_of table.now recordings.now }
     ensures most { result ≤ 100000 }
@@ -34,7 +34,7 @@ fn scatter_of(table: &Table, recordings: &Recordings) -> u64
     table.latency().saturating_sub(recordings.least)
 }
 
-/// The table of a file, which is accepted at a switch whose latency varies down to the least.
+/// Gets the table of a file, and checks its load at a switch whose latency varies down to the least.
 fn get_varying<F: Folder>(
     alloc: Global,
     path: &str,
@@ -71,7 +71,7 @@ fn push_output(
     Ok(())
 }
 
-/// The names of the captures of what came, and of what left at the output ports that were recorded, each by rising port.
+/// Names the captures of what came, and of what left at the output ports that were recorded, each by rising port.
 fn names_of(
     alloc: Global,
     compare: &Compare<'_>,
@@ -87,7 +87,7 @@ fn names_of(
     Ok(names)
 }
 
-/// The failure that a fault of captures leads to which were opened under these names.
+/// Returns the failure that a fault of captures leads to which were opened under these names.
 fn compare_failure<F: Folder>(
     alloc: Global,
     folder: &mut F,
@@ -103,17 +103,13 @@ fn compare_failure<F: Folder>(
 {
     match fault {
         CompareFault::Memory => Failure::Memory,
-        CompareFault::Read(place) => {
-            let name = &names[place];
-            let fault = folder.note_unread(name);
-            get_failure(alloc, name, fault)
-        }
+        CompareFault::Read(place) => unread_failure(alloc, folder, &names[place]),
         CompareFault::Came(port, why) => Failure::PortCapture(port, why),
         CompareFault::Left(port, why) => Failure::OutputCapture(port, why),
     }
 }
 
-/// What is found out of the captures, each of which is opened and read once.
+/// Returns what is found out of the captures, each of which is opened and read once.
 fn find<'t, F: Folder>(
     alloc: Global,
     compare: &Compare<'_>,
@@ -137,7 +133,7 @@ fn find<'t, F: Folder>(
     }
 }
 
-/// The name of the file of differences in a folder, alone.
+/// Lists the name of the file of differences in a folder, alone.
 fn rows_names(alloc: Global, rows: &str) -> Result<Vec<String>, AllocError>
     ensures { IfOk result (λ names. map string_bytes names.items ≡ rows_name rows.now ∷ []) }
 {
@@ -146,7 +142,7 @@ fn rows_names(alloc: Global, rows: &str) -> Result<Vec<String>, AllocError>
     Ok(names)
 }
 
-/// A text, alone.
+/// Lists a text, alone.
 fn alone(alloc: Global, text: String) -> Result<Vec<Vec<u8>>, AllocError>
     ensures { IfOk result (λ texts. map (λ text. text.items) texts.items ≡ string_bytes text ∷ []) }
 {
@@ -203,7 +199,7 @@ fn put_rows<F: Folder>(
 /// # Errors
 ///
 /// What is met first: `Get` of the table, `Table`, `Load`, `Get` of a capture, `PortCapture`, `OutputCapture`, `Put`, `Write`; `Found`
-/// where something speaks against the switch, and all else was done; `Memory` where memory ran out.
+/// if something speaks against the switch, and all else was done; `Memory` if memory ran out.
 ///
 /// O(bytes of the captures), with what `compare` of `afdx_compare` does for each record.
 pub(crate) fn compare<O: Write, F: Folder>(

@@ -15,7 +15,7 @@ use afdx_session::Plan;
 use afdx_table::Table;
 use std::alloc::Global;
 
-/// What a run is made of, beside where it goes.
+/// Returns what a run is made of, beside the folder that it goes to.
 pub(crate) fn inputs_of<'a>(paths: &Paths<'a>) -> Inputs<'a>
     ensures { result ≡ inputs_of paths.now }
 {
@@ -26,7 +26,7 @@ pub(crate) fn inputs_of<'a>(paths: &Paths<'a>) -> Inputs<'a>
     }
 }
 
-/// The plan of a run over a table, which is accepted unless the run is unchecked.
+/// Plans a run over a table, whose load is checked unless the run is unchecked.
 fn plan(table: Table, unchecked: bool) -> Result<Plan, Failure>
     ensures { MatchResult result
         (λ plan. (table_in plan ≡ table) × (is_cleared plan ≡ not unchecked) × (unchecked ≡ false → IsAccepted table))
@@ -41,11 +41,11 @@ fn plan(table: Table, unchecked: bool) -> Result<Plan, Failure>
     }
 }
 
-/// The plan of a run over the table of a text, which is accepted unless the run is unchecked.
+/// Plans a run over the table of a text, whose load is checked unless the run is unchecked.
 ///
 /// # Errors
 ///
-/// `Table`, `Load`; `Memory` where memory ran out. O(text).
+/// `Table`, `Load`; `Memory` if memory ran out. O(text).
 fn read_plan(alloc: Global, text: &[u8], unchecked: bool) -> Result<Plan, Failure>
     ensures { MatchResult result (λ plan. IsPlanOf text.now unchecked plan) (λ f. FailsToReadPlan f text.now unchecked) }
 {
@@ -53,7 +53,7 @@ fn read_plan(alloc: Global, text: &[u8], unchecked: bool) -> Result<Plan, Failur
     plan(table, unchecked)
 }
 
-/// The plan of a run. The text of its table is leaked.
+/// Gets the table of a run and plans it. The table's text is leaked.
 pub(crate) fn get_plan<F: Folder>(
     alloc: Global,
     inputs: &Inputs<'_>,

@@ -1,19 +1,18 @@
 //! What is got from a folder.
 
 ghost use Rattle.std.specs.Prelude.{◌≡◌, map, string_bytes, MatchResult};
-ghost use Rattle.afdx_session.specs.Texts.{texts_of};
 ghost use Rattle.afdx_folder.specs.Files.{Shows, KeepsFiles, DeviceLog, IsCause};
-ghost use Rattle.afdx_serve.specs.Runs.{HasTable, HasCaptures, FailsToGet, FailsToGetAll, FailsToRead};
+ghost use Rattle.afdx_serve.specs.Runs.{HasTable, FailsToGet, FailsToGetAll, FailsToRead};
 ghost use Rattle.afdx_serve.specs.Inner.Leading.{AreOpened, AreOpenedPorts};
 ghost use Rattle.afdx_serve.specs.Inner.NotGot.{FailsToGetNamed};
 
-use crate::names::{capture_name, port_names};
+use crate::names::port_names;
 use afdx_folder::{Folder, FolderFault};
 use afdx_messages::Failure;
 use afdx_table::Table;
 use std::alloc::Global;
 
-/// The bytes of a file.
+/// Gets the bytes of a file.
 pub(crate) fn get<F: Folder>(alloc: Global, folder: &mut F, name: &str) -> Result<Vec<u8>, Failure>
     ensures got { MatchResult result
         (λ bytes. Shows (F.files folder.old) name.now bytes.items × (F.failed folder.new ≡ F.failed folder.old))
@@ -26,7 +25,7 @@ pub(crate) fn get<F: Folder>(alloc: Global, folder: &mut F, name: &str) -> Resul
     }
 }
 
-/// The text of a table's file, which is leaked.
+/// Gets the text of a table's file, which is leaked.
 ///
 /// Given back, a block of its size would have the C library take such blocks from its heap from then on, where a list that grows is
 /// copied, and not from the system, which moves its pages.
@@ -44,7 +43,7 @@ pub(crate) fn get_text<F: Folder>(
     Ok(text.leak())
 }
 
-/// The table of a file.
+/// Gets the table of a file.
 pub(crate) fn get_table<F: Folder>(
     alloc: Global,
     folder: &mut F,
@@ -59,7 +58,7 @@ pub(crate) fn get_table<F: Folder>(
     Ok(afdx_table::read(alloc, text)?)
 }
 
-/// The failure of what was not got under this name, for a fault of the folder.
+/// Returns the failure of what was not got under this name, for a fault of the folder.
 pub(crate) fn get_failure(alloc: Global, name: &str, fault: FolderFault) -> Failure
     ensures { (before : DeviceLog) (after : DeviceLog) → IsCause fault name.now before after → FailsToGet result name.now before after }
 {
@@ -72,11 +71,20 @@ pub(crate) fn get_failure(alloc: Global, name: &str, fault: FolderFault) -> Fail
     }
 }
 
-/// The files under these names, opened to be read in pieces.
+/// Notes that what was opened under this name could not be read, and returns the failure.
+pub(crate) fn unread_failure<F: Folder>(alloc: Global, folder: &mut F, name: &str) -> Failure
+    ensures failed { FailsToGet result name.now (F.failed folder.old) (F.failed folder.new) }
+    ensures same { KeepsFiles (F.files folder.old) (F.files folder.new) }
+{
+    let fault = folder.note_unread(name);
+    get_failure(alloc, name, fault)
+}
+
+/// Opens the files under these names, to be read in pieces.
 ///
 /// # Errors
 ///
-/// `Get` of the first that was not opened; `Memory` where memory ran out.
+/// `Get` of the first that was not opened; `Memory` if memory ran out.
 pub(crate) fn open_all<F: Folder>(
     alloc: Global,
     folder: &mut F,
@@ -97,11 +105,11 @@ pub(crate) fn open_all<F: Folder>(
     Ok(opened)
 }
 
-/// The names of the captures of the table's ports in a folder, by rising number, and these, opened to be read in pieces.
+/// Opens the captures of the table's ports in a folder, by rising number, to be read in pieces, and returns their names with them.
 ///
 /// # Errors
 ///
-/// `Get` of the first that was not opened; `Memory` where memory ran out.
+/// `Get` of the first that was not opened; `Memory` if memory ran out.
 pub(crate) fn open_captures<F: Folder>(
     alloc: Global,
     folder: &mut F,

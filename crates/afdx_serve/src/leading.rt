@@ -12,7 +12,7 @@ ghost use Rattle.afdx_serve.specs.Runs.{inputs_of, port_names, HasCaptures, Fail
 ghost use Rattle.afdx_serve.specs.Inner.Leading.{IsPlanOf, IsLed, AreOpenedPorts, FailsToLeadFrom};
 ghost use Rattle.afdx_serve.specs.Inner.Reports.{IsReportOf};
 
-use crate::get::{get_failure, open_captures};
+use crate::get::{open_captures, unread_failure};
 use crate::outputs::{abandon_all, begin_all};
 use crate::reports::{Report, report_of};
 use afdx_arguments::{Paths, RunOptions};
@@ -24,7 +24,7 @@ use afdx_table::laws::tables_are_well_formed;
 use std::alloc::Global;
 use std::io::Read;
 
-/// What captures lead to that readers give: the outputs are appended to these files, and this is the report.
+/// Runs the switch over the captures that readers give: appends the outputs to these files, and returns the report.
 fn report_from<R: Read, N: NewFile>(
     alloc: Global,
     plan: Plan,
@@ -45,7 +45,7 @@ fn report_from<R: Read, N: NewFile>(
     }
 }
 
-/// The failure that a fault of captures leads to which were opened under these names, those of a table's ports.
+/// Returns the failure that a fault of captures leads to which were opened under these names, those of a table's ports.
 pub(crate) fn source_failure<F: Folder>(
     alloc: Global,
     folder: &mut F,
@@ -61,17 +61,13 @@ pub(crate) fn source_failure<F: Folder>(
 {
     match fault {
         SourceFault::Memory => Failure::Memory,
-        SourceFault::Read(place) => {
-            let name = &names[place];
-            let fault = folder.note_unread(name);
-            get_failure(alloc, name, fault)
-        }
+        SourceFault::Read(place) => unread_failure(alloc, folder, &names[place]),
         SourceFault::Capture(port, why) => Failure::PortCapture(port, why),
     }
 }
 
-/// What the captures of the table's ports in a folder lead to, each of which is opened and read once: the outputs are appended to these
-/// files, and this is the report.
+/// Runs the switch over the captures of the table's ports in a folder, each of which is opened and read once: appends the outputs to these
+/// files, and returns the report.
 fn report_of_folder<F: Folder>(
     alloc: Global,
     folder: &mut F,
@@ -95,15 +91,15 @@ fn report_of_folder<F: Folder>(
     }
 }
 
-/// What the files of a run lead to, where this is its plan: new files to be put under these names, and the report, with the verdict's
-/// line if it is asked for. After an error no new file is left.
+/// Makes the new files of a run of this plan, to be put under these names, and returns them with the report, which has the verdict's line if
+/// it is asked for. After an error no new file is left.
 ///
 /// The new files are begun before a capture is opened, so that a system that lets too few files be open says so before anything is read.
 ///
 /// # Errors
 ///
 /// What is met first: `Get` of a capture that is not opened; then `Get` of one that cannot be read, `PortCapture`, each of the lowest
-/// port; `Memory` where memory ran out.
+/// port; `Memory` if memory ran out.
 ///
 /// O(captures), beside the switch's own work. Each capture is read once.
 pub(crate) fn lead<F: Folder>(

@@ -19,6 +19,7 @@
 mod check;
 mod compare;
 mod explain;
+mod forms;
 mod gathering;
 mod get;
 mod leading;

@@ -14,7 +14,7 @@ use afdx_rows::{MEASURE, put_measures};
 use std::alloc::{AllocError, Global};
 use std::io::Write;
 
-/// The rows of a finished run, below a heading.
+/// Returns the rows of a finished run, below a heading.
 fn measures_rows(
     alloc: Global,
     measures: &afdx_measure::Measures<'_, Global>,
@@ -28,7 +28,7 @@ fn measures_rows(
     Ok(text)
 }
 
-/// What is written of a finished run.
+/// Returns what is written of a finished run.
 fn measures_text(
     alloc: Global,
     form: Form,
@@ -48,7 +48,7 @@ fn measures_text(
 ///
 /// # Errors
 ///
-/// What is met first: `Get` of the table, `Table`, `Load`, `Get` of a capture, `PortCapture`, `Write`; `Memory` where memory
+/// What is met first: `Get` of the table, `Table`, `Load`, `Get` of a capture, `PortCapture`, `Write`; `Memory` if memory
 /// ran out.
 ///
 /// O(files), beside the switch's own work, and 32 bytes for each port and link. Each capture is read once.

@@ -18,11 +18,11 @@ use afdx_session::measured_from;
 use afdx_table::laws::tables_are_well_formed;
 use std::alloc::Global;
 
-/// The counts of the run of a folder's captures, and what was wanted of it. Each capture is read once.
+/// Runs the switch over the captures of a folder, each of which is read once, and returns its counts and what was wanted of it.
 ///
 /// # Errors
 ///
-/// What is met first: `Get` of the table, `Table`, `Load`, `Get` of a capture, `PortCapture`; `Memory` where memory ran out.
+/// What is met first: `Get` of the table, `Table`, `Load`, `Get` of a capture, `PortCapture`; `Memory` if memory ran out.
 ///
 /// O(files), beside the switch's own work.
 pub(crate) fn measured<F: Folder>(

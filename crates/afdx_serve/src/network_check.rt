@@ -18,7 +18,7 @@ use afdx_wiring::{NetworkFault, Short, Switch};
 use std::alloc::{AllocError, Global};
 use std::io::Write;
 
-/// The rows whose jitter is not enough, of a network whose loads are accepted; before that, whether its tables fit together.
+/// Checks whether the tables of a network fit together, whose loads are accepted, and returns the rows whose jitter is not enough.
 fn judge(alloc: Global, cleared: &ClearedNetwork) -> Result<Vec<Short>, NetworkFault>
     ensures first { Gives (λ shorts. shorts.items) result (judged cleared.now) }
     ensures fits { IfOk result (λ shorts. FitsTogether cleared.now × (shorts.items ≡ [] → HasJitters cleared.now)) }
@@ -27,7 +27,7 @@ fn judge(alloc: Global, cleared: &ClearedNetwork) -> Result<Vec<Short>, NetworkF
     cleared.shortages(alloc)
 }
 
-/// The failure of rows whose jitter is not enough, of a network of these switches.
+/// Returns the failure of rows whose jitter is not enough, of a network of these switches.
 fn short_rows(alloc: Global, switches: &[Switch], shorts: Vec<Short>) -> Failure
     ensures { AreRefusedRows (names_of switches.now) Jitter shorts.items result }
 {
@@ -63,7 +63,7 @@ pub(crate) fn accept(
     Err(short_rows(alloc, switches, shorts))
 }
 
-/// What is written of an accepted network, of switches of these names, of its ways and of those over which nothing comes.
+/// Returns what is written of an accepted network, of switches of these names, of its ways and of those over which nothing comes.
 fn ways_text(
     alloc: Global,
     form: Form,
@@ -80,7 +80,7 @@ fn ways_text(
     }
 }
 
-/// What is written of an accepted network.
+/// Returns what is written of an accepted network.
 fn check_text(
     alloc: Global,
     form: Form,
@@ -99,7 +99,7 @@ fn check_text(
     ways_text(alloc, form, names, layout.one_line, &ways.up, &ways.lost)
 }
 
-/// What is written of a network, where it is accepted.
+/// Accepts a network and returns what is written of it.
 fn network_text(alloc: Global, form: Form, network: Network) -> Result<String, Failure>
     ensures { MatchResult result
         (λ text. IsAcceptedNetwork network × IsNetworkCheck form network (string_bytes text))
@@ -118,7 +118,7 @@ fn network_text(alloc: Global, form: Form, network: Network) -> Result<String, F
 /// # Errors
 ///
 /// What is met first: `Get`; `Network`, in the order of the network file, its tables, the ports of its wires, the loads by
-/// switch, what the tables agree on, all rows whose jitter is not enough; `Write`; `Memory` where memory ran out.
+/// switch, what the tables agree on, all rows whose jitter is not enough; `Write`; `Memory` if memory ran out.
 ///
 /// O(files), beside the checks.
 pub(crate) fn network_check<O: Write, F: Folder>(

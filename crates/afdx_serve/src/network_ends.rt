@@ -1,18 +1,19 @@
 //! The links of a network, and the ports at which they lead out of it.
 
-ghost use Rattle.std.specs.Prelude.{◌≡◌, true, map, string_bytes, IfOk};
+ghost use Rattle.std.specs.Prelude.{◌≡◌, ◌++◌, true, map, string_bytes, IfOk, OnOk};
 ghost use Rattle.afdx_serve.specs.Inner.NetworkRunning.{network_in, is_accepted};
-ghost use Rattle.afdx_serve.specs.NetworkMeasures.{AreEndsOf, HaveEndTexts, HaveEndLines, unchecked_end};
+ghost use Rattle.afdx_serve.specs.NetworkMeasures.{AreEndsOf, HaveEnds, end_text, unchecked_end};
 ghost use Rattle.afdx_network_report.specs.LinkEnds.{link_end_of};
-ghost use Rattle.afdx_network_report.specs.Rows.{link_end_row};
 
 use crate::network_plan::NetworkPlan;
+use afdx_csv::Form;
+use afdx_measure::Delays;
 use afdx_network_check::{ClearedNetwork, Exit, Network, Way};
 use afdx_network_report::{LinkEnd, put_link_end, put_link_end_row};
 use afdx_origins::Origins;
 use std::alloc::{AllocError, Global};
 
-/// The ends of ways.
+/// Returns the ends of ways.
 fn ends_of_ways(alloc: Global, ways: &[Way]) -> Result<Vec<LinkEnd>, AllocError>
     ensures { IfOk result (λ ends. ends.items ≡ map link_end_of ways.now) }
 {
@@ -23,7 +24,7 @@ fn ends_of_ways(alloc: Global, ways: &[Way]) -> Result<Vec<LinkEnd>, AllocError>
     Ok(ends)
 }
 
-/// The end of an exit of a network of which nothing was checked.
+/// Returns the end of an exit of a network of which nothing was checked.
 fn end_of_exit(network: &Network, exit: Exit) -> LinkEnd
     ensures { result ≡ unchecked_end network.now exit }
 {
@@ -39,7 +40,7 @@ fn end_of_exit(network: &Network, exit: Exit) -> LinkEnd
     }
 }
 
-/// Those of exits.
+/// Returns the ends of exits.
 fn ends_of_exits(
     alloc: Global,
     network: &Network,
@@ -54,7 +55,7 @@ fn ends_of_exits(
     Ok(ends)
 }
 
-/// Those of an accepted network, with what is promised of its ways.
+/// Returns the ends of an accepted network, with what is promised of its ways.
 fn accepted_ends(alloc: Global, cleared: &ClearedNetwork) -> Result<Vec<LinkEnd>, AllocError>
     ensures { IfOk result (λ ends. AreEndsOf true cleared.now ends.items) }
 {
@@ -65,7 +66,7 @@ fn accepted_ends(alloc: Global, cleared: &ClearedNetwork) -> Result<Vec<LinkEnd>
     }
 }
 
-/// The links of a network, and the ports at which they lead out of it: by link, then by switch and port.
+/// Returns the links of a network, and the ports at which they lead out of it: by link, then by switch and port.
 pub(crate) fn ends_of(alloc: Global, plan: &NetworkPlan) -> Result<Vec<LinkEnd>, AllocError>
     ensures { IfOk result (λ ends. AreEndsOf (is_accepted plan.now) (network_in plan.now) ends.items) }
 {
@@ -78,36 +79,36 @@ pub(crate) fn ends_of(alloc: Global, plan: &NetworkPlan) -> Result<Vec<LinkEnd>,
     }
 }
 
-/// The lines of these ends, with the delays that were noted there.
-pub(crate) fn ends_text(
+/// Appends what is written of an end, with these delays: its line, or its row under these columns.
+fn push_end(
     alloc: Global,
+    form: Form,
+    columns: &[&str],
+    text: &mut String,
     names: &[String],
-    ends: &[LinkEnd],
-    origins: &Origins<'_>,
-) -> Result<String, AllocError>
-    ensures { IfOk result (λ text. HaveEndLines (map string_bytes names.now) origins.now ends.now (string_bytes text)) }
+    end: &LinkEnd,
+    delays: &Delays,
+) -> Result<(), AllocError>
+    ensures { OnOk result (string_bytes text.new
+        ≡ string_bytes text.old ++ end_text form (map (λ column. column.now) columns.now) (map string_bytes names.now) end.now delays.now) }
 {
-    let mut text = String::new(alloc);
-    for end in ends {
-        // A link leads to each of its ends, so that this is there.
-        let Some(delays) = origins.delays_at(end.link, end.to) else {
-            return Err(AllocError);
-        };
-        put_link_end(&mut text, names, end, &delays)?;
+    match form {
+        Form::Lines => put_link_end(text, names, end, delays),
+        Form::Csv => put_link_end_row(alloc, text, columns, names, end, delays),
     }
-    Ok(text)
 }
 
-/// Their rows, under these columns.
-pub(crate) fn ends_rows(
+/// Returns what is written of these ends, with the delays that were noted there: lines, or rows under these columns.
+pub(crate) fn ends_in(
     alloc: Global,
+    form: Form,
     columns: &[&str],
     names: &[String],
     ends: &[LinkEnd],
     origins: &Origins<'_>,
 ) -> Result<String, AllocError>
     ensures { IfOk result (λ text.
-        HaveEndTexts (link_end_row (map (λ name. name.now) columns.now) (map string_bytes names.now)) origins.now ends.now (string_bytes text)) }
+        HaveEnds form (map (λ column. column.now) columns.now) (map string_bytes names.now) origins.now ends.now (string_bytes text)) }
 {
     let mut text = String::new(alloc);
     for end in ends {
@@ -115,7 +116,7 @@ pub(crate) fn ends_rows(
         let Some(delays) = origins.delays_at(end.link, end.to) else {
             return Err(AllocError);
         };
-        put_link_end_row(alloc, &mut text, columns, names, end, &delays)?;
+        push_end(alloc, form, columns, &mut text, names, end, &delays)?;
     }
     Ok(text)
 }

@@ -16,7 +16,7 @@ use afdx_wiring::{Layout, NetworkFault, Switch};
 use std::alloc::{AllocError, Global};
 use std::path::PathBuf;
 
-/// The name of a table's file, as it is written in a network file: beside that, unless it begins with `/`.
+/// Names a table's file, whose name in a network file is this: beside that file, unless it begins with `/`.
 fn table_name(alloc: Global, network: &str, table: &str) -> Result<String, AllocError>
     ensures { IfOk result (λ name. string_bytes name ≡ path_with_file_name network.now table.now) }
 {
@@ -25,7 +25,7 @@ fn table_name(alloc: Global, network: &str, table: &str) -> Result<String, Alloc
     Ok(path.into_string())
 }
 
-/// The names of switches.
+/// Copies the names of switches.
 pub(crate) fn names_of(alloc: Global, switches: &[Switch]) -> Result<Vec<String>, AllocError>
     ensures { IfOk result (λ names. map string_bytes names.items ≡ names_of switches.now) }
 {
@@ -36,7 +36,7 @@ pub(crate) fn names_of(alloc: Global, switches: &[Switch]) -> Result<Vec<String>
     Ok(names)
 }
 
-/// The switch that a refusal is of, by its place from 0.
+/// Returns the switch that a refusal is of, by its place from 0; none if it is of no one switch.
 fn switch_of(fault: NetworkFault) -> Option<usize>
     ensures { result ≡ switch_of fault }
 {
@@ -49,7 +49,7 @@ fn switch_of(fault: NetworkFault) -> Option<usize>
     }
 }
 
-/// A copy of the name at a place, where there is one.
+/// Copies the name at a place, if there is one.
 fn name_at(
     alloc: Global,
     names: &[String],
@@ -66,7 +66,7 @@ fn name_at(
     }
 }
 
-/// The failure that a refusal leads to, with the name of its switch among these.
+/// Returns the failure that a refusal leads to, with the name of its switch among these.
 pub(crate) fn refused(alloc: Global, names: &[String], fault: NetworkFault) -> Failure
     ensures { IsRefused (map string_bytes names.now) fault result }
 {
@@ -76,7 +76,7 @@ pub(crate) fn refused(alloc: Global, names: &[String], fault: NetworkFault) -> F
     }
 }
 
-/// What the network file says.
+/// Gets a network file and reads its layout.
 fn get_layout<F: Folder>(alloc: Global, folder: &mut F, path: &str) -> Result<Layout, Failure>
     ensures got { MatchResult result
         (λ layout. HasLayout (F.files folder.old) path.now layout × (F.failed folder.new ≡ F.failed folder.old))
@@ -90,7 +90,7 @@ fn get_layout<F: Folder>(alloc: Global, folder: &mut F, path: &str) -> Result<La
     }
 }
 
-/// The files of the tables, by switch.
+/// Gets the files of the tables, by switch.
 fn get_texts<F: Folder>(
     alloc: Global,
     folder: &mut F,
@@ -111,7 +111,7 @@ fn get_texts<F: Folder>(
     Ok(texts)
 }
 
-/// The failure of a table of the switch of this name.
+/// Returns the failure of a table of the switch of this name.
 fn refused_table(alloc: Global, refusal: TableFault, name: &str) -> Failure
     ensures { IsRefusedTable refusal name.now result }
 {
@@ -121,7 +121,7 @@ fn refused_table(alloc: Global, refusal: TableFault, name: &str) -> Failure
     }
 }
 
-/// The tables of these texts, by switch.
+/// Reads the tables of these texts, by switch.
 fn read_tables(alloc: Global, switches: &[Switch], texts: &[Vec<u8>]) -> Result<Vec<Table>, Failure>
     requires { length texts.now ≡ length switches.now }
     ensures { MatchResult result
@@ -141,7 +141,7 @@ fn read_tables(alloc: Global, switches: &[Switch], texts: &[Vec<u8>]) -> Result<
     Ok(tables)
 }
 
-/// The network of a layout, of which the tables are got.
+/// Gets the tables of a layout and joins them to its network.
 fn join<F: Folder>(
     alloc: Global,
     folder: &mut F,
@@ -162,12 +162,12 @@ fn join<F: Folder>(
     }
 }
 
-/// The network of a file and of the tables that it names; all files are got before the first table is read.
+/// Gets the network of a file and of the tables that it names; all files are got before the first table is read.
 ///
 /// # Errors
 ///
-/// What is met first: `Get` of the network file, `Refused` of its text, `Get` of a table, `Table`, `Refused` where an end of
-/// a wire is no port; `Memory` where memory ran out. O(files).
+/// What is met first: `Get` of the network file, `Refused` of its text, `Get` of a table, `Table`, `Refused` if an end of
+/// a wire is no port; `Memory` if memory ran out. O(files).
 pub(crate) fn get_network<F: Folder>(
     alloc: Global,
     folder: &mut F,

@@ -22,7 +22,7 @@ use afdx_wiring::NetworkFault;
 use std::alloc::{AllocError, Global};
 use std::io::Write;
 
-/// The fault of a port whose links ask for more than its line.
+/// Returns the fault of a port, if its links ask for more than its line.
 fn rate_fault(loads: &Loads<'_>, row: &PortRow) -> Option<LoadFault>
     requires { port_row loads.now row.now.id ≡ Some row.now }
     ensures { result ≡ rate_fault loads.now.latency loads.now.links row.now }
@@ -39,7 +39,7 @@ fn rate_fault(loads: &Loads<'_>, row: &PortRow) -> Option<LoadFault>
     })
 }
 
-/// The fault of the first port that has one.
+/// Returns the fault of the first port that has one.
 fn first_rate_fault(table: &Table) -> Option<LoadFault>
     ensures { result ≡ first_rate_fault table.now.latency table.now.links table.now.ports }
 {
@@ -54,7 +54,7 @@ fn first_rate_fault(table: &Table) -> Option<LoadFault>
     None
 }
 
-/// Whether the links of each switch ask for no more than the lines of its ports.
+/// Checks that the links of each switch ask for no more than the lines of its ports.
 fn rates_fit(tables: &[Table]) -> Result<(), NetworkFault>
     ensures { result ≡ rates_fit 0 tables.now }
 {
@@ -66,7 +66,7 @@ fn rates_fit(tables: &[Table]) -> Result<(), NetworkFault>
     Ok(())
 }
 
-/// Whether the least latencies are as they may be, no line is asked for too much, and the tables fit together.
+/// Checks that the least latencies are as they may be, no line is asked for too much, and the tables fit together.
 #[tactic(auto, unfolding(crate::specs::NetworkJitters::fit_of))]
 fn check_fit(alloc: Global, network: &Network) -> Result<(), NetworkFault>
     ensures { MatchResult result
@@ -78,7 +78,7 @@ fn check_fit(alloc: Global, network: &Network) -> Result<(), NetworkFault>
     network.fit(alloc)
 }
 
-/// The jitters that the rows of a network need, whose tables fit together.
+/// Returns the jitters that the rows of a network need, if its tables fit together.
 fn needs_of(alloc: Global, network: Network) -> Result<Needs, Failure>
     ensures { MatchResult result (λ needs. AreNeeds network needs.rows.items needs.past) (λ f. f ≡ Out) }
 {
@@ -88,7 +88,7 @@ fn needs_of(alloc: Global, network: Network) -> Result<Needs, Failure>
     }
 }
 
-/// What is written of the jitters that rows need, of switches of these names.
+/// Returns what is written of the jitters that rows need, of switches of these names.
 fn needs_text(
     alloc: Global,
     form: Form,
@@ -104,14 +104,14 @@ fn needs_text(
 }
 
 /// Writes for each link of each table of the network of a file the jitter that it needs there, from the jitters of the sources
-/// on. Where no row needs more than a table can have, `network check` finds these jitters enough; it judges the loads too,
+/// on. If no row needs more than a table can have, `network check` finds these jitters enough; it judges the loads too,
 /// which grow with them.
 ///
 /// # Errors
 ///
 /// What is met first: `Get`; `Network`, in the order of the network file, its tables, the ports of its wires, the least
 /// latencies by switch, the rates of the ports by switch, what the tables agree on; `Write`; `Network` with each row that needs more
-/// than a table can have, after the lines; `Memory` where memory ran out.
+/// than a table can have, after the lines; `Memory` if memory ran out.
 ///
 /// O(files), beside what the jitters take.
 pub(crate) fn network_jitter<O: Write, F: Folder>(

@@ -21,7 +21,7 @@ pub(crate) enum NetworkPlan {
 }
 
 impl NetworkPlan {
-    /// The network. O(1).
+    /// Returns the network. O(1).
     pub(crate) fn network(&self) -> &Network
         ensures { result.now ≡ network_in self.now }
     {
@@ -32,7 +32,7 @@ impl NetworkPlan {
     }
 }
 
-/// The plan of a run over a network, of switches of these names, which is accepted unless the run is unchecked.
+/// Plans a run over a network, of switches of these names, which is checked unless the run is unchecked.
 pub(crate) fn plan(
     alloc: Global,
     names: &[String],

@@ -1,6 +1,6 @@
 //! The command `network run`.
 
-ghost use Rattle.std.specs.Prelude.{◌≡◌, ◌≢◌, ◌++◌, ℕ, List, length, map, string_bytes, Option, IfOk, IfErr, OnOk, MatchResult};
+ghost use Rattle.std.specs.Prelude.{◌≡◌, ◌≢◌, ℕ, List, length, map, string_bytes, Option, IfOk, IfErr, MatchResult};
 ghost use Rattle.afdx_session.specs.Outcome.{Results};
 ghost use Rattle.afdx_session.specs.Written.{AreAppended};
 ghost use Rattle.afdx_network_check.specs.Net.{Network};
@@ -11,33 +11,34 @@ ghost use Rattle.afdx_network.specs.declared.outage.Incoming.{Incoming as Coming
 ghost use Rattle.afdx_network.specs.Written.{captures_in, AreWritten};
 ghost use Rattle.afdx_folder.specs.Files.{Files, KeepsFiles};
 ghost use Rattle.afdx_serve.specs.Networks.{names_of};
-ghost use Rattle.afdx_serve.specs.NetworkRuns.{switch_folder, bytes_at, captures_of, reports_of, switch_rows, runs_text, FailsToGetGiven};
+ghost use Rattle.afdx_serve.specs.NetworkRuns.{switch_folder, bytes_at, captures_of, runs_text, FailsToGetGiven};
 ghost use Rattle.afdx_serve.specs.Inner.Outputs.{HaveBytes};
-ghost use Rattle.afdx_serve.specs.Inner.NetworkRunning.{network_in, end_names, AreOpenedEnds, HasRun, LeadsFrom, IsCaptureFailure, IsLineFailure};
+ghost use Rattle.afdx_serve.specs.Inner.NetworkRunning.{network_in, end_names, AreOpenedEnds, HasRun, LeadsFrom, IsGivenFailure};
 ghost use Rattle.afdx_serve.specs.Serving.{world, RunsNetwork, FailsToRunNetwork};
 
-use crate::get::{get_failure, open_all};
+use crate::forms::{heading_in, push_counts};
+use crate::get::{open_all, unread_failure};
 use crate::names::capture_name;
 use crate::network_get::{get_network, names_of};
 use crate::network_plan::{NetworkPlan, plan};
 use crate::outputs::{abandon_all, begin_all, put_all};
 use afdx_arguments::NetworkPaths;
 use afdx_count::Counts;
-use afdx_csv::{Form, put_heading};
+use afdx_csv::Form;
 use afdx_folder::{Folder, NewFile, write_bytes};
 use afdx_messages::{Failure, NetworkFailure};
 use afdx_network::laws::{network_runs_deliver, runs_are_unchecked};
 use afdx_network::{NetworkRunFault, all_ends, incoming_at, open_ends};
-use afdx_network_report::{name_of, push_report};
+use afdx_network_report::name_of;
 use afdx_pcap::PcapFault;
-use afdx_rows::{NETWORK_RUN, put_counts};
+use afdx_rows::NETWORK_RUN;
 use afdx_table::laws::tables_are_well_formed;
 use afdx_wiring::End;
 use afdx_wiring::laws::{layouts_are_within_limits, no_port_has_two_wires};
 use std::alloc::{AllocError, Global};
 use std::io::{Read, Write};
 
-/// The folder of a switch's captures in a folder.
+/// Names the folder of a switch's captures in a folder.
 pub(crate) fn switch_folder(alloc: Global, folder: &str, name: &str) -> Result<String, AllocError>
     ensures { IfOk result (λ path. string_bytes path ≡ switch_folder folder.now name.now) }
 {
@@ -47,7 +48,7 @@ pub(crate) fn switch_folder(alloc: Global, folder: &str, name: &str) -> Result<S
     Ok(path)
 }
 
-/// The names of the captures of these ports in a folder, each in that of its switch, which has its name.
+/// Names the captures of these ports in a folder, each in that of its switch, which has its name.
 pub(crate) fn names_at(
     alloc: Global,
     path: &str,
@@ -64,7 +65,7 @@ pub(crate) fn names_at(
     Ok(all)
 }
 
-/// The failure of the capture of a port of the switch at a place among these names.
+/// Returns the failure of the capture of a port of the switch at a place among these names.
 fn capture_failure(
     alloc: Global,
     names: &[String],
@@ -72,7 +73,7 @@ fn capture_failure(
     port: u8,
     why: PcapFault,
 ) -> Failure
-    ensures { IsCaptureFailure (map string_bytes names.now) switch port why result }
+    ensures { IsGivenFailure (map string_bytes names.now) result (NetworkRunFault.Capture switch port why) }
 {
     match String::from_str(alloc, name_of(names, switch)) {
         Ok(name) => Failure::Network(NetworkFailure::Capture(port, why, name)),
@@ -80,9 +81,9 @@ fn capture_failure(
     }
 }
 
-/// The failure of a record that came too soon for the line of a port of the switch at a place among these names.
+/// Returns the failure of a record that came too soon for the line of a port of the switch at a place among these names.
 fn line_failure(alloc: Global, names: &[String], switch: usize, port: u8, number: u64) -> Failure
-    ensures { IsLineFailure (map string_bytes names.now) switch port number result }
+    ensures { IsGivenFailure (map string_bytes names.now) result (NetworkRunFault.Line switch port number) }
 {
     match String::from_str(alloc, name_of(names, switch)) {
         Ok(name) => Failure::Network(NetworkFailure::Line(port, number, name)),
@@ -90,7 +91,7 @@ fn line_failure(alloc: Global, names: &[String], switch: usize, port: u8, number
     }
 }
 
-/// The failure that a fault of a run leads to, over captures that were opened under these names.
+/// Returns the failure that a fault of a run leads to, over captures that were opened under these names.
 pub(crate) fn run_failure<F: Folder>(
     alloc: Global,
     folder: &mut F,
@@ -113,11 +114,7 @@ pub(crate) fn run_failure<F: Folder>(
         NetworkRunFault::Memory => Failure::Memory,
         // No two wires of a file go to one port.
         NetworkRunFault::WrongWires => unreachable!(),
-        NetworkRunFault::Read(place) => {
-            let name = &opened[place];
-            let fault = folder.note_unread(name);
-            get_failure(alloc, name, fault)
-        }
+        NetworkRunFault::Read(place) => unread_failure(alloc, folder, &opened[place]),
         NetworkRunFault::Capture(switch, port, why) => {
             capture_failure(alloc, names, switch, port, why)
         }
@@ -127,7 +124,7 @@ pub(crate) fn run_failure<F: Folder>(
     }
 }
 
-/// The counts of the switches of a plan, over what these readers give; what leaves goes to these files.
+/// Runs the network of a plan over what these readers give: appends what leaves to these files, and returns the counts of its switches.
 fn counts_of<R: Read, N: NewFile>(
     alloc: Global,
     plan: &NetworkPlan,
@@ -149,54 +146,7 @@ fn counts_of<R: Read, N: NewFile>(
     }
 }
 
-/// The reports of the switches, each line after its switch's name.
-fn reports(
-    alloc: Global,
-    names: &[String],
-    counts: &[Counts<Global>],
-) -> Result<Vec<u8>, AllocError>
-    requires { length names.now ≡ length counts.now }
-    ensures { (left : List Results) → counts.now ≡ map (λ r. r.counts) left → IfOk result (λ text. text.items ≡ reports_of (map string_bytes names.now) left) }
-{
-    let mut text = Vec::new(alloc);
-    for (switch, own) in counts.iter().enumerate() {
-        let report = own.report(alloc)?;
-        push_report(&mut text, name_of(names, switch), &report)?;
-    }
-    Ok(text)
-}
-
-/// Appends the rows of the switches.
-fn put_switches(
-    text: &mut String,
-    names: &[String],
-    counts: &[Counts<Global>],
-) -> Result<(), AllocError>
-    requires { length names.now ≡ length counts.now }
-    ensures { (left : List Results) → counts.now ≡ map (λ r. r.counts) left → OnOk result (string_bytes text.new ≡ string_bytes text.old ++ switch_rows (map string_bytes names.now) left) }
-{
-    for (switch, own) in counts.iter().enumerate() {
-        put_counts(text, NETWORK_RUN, name_of(names, switch), own)?;
-    }
-    Ok(())
-}
-
-/// The rows of the switches, below a heading.
-fn runs_rows(
-    alloc: Global,
-    names: &[String],
-    counts: &[Counts<Global>],
-) -> Result<Vec<u8>, AllocError>
-    requires { length names.now ≡ length counts.now }
-    ensures { (left : List Results) → counts.now ≡ map (λ r. r.counts) left → IfOk result (λ text. text.items ≡ runs_text Form.Csv (map string_bytes names.now) left) }
-{
-    let mut text = String::new(alloc);
-    put_heading(&mut text, NETWORK_RUN)?;
-    put_switches(&mut text, names, counts)?;
-    Ok(text.into_bytes())
-}
-
-/// What is written of the switches.
+/// Returns what is written of the switches: their reports, each line after its switch's name, or their rows, below a heading.
 fn runs_text(
     alloc: Global,
     form: Form,
@@ -206,14 +156,23 @@ fn runs_text(
     requires { length names.now ≡ length counts.now }
     ensures { (left : List Results) → counts.now ≡ map (λ r. r.counts) left → IfOk result (λ text. text.items ≡ runs_text form (map string_bytes names.now) left) }
 {
-    match form {
-        Form::Lines => reports(alloc, names, counts),
-        Form::Csv => runs_rows(alloc, names, counts),
+    let heading = heading_in(alloc, form, NETWORK_RUN)?;
+    let mut text = heading.into_bytes();
+    for (switch, own) in counts.iter().enumerate() {
+        push_counts(
+            alloc,
+            form,
+            NETWORK_RUN,
+            &mut text,
+            name_of(names, switch),
+            own,
+        )?;
     }
+    Ok(text)
 }
 
-/// What the captures of a folder lead to, each of which is opened and read once, or not read where its switch is down: what leaves goes
-/// to these files, and these are the reports.
+/// Runs the network of a plan over the captures of a folder, each of which is opened and read once, or not read if its switch is down:
+/// appends what leaves to these files, and returns the reports.
 fn reports_of_folder<F: Folder>(
     alloc: Global,
     folder: &mut F,
@@ -244,7 +203,8 @@ fn reports_of_folder<F: Folder>(
     }
 }
 
-/// What the captures of a folder lead to: new files to be put under these names, and the reports. After an error no new file is left.
+/// Makes the new files of a run over the captures of a folder, to be put under these names, and returns them with the reports. After an
+/// error no new file is left.
 fn lead<F: Folder>(
     alloc: Global,
     folder: &mut F,
@@ -281,18 +241,18 @@ fn lead<F: Folder>(
 ///
 /// IN/A has the captures of the ports of switch A to which no wire goes; those of all its ports are put into OUT/A, which has
 /// to be there. The network is accepted before a file is begun, unless the run is unchecked. Then a new file is begun for each output, by
-/// switch and port, and the captures are opened in this order, and read once, in pieces, while the switches run. Where one cannot be read
+/// switch and port, and the captures are opened in this order, and read once, in pieces, while the switches run. If one cannot be read
 /// or has a fault, the others are read on to their ends, so that the failure is the first in this order; so it is with records that came too
-/// soon for the line of an end system, where the file says that each has one. What leaves goes to the new files;
+/// soon for the line of an end system, if the file says that each has one. What leaves goes to the new files;
 /// then these are put in the same order, and then the reports are written. All names and reports are made before the first put, and the
-/// device has all files by then: where it fails to take one, none is put. After a put that failed the files before it are there, and no
+/// device has all files by then: if it fails to take one, none is put. After a put that failed the files before it are there, and no
 /// later one is put. New files that are not put are let go.
 ///
 /// # Errors
 ///
 /// What is met first: as `network check`, without what it checks of loads, tables and jitters if the run is unchecked; `Get` of a
 /// capture, by switch and then by port; `Network` with the fault of a capture, or with a line that was not kept to; `Put`; `Write`; `Memory`
-/// where memory ran out.
+/// if memory ran out.
 ///
 /// O(files), beside the runs of the switches.
 pub(crate) fn network_run<O: Write, F: Folder>(

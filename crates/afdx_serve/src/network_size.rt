@@ -15,7 +15,7 @@ use afdx_table::Table;
 use std::alloc::{AllocError, Global};
 use std::io::Write;
 
-/// What is written of the ports of all switches, which have these names and these tables. O(ports and links).
+/// Returns what is written of the ports of all switches, which have these names and these tables. O(ports and links).
 fn network_sizes(
     alloc: Global,
     form: Form,
@@ -32,7 +32,7 @@ fn network_sizes(
     Ok(text)
 }
 
-/// What is written of all switches, which have these names and these tables.
+/// Returns what is written of all switches, which have these names and these tables.
 fn all_sizes(
     alloc: Global,
     form: Form,
@@ -52,7 +52,7 @@ fn all_sizes(
 ///
 /// # Errors
 ///
-/// What is met first: `Get`; `Network`, in the order of the network file, its tables, the ports of its wires; `Write`; `Memory` where
+/// What is met first: `Get`; `Network`, in the order of the network file, its tables, the ports of its wires; `Write`; `Memory` if
 /// memory ran out.
 pub(crate) fn network_size<O: Write, F: Folder>(
     alloc: Global,

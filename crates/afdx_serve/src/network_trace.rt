@@ -24,7 +24,7 @@ use afdx_network_trace::{first_numbers, with_first_numbers};
 use afdx_trace::Selection;
 use std::alloc::{AllocError, Global};
 
-/// What a trace is made of.
+/// Returns what a trace is made of, beside the folder that it goes to.
 fn inputs_of<'a>(paths: &NetworkPaths<'a>) -> NetworkInputs<'a>
     ensures network { result.network ≡ paths.now.network }
     ensures input { result.input ≡ paths.now.input }
@@ -37,7 +37,7 @@ fn inputs_of<'a>(paths: &NetworkPaths<'a>) -> NetworkInputs<'a>
     }
 }
 
-/// The names of the two files of each switch, in its folder.
+/// Names the two files of each switch, in its folder.
 fn all_names(alloc: Global, output: &str, names: &[String]) -> Result<Vec<String>, AllocError>
     ensures { IfOk result (λ all. map string_bytes all.items ≡ network_trace_names output.now (map string_bytes names.now)) }
 {
@@ -67,7 +67,7 @@ fn push_texts(
     Ok(())
 }
 
-/// The finished switches of a run, which keep their lists.
+/// Returns the finished switches of a run, which keep their lists.
 fn dones_of(
     alloc: Global,
     switches: Vec<(Counts<Global>, Measured<'static, Global>)>,
@@ -93,7 +93,7 @@ fn all_lines<'a>() -> Selection<'a>
     }
 }
 
-/// The texts of finished switches, with the numbers that the frames of their arrivals had at their first switches.
+/// Returns the texts of finished switches, with the numbers that the frames of their arrivals had at their first switches.
 fn texts_of(
     alloc: Global,
     dones: &[Done<'_, Global>],
@@ -111,7 +111,7 @@ fn texts_of(
     Ok(texts)
 }
 
-/// The texts of all switches of a run over the captures of a folder.
+/// Runs a network over the captures of a folder and returns the texts of all its switches.
 fn traced<F: Folder>(
     alloc: Global,
     folder: &mut F,
@@ -134,7 +134,7 @@ fn traced<F: Folder>(
 /// name: arrivals.csv, what became of each arrival, with the number that its frame had at its first switch, and departures.csv, what became of
 /// each copy. Nothing is written.
 ///
-/// All names and texts are made before the first put, and the device has all files by then: where it fails to take one, none is put.
+/// All names and texts are made before the first put, and the device has all files by then: if it fails to take one, none is put.
 ///
 /// # Errors
 ///

@@ -29,11 +29,11 @@ pub(crate) struct Planned {
     pub(crate) plan: NetworkPlan,
 }
 
-/// The network of a file, accepted unless the run is unchecked.
+/// Gets the network of a file, and checks it unless the run is unchecked.
 ///
 /// # Errors
 ///
-/// What is met first: as `network check`, without what it checks of loads, tables and jitters if the run is unchecked; `Memory` where
+/// What is met first: as `network check`, without what it checks of loads, tables and jitters if the run is unchecked; `Memory` if
 /// memory ran out.
 pub(crate) fn get_planned<F: Folder>(
     alloc: Global,
@@ -55,13 +55,13 @@ pub(crate) fn get_planned<F: Folder>(
 }
 
 impl Planned {
-    /// Its run over the captures of a folder, each of which is opened and read once, in pieces, or not read where its switch is down; what is
-    /// wanted of each switch, and the delays from end to end. What leaves goes nowhere.
+    /// Runs the network over the captures of a folder, each of which is opened and read once, in pieces, or not read if its switch is down;
+    /// returns what is wanted of each switch, and the delays from end to end. What leaves goes nowhere.
     ///
     /// # Errors
     ///
     /// `Get` of a capture, by switch and then by port; `Network` with the fault of a capture, or with a line that was not kept to; `Memory`
-    /// where memory ran out.
+    /// if memory ran out.
     pub(crate) fn watched<F: Folder>(
         &self,
         alloc: Global,

@@ -21,7 +21,7 @@ pub(crate) fn abandon_all<F: Folder>(folder: &mut F, files: IntoIter<F::New>)
     }
 }
 
-/// A new file for each of these names. Where memory runs out, those that were begun are let go.
+/// Begins a new file for each of these names. If memory runs out, those that were begun are let go.
 pub(crate) fn begin_all<F: Folder>(
     alloc: Global,
     folder: &mut F,
@@ -134,7 +134,7 @@ fn move_all<F: Folder>(
     Ok(())
 }
 
-/// Puts new files under these names, in order, once the device has taken all of them. Where one of them is known to fail before, none
+/// Puts new files under these names, in order, once the device has taken all of them. If one of them is known to fail before, none
 /// is put; after the first that fails to be put the later ones are let go.
 pub(crate) fn put_all<F: Folder>(
     alloc: Global,
@@ -152,7 +152,7 @@ pub(crate) fn put_all<F: Folder>(
     move_all(alloc, folder, names, settled)
 }
 
-/// A new file of this text that the device has taken, to be put under this name. After an error there is none.
+/// Makes a new file of this text that the device has taken, to be put under this name. After an error there is none.
 fn settle_text<F: Folder>(
     alloc: Global,
     folder: &mut F,
@@ -172,7 +172,7 @@ fn settle_text<F: Folder>(
     settle(alloc, folder, name, new)
 }
 
-/// A new file for each of these names, of the text at its place, which the device has taken. After the first that fails none is left.
+/// Makes a new file for each of these names, of the text at its place, which the device has taken. After the first that fails none is left.
 fn settle_texts<F: Folder>(
     alloc: Global,
     folder: &mut F,

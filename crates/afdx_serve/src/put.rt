@@ -7,7 +7,7 @@ use afdx_folder::FolderFault;
 use afdx_messages::Failure;
 use std::alloc::Global;
 
-/// The failure of a put under this name.
+/// Returns the failure of a put under this name.
 pub(crate) fn put_failure(alloc: Global, name: &str, fault: FolderFault) -> Failure
     ensures { (before : DeviceLog) (after : DeviceLog) → IsCause fault name.now before after → FailsToPutOne result name.now before after }
 {

@@ -20,7 +20,7 @@ pub(crate) struct Report {
     pub(crate) is_found: bool,
 }
 
-/// Whether the verdict of a run bears on what is asked of it.
+/// Tells whether the verdict of a run bears on what is asked of it.
 fn needs_verdict(options: &RunOptions) -> bool
     ensures { result ≡ needs_verdict options.now }
 {
@@ -28,7 +28,7 @@ fn needs_verdict(options: &RunOptions) -> bool
     options.verdict || chosen.policed || chosen.filtered || chosen.lost
 }
 
-/// Whether there is one of what a run is to fail on.
+/// Tells whether there is one of what a run is to fail on.
 fn is_found(chosen: FailOn, verdict: &RunVerdict) -> bool
     ensures { result ≡ is_found chosen verdict.now }
 {
@@ -37,7 +37,7 @@ fn is_found(chosen: FailOn, verdict: &RunVerdict) -> bool
         || chosen.lost && verdict.lost > 0
 }
 
-/// The counters of a run as rows, below a heading.
+/// Returns the counters of a run as rows, below a heading.
 fn counts_rows(alloc: Global, counts: &Counts<Global>) -> Result<String, AllocError>
     ensures { IfOk result (λ text. string_bytes text ≡ counts_text Form.Csv counts.now) }
 {
@@ -47,7 +47,7 @@ fn counts_rows(alloc: Global, counts: &Counts<Global>) -> Result<String, AllocEr
     Ok(text)
 }
 
-/// The counters of a run.
+/// Returns what is written of the counters of a run.
 fn counts_text(alloc: Global, form: Form, counts: &Counts<Global>) -> Result<String, AllocError>
     ensures { IfOk result (λ text. string_bytes text ≡ counts_text form counts.now) }
 {
@@ -67,7 +67,7 @@ fn push_verdict_as(text: &mut String, form: Form, verdict: &RunVerdict) -> Resul
     }
 }
 
-/// What is reported of the counters of a run. Its verdict is made only where it bears on what is asked.
+/// Returns what is reported of the counters of a run. Its verdict is made only if it bears on what is asked.
 ///
 /// An error says that memory ran out. O(ports + links).
 pub(crate) fn report_of(

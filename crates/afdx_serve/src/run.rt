@@ -16,7 +16,7 @@ use std::io::Write;
 /// Runs the switch over the captures of a folder, puts what they lead to into another, and writes the report.
 ///
 /// The table is got first and, unless the run is unchecked, its load checked. Then a new file is begun for each output, and the captures
-/// of its ports are opened, by rising number, and read once, in pieces, while the switch runs. Where one cannot be read or has a fault,
+/// of its ports are opened, by rising number, and read once, in pieces, while the switch runs. If one cannot be read or has a fault,
 /// the others are read on to their ends, so that the failure is the first in this order. What they lead to goes to the new files; then
 /// these are put in the same order, and then the report is written, with the verdict's line if it is asked for. All names and the
 /// report's text are made before the first put. After a put that failed the files before it are there, and no later one is put. New files
@@ -25,7 +25,7 @@ use std::io::Write;
 /// # Errors
 ///
 /// What is met first: `Get` of the table, `Table`, `Load`, `Get` of a capture, `PortCapture`, `Put`, `Write`; `Memory`
-/// where memory ran out; after all was done `Found`, if there is one of what the run is to fail on.
+/// if memory ran out; after all was done `Found`, if there is one of what the run is to fail on.
 ///
 /// O(files), beside the switch's own work.
 pub(crate) fn run<O: Write, F: Folder>(

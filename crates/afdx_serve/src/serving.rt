@@ -117,7 +117,7 @@ fn serve_arguments<R: Read, O: Write, F: Folder>(
 /// a status above 1 one line goes to `err`, and after it what MESSAGES says of its code if `--explain` is the first argument
 /// after the program's name: whole, or it is said that it was not taken, and a prefix of it is there; a fault in writing it
 /// changes nothing else. All other arguments mean what they mean without `--explain`. What is met before the answer is written
-/// leaves `out` as it was; where writing fails, a prefix of the answer was written.
+/// leaves `out` as it was; if writing fails, a prefix of the answer was written.
 ///
 /// No contract knows why a reader, a writer or a folder fails, or whether memory is left: that 5 comes only then, and
 /// that it is said only of an `err` that fails that it has not taken its line, is shown by tests.

@@ -9,8 +9,9 @@ ghost use Rattle.afdx_serve.specs.Sizes.{delay_text, letter_of, letters_of, verd
 ghost use Rattle.afdx_serve.specs.Sizes.{of_switch, columns_for, size_in, size_heading, IsSizeOf, AreSizesWith, AreSizesIn};
 ghost use Rattle.afdx_serve.specs.Serving.{world, Sizes, FailsToSize};
 
+use crate::forms::heading_in;
 use crate::get::get_table;
-use afdx_csv::{Form, put_heading};
+use afdx_csv::Form;
 use afdx_folder::{Folder, write_bytes};
 use afdx_load::laws::longest_shows_links;
 use afdx_load::{Load, Loads, PARTS, Rule, bounds, breaks, least_buffer, loads};
@@ -41,7 +42,7 @@ fn push_delay(
     write!(line, "{limit}")
 }
 
-/// The letter of a rule, after a space.
+/// Returns the letter of a rule, after a space.
 fn letter_of(rule: Rule) -> &'static str
     ensures { result.now ≡ letter_of rule }
 {
@@ -69,7 +70,7 @@ fn push_broken(
     Ok(())
 }
 
-/// The letters of all rules that the load breaks.
+/// Gathers the letters of all rules that the load breaks.
 fn letters(alloc: Global, row: &PortRow, load: &Load) -> Result<String, AllocError>
     ensures { IfOk result (λ text. string_bytes text ≡ letters_of (broken_rules row.now load.now)) }
 {
@@ -99,7 +100,7 @@ fn push_verdict(
     }
 }
 
-/// What a port's links need of the line and of the buffer, beside what it has.
+/// Returns what a port's links need of the line and of the buffer, beside what it has.
 fn amounts(alloc: Global, row: &PortRow, load: &Load, least: u128) -> Result<String, AllocError>
     ensures { IfOk result (λ line. string_bytes line ≡ amounts_text row.now load.now least) }
 {
@@ -133,7 +134,7 @@ fn push_switch(line: &mut String, switch: Option<&str>) -> Result<(), AllocError
     line.push_str(name)
 }
 
-/// The line of a port with links of a switch, which needs so many bytes at least.
+/// Returns the line of a port with links of a switch, which needs so many bytes at least.
 fn size_line(
     alloc: Global,
     switch: Option<&str>,
@@ -151,7 +152,7 @@ fn size_line(
     Ok(line)
 }
 
-/// The columns of rows of a table alone, or of the tables of a network.
+/// Returns the columns of rows of a table alone, or of the tables of a network.
 fn columns_for(switch: Option<&str>) -> &'static [&'static str]
     ensures { map (λ name. name.now) result.now ≡ columns_for (option_map (λ name. name.now) switch.entry) }
 {
@@ -161,7 +162,7 @@ fn columns_for(switch: Option<&str>) -> &'static [&'static str]
     }
 }
 
-/// The name of a switch, or an empty one where there is none.
+/// Returns the name of a switch, or an empty one if there is none.
 fn name_or_empty(switch: Option<&str>) -> &str
     ensures { result.now ≡ unwrap_or (option_map (λ name. name.now) switch.entry) [] }
 {
@@ -171,7 +172,7 @@ fn name_or_empty(switch: Option<&str>) -> &str
     }
 }
 
-/// The row of a port with links of a switch, which needs so many bytes at least.
+/// Returns the row of a port with links of a switch, which needs so many bytes at least.
 fn size_row(
     alloc: Global,
     switch: Option<&str>,
@@ -188,7 +189,7 @@ fn size_row(
     Ok(line)
 }
 
-/// What is written of a port with links of a switch.
+/// Returns what is written of a port with links of a switch.
 fn size_in(
     alloc: Global,
     form: Form,
@@ -206,7 +207,7 @@ fn size_in(
     }
 }
 
-/// What is written of a port of the loads' table, which is that of a switch; where no link leads to it, no text.
+/// Returns what is written of a port of the loads' table, which is that of a switch: no text if no link leads to it.
 fn port_size(
     alloc: Global,
     form: Form,
@@ -224,7 +225,7 @@ fn port_size(
     }
 }
 
-/// What is written before all ports, of a table alone or of the tables of a network.
+/// Returns what is written before all ports, of a table alone or of the tables of a network.
 pub(crate) fn size_heading(
     alloc: Global,
     form: Form,
@@ -232,17 +233,10 @@ pub(crate) fn size_heading(
 ) -> Result<String, AllocError>
     ensures { IfOk result (λ text. string_bytes text ≡ size_heading form (option_map (λ name. name.now) switch.entry)) }
 {
-    let mut text = String::new(alloc);
-    match form {
-        Form::Lines => Ok(text),
-        Form::Csv => {
-            put_heading(&mut text, columns_for(switch))?;
-            Ok(text)
-        }
-    }
+    heading_in(alloc, form, columns_for(switch))
 }
 
-/// What is written of the ports with links of a switch's table.
+/// Returns what is written of the ports with links of a switch's table.
 ///
 /// One pass over the links serves all ports: O(p + m) for p ports, of which there are at most 24, and links that
 /// together name m output ports.
@@ -263,7 +257,7 @@ pub(crate) fn sizes_text(
     Ok(text)
 }
 
-/// What is written of a table alone.
+/// Returns what is written of a table alone.
 fn table_sizes(alloc: Global, form: Form, table: &Table) -> Result<String, AllocError>
     ensures { IfOk result (λ text. AreSizesIn form table.now (string_bytes text)) }
 {
@@ -277,7 +271,7 @@ fn table_sizes(alloc: Global, form: Form, table: &Table) -> Result<String, Alloc
 ///
 /// # Errors
 ///
-/// What is met first: `Get`, `Table`, `Write`; `Memory` where memory ran out.
+/// What is met first: `Get`, `Table`, `Write`; `Memory` if memory ran out.
 pub(crate) fn size<O: Write, F: Folder>(
     alloc: Global,
     path: &str,

@@ -17,7 +17,7 @@ use afdx_rows::{SURVEY, put_counts, put_survey};
 use std::alloc::{AllocError, Global};
 use std::io::Write;
 
-/// The lines of the counts, and then what was measured.
+/// Returns the lines of the counts, and then what was measured.
 fn lines_of(
     alloc: Global,
     counts: &Counts<Global>,
@@ -32,7 +32,7 @@ fn lines_of(
     Ok(text)
 }
 
-/// The same as rows, below a heading.
+/// Returns the rows of a finished run, below a heading.
 fn rows_of(
     alloc: Global,
     counts: &Counts<Global>,
@@ -48,7 +48,7 @@ fn rows_of(
     Ok(text)
 }
 
-/// What is written of a finished run.
+/// Returns what is written of a finished run.
 fn text_of(
     alloc: Global,
     form: Form,
@@ -69,7 +69,7 @@ fn text_of(
 ///
 /// # Errors
 ///
-/// What is met first: `Get` of the table, `Table`, `Load`, `Get` of a capture, `PortCapture`, `Write`; `Memory` where memory
+/// What is met first: `Get` of the table, `Table`, `Load`, `Get` of a capture, `PortCapture`, `Write`; `Memory` if memory
 /// ran out.
 ///
 /// O(files), beside the switch's own work, 32 bytes for each port and link, and 48 bytes for each spell. Each capture is read once.

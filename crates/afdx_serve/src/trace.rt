@@ -28,7 +28,7 @@ const ARRIVALS: &str = "/arrivals.csv";
 
 const DEPARTURES: &str = "/departures.csv";
 
-/// The lines that a trace's options ask for.
+/// Selects the lines that a trace's options ask for.
 fn selection_of(options: &TraceOptions) -> Selection<'_>
     ensures links { result.links.now ≡ options.now.links.items }
     ensures relative { result.relative ≡ options.now.relative }
@@ -39,7 +39,7 @@ fn selection_of(options: &TraceOptions) -> Selection<'_>
     }
 }
 
-/// The names of the two files in a folder.
+/// Names the two files in a folder.
 pub(crate) fn names_in(alloc: Global, folder: &str) -> Result<Vec<String>, AllocError>
     ensures { IfOk result (λ names. map string_bytes names.items ≡ trace_names folder.now) }
 {
@@ -49,7 +49,7 @@ pub(crate) fn names_in(alloc: Global, folder: &str) -> Result<Vec<String>, Alloc
     Ok(names)
 }
 
-/// The names that new files are begun for: those of the two files, and that of the second once more for each of so many ports.
+/// Names the new files that are begun: the two files, and the second once more for each of so many ports.
 fn names_to_begin(alloc: Global, folder: &str, ports: usize) -> Result<Vec<String>, AllocError>
     ensures { IfOk result (λ names. length names.items ≡ ports + 2) }
 {
@@ -60,7 +60,7 @@ fn names_to_begin(alloc: Global, folder: &str, ports: usize) -> Result<Vec<Strin
     Ok(names)
 }
 
-/// What is told of the captures of a folder is appended to these files: the lines of arrivals to the first, the heading of the copies to the second
+/// Appends what is told of the captures of a folder to these files: the lines of arrivals to the first, the heading of the copies to the second
 /// once the run is over, and the lines of each port to one of the others. Each capture is opened and read once.
 fn tell<F: Folder>(
     alloc: Global,
@@ -84,7 +84,7 @@ fn tell<F: Folder>(
     }
 }
 
-/// Of these new files the first two, to the second of which all later ones were joined. After an error none is left.
+/// Joins all of these new files after the second one to it, and returns the first two. After an error none is left.
 fn join_all<F: Folder>(
     alloc: Global,
     folder: &mut F,
@@ -115,7 +115,7 @@ fn join_all<F: Folder>(
     Ok(both)
 }
 
-/// What the files of a run lead to: two new files. After an error no new file is left.
+/// Makes the two new files that the files of a run lead to. After an error no new file is left.
 fn traced<F: Folder>(
     alloc: Global,
     folder: &mut F,
@@ -143,18 +143,18 @@ fn traced<F: Folder>(
 }
 
 /// Runs the switch over the captures of a folder as `run` does, and puts two files into another: arrivals.csv, what became of
-/// each arrival, and then departures.csv, what became of each copy; both have a heading, and where the options name links, theirs are all
+/// each arrival, and then departures.csv, what became of each copy; both have a heading, and if the options name links, theirs are all
 /// lines. Nothing is written.
 ///
 /// The table is got first and, unless the run is unchecked, its load checked. Then new files are begun, one for the arrivals, one for the copies
 /// and beside that one for each port; the captures of the ports are opened, by rising number, and read once, in pieces, while the switch
 /// runs. A line goes to its file as soon as it is known. At the end the files of the ports are joined behind the heading of the copies. All names are made
-/// before the first put, and the device has both files by then: where it fails to take one, none is put. After a put that failed the file before it is
+/// before the first put, and the device has both files by then: if it fails to take one, none is put. After a put that failed the file before it is
 /// there, and no later one is put. New files that are not put are let go.
 ///
 /// # Errors
 ///
-/// What is met first: `Get` of the table, `Table`, `Load`, `Get` of a capture, `PortCapture`, `Put`; `Memory` where memory
+/// What is met first: `Get` of the table, `Table`, `Load`, `Get` of a capture, `PortCapture`, `Put`; `Memory` if memory
 /// ran out.
 ///
 /// O(files), beside the switch's own work, and for each line as many steps as links are named.

@@ -1,6 +1,5 @@
 -- A network's run: what it is made over, what that leads to, and its failures.
 use Rattle.std.specs.Prelude.{◌≡◌, ℕ, Bool, true, false, List, map, Option, string_bytes}
-use Rattle.afdx_pcap.specs.declared.fault.PcapFault.{PcapFault}
 use Rattle.afdx_session.specs.Texts.{Text}
 use Rattle.afdx_session.specs.Outcome.{Results}
 use Rattle.afdx_wiring.specs.declared.layout.End.{End}
@@ -9,6 +8,8 @@ use Rattle.afdx_network.specs.Runs.{Given, IsRunOf, IsUncheckedRunOf}
 use Rattle.afdx_network.specs.Given.{open_ends, AreGiven}
 use Rattle.afdx_network.specs.Outage.{given_up, AreComing}
 use Rattle.afdx_network.specs.declared.outage.Incoming.{Incoming}
+use Rattle.afdx_network.specs.declared.fault.NetworkRunFault.{NetworkRunFault}
+use Rattle.afdx_network.specs.declared.fault.NetworkRunFault.TheVariants as run
 use Rattle.afdx_network_report.specs.Lines.{Names, name_of}
 use Rattle.afdx_messages.specs.declared.network_failure.NetworkFailure.TheVariants as network
 use Rattle.afdx_messages.specs.declared.failure.Failure.{Failure}
@@ -54,14 +55,9 @@ pub record AreOpenedEnds {R : Type 0} (remaining : R → Option (List ℕ)) (fil
   pub opened : AreOpened remaining files names readers
   pub come : AreComing remaining net.layout (open_ends net) readers all
 
--- the failure of a record that came too soon for the line of a port of the switch at a place among these names; or memory
-abbrev pub IsLineFailure : Names → (switch port number : ℕ) → Failure → Type 0
-IsLineFailure names switch port number (failure.Network (network.Line at which name)) = (at ≡ port) × (which ≡ number) × (string_bytes name ≡ name_of names switch)
-IsLineFailure names switch port number failure.Memory = Unit {0}
-IsLineFailure names switch port number _ = ⊥
-
--- the failure of the capture of a port of the switch at a place among these names; or memory
-abbrev pub IsCaptureFailure : Names → ℕ → ℕ → PcapFault → Failure → Type 0
-IsCaptureFailure names switch port why (failure.Network (network.Capture at reason name)) = (at ≡ port) × (reason ≡ why) × (string_bytes name ≡ name_of names switch)
-IsCaptureFailure names switch port why failure.Memory = Unit {0}
-IsCaptureFailure names switch port why _ = ⊥
+-- the failure of a fault of what is given for the switch at a place among these names; or memory
+abbrev pub IsGivenFailure : Names → Failure → NetworkRunFault → Type 0
+IsGivenFailure names (failure.Network (network.Capture at reason name)) (run.Capture switch port why) = (at ≡ port) × (reason ≡ why) × (string_bytes name ≡ name_of names switch)
+IsGivenFailure names (failure.Network (network.Line at which name)) (run.Line switch port number) = (at ≡ port) × (which ≡ number) × (string_bytes name ≡ name_of names switch)
+IsGivenFailure names failure.Memory why = Unit {0}
+IsGivenFailure names _ why = ⊥

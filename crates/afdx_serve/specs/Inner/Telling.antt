@@ -1,5 +1,5 @@
 -- What is told of the captures of a folder, in new files that are still apart: one of the arrivals, one of the copies, and one for each port.
-use Rattle.std.specs.Prelude.{◌≡◌, ◌+◌, true, ℕ, Bool, List, [], ◌∷◌, ◌++◌, length, slice_get, Option, Some, flat_map}
+use Rattle.std.specs.Prelude.{◌≡◌, ◌+◌, true, ℕ, Bool, List, length, slice_get, Option, Some, flat_map}
 use Rattle.std.specs.Io.KnownBytes.{Appends}
 use Rattle.afdx_table.specs.declared.rows.PortRow.{PortRow}
 use Rattle.afdx_table.specs.Content.{Content}

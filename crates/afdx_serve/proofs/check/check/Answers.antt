@@ -9,4 +9,4 @@ returns-in_err-write_bytes g c =
     let got = c.in_ok-table.ensures in
     let text = c.in_ok-text.ensures in
     of_error _ _ _ Write c.from_residual-in_err-write_bytes.ensures
-    (c.in_ok-table.table, string_bytes c.in_ok-text.text, got.got.0, text.0, text.1, prefix, (got.same, got.got.1))
+    ((string_bytes c.in_ok-text.text, (c.in_ok-table.table, got.got.0, text.0, text.1), prefix), (got.same, got.got.1))

@@ -1,4 +1,4 @@
-use Rattle.std.proofs.Common.{◌≡◌, ◌∙◌, length, inl, ap, sym, subst}
+use Rattle.std.proofs.Common.{◌≡◌, ◌∙◌, length, inl, refl, ap, sym, subst}
 use Rattle.std.proofs.KnownBytes.{Keeps-refl}
 use Rattle.afdx_folder.specs.Files.{PutsFiles, settled_after}
 use Rattle.afdx_recordings.specs.declared.recordings.Recordings.{Recordings}
@@ -55,11 +55,19 @@ returns-in_err-write_bytes g c =
     ∙ ap (λ (r : Recordings). report_of c.args.form r c.in_ok-findings.findings.from c.in_ok-findings.findings.until c.in_ok-findings.findings.comparison) is.0.0 in
     let written = rw (c.as_bytes.ensures.value, text) at c.in_err-write_bytes.ensures.prefix in
     of_error _ _ _ Write c.from_residual-in_err-write_bytes.ensures (
-      c.in_ok-findings.findings.from,
-      c.in_ok-findings.findings.until,
-      c.in_ok-findings.findings.comparison,
-      rows_put c.args.compare.now c.args.recordings.now _ _ _ _ _ _ _ _ _ found (KeepsFiles-trans _ _ _ c.in_ok-table.ensures.same c.in_ok-findings.ensures.same) (is.1 ∙ got.1) put.0 put.1,
-      written,
+      _,
+      (
+        _,
+        (
+          c.in_ok-findings.findings.from,
+          c.in_ok-findings.findings.until,
+          c.in_ok-findings.findings.comparison,
+          rows_put c.args.compare.now c.args.recordings.now _ _ _ _ _ _ _ _ _ found (KeepsFiles-trans _ _ _ c.in_ok-table.ensures.same c.in_ok-findings.ensures.same) (is.1 ∙ got.1) put.0 put.1,
+          refl,
+          refl,
+        ),
+        written,
+      ),
     )
 
 pub returns-then-conforms : goal.returns-then-conforms
@@ -75,12 +83,16 @@ returns-then-conforms g c =
     let text = c.in_ok-text.ensures
     ∙ ap (λ (r : Recordings). report_of c.args.form r c.in_ok-findings.findings.from c.in_ok-findings.findings.until c.in_ok-findings.findings.comparison) is.0.0 in
     let written = rw (c.as_bytes.ensures.value, text) at c.in_ok-write_bytes.ensures.all in (
-      c.in_ok-findings.findings.from,
-      c.in_ok-findings.findings.until,
-      c.in_ok-findings.findings.comparison,
-      rows_put c.args.compare.now c.args.recordings.now _ _ _ _ _ _ _ _ _ found (KeepsFiles-trans _ _ _ c.in_ok-table.ensures.same c.in_ok-findings.ensures.same) (is.1 ∙ got.1) put.0 put.1,
+      _,
+      (
+        c.in_ok-findings.findings.from,
+        c.in_ok-findings.findings.until,
+        c.in_ok-findings.findings.comparison,
+        rows_put c.args.compare.now c.args.recordings.now _ _ _ _ _ _ _ _ _ found (KeepsFiles-trans _ _ _ c.in_ok-table.ensures.same c.in_ok-findings.ensures.same) (is.1 ∙ got.1) put.0 put.1,
+        refl,
+        sym c.conforms.ensures ∙ c.if-conforms.true,
+      ),
       written,
-      sym c.conforms.ensures ∙ c.if-conforms.true,
     )
 
 pub returns : goal.returns
@@ -96,10 +108,14 @@ returns g c =
     let text = c.in_ok-text.ensures
     ∙ ap (λ (r : Recordings). report_of c.args.form r c.in_ok-findings.findings.from c.in_ok-findings.findings.until c.in_ok-findings.findings.comparison) is.0.0 in
     let written = rw (c.as_bytes.ensures.value, text) at c.in_ok-write_bytes.ensures.all in (
-      c.in_ok-findings.findings.from,
-      c.in_ok-findings.findings.until,
-      c.in_ok-findings.findings.comparison,
-      rows_put c.args.compare.now c.args.recordings.now _ _ _ _ _ _ _ _ _ found (KeepsFiles-trans _ _ _ c.in_ok-table.ensures.same c.in_ok-findings.ensures.same) (is.1 ∙ got.1) put.0 put.1,
+      _,
+      (
+        c.in_ok-findings.findings.from,
+        c.in_ok-findings.findings.until,
+        c.in_ok-findings.findings.comparison,
+        rows_put c.args.compare.now c.args.recordings.now _ _ _ _ _ _ _ _ _ found (KeepsFiles-trans _ _ _ c.in_ok-table.ensures.same c.in_ok-findings.ensures.same) (is.1 ∙ got.1) put.0 put.1,
+        refl,
+        sym c.conforms.ensures ∙ c.if-conforms.false,
+      ),
       written,
-      sym c.conforms.ensures ∙ c.if-conforms.false,
     )

@@ -1,5 +1,4 @@
-use Rattle.std.proofs.Common.{◌≡◌, ◌∙◌, refl, get_or, inl, sym, ap, subst, String, Global, string_bytes, arith}
-use Rattle.afdx_folder.specs.Files.{IsCause}
+use Rattle.std.proofs.Common.{◌≡◌, ◌∙◌, refl, get_or, inl, ap, subst, String, Global, string_bytes, arith}
 use Rattle.afdx_serve.specs.Runs.{FailsToGet}
 use Rattle.afdx_serve.proofs.LeadLemmas.{unread_capture, capture_fault, as_many_names}
 use Rattle.afdx_serve.proofs.leading.source_failure.Goals as goal
@@ -13,13 +12,11 @@ returns-in-Read-clause-failed g c = λ files path t readers opened is.
     let names = c.args.names.now in
     let within = rw c.in-Read.is at is in
     let before = g.F.Folder.failed c.args.folder.now in
-    let after = g.F.Folder.failed c.note_unread-fault.new.self in
-    let same = c.deref.ensures ∙ sym c.deref-in-Read.ensures in
-    let cause = subst (λ n. IsCause c.note_unread-fault.result n before after) same c.note_unread-fault.ensures.cause in
-    let at : c.deref-in-Read.result.now ≡ str (get_or names c.in-Read.place c.index-names-place.result) = c.deref-in-Read.ensures ∙ ap str c.index-names-place.is in
-    let fails = subst (λ n. FailsToGet c.get_failure.result n before after) at (c.get_failure.ensures _ _ cause) in
+    let after = g.F.Folder.failed c.unread_failure.new.folder in
+    let at : c.deref.result.now ≡ str (get_or names c.in-Read.place c.index-names-place.result) = c.deref.ensures ∙ ap str c.index-names-place.is in
+    let fails = subst (λ n. FailsToGet c.unread_failure.result n before after) at c.unread_failure.ensures.failed in
     let many = as_many_names str g.F.Opened.Read.remaining files path t names readers opened in
-    inl (unread_capture str g.F.Opened.Read.remaining c.get_failure.result files path t names c.in-Read.place c.index-names-place.result readers before before after opened.named opened.opened
+    inl (unread_capture str g.F.Opened.Read.remaining c.unread_failure.result files path t names c.in-Read.place c.index-names-place.result readers before before after opened.named opened.opened
     (omega (arith, many, within)) refl fails)
 
 pub returns-in-Capture-clause-failed : goal.returns-in-Capture-clause-failed

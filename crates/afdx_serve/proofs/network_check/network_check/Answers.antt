@@ -23,4 +23,4 @@ returns-in_err-write_bytes g c =
     let text = c.in_ok-text.ensures in
     let prefix = rw c.as_bytes.ensures.value at c.in_err-write_bytes.ensures.prefix in
     of_error _ _ _ Write c.from_residual-in_err-write_bytes.ensures
-    (c.in_ok-network.network, string_bytes c.in_ok-text.text, got.got.0, text.0, text.1, prefix, (got.same, got.got.1))
+    ((string_bytes c.in_ok-text.text, (c.in_ok-network.network, got.got.0, text.0, text.1), prefix), (got.same, got.got.1))

@@ -1,4 +1,4 @@
-use Rattle.std.proofs.Common.{◌≡◌, map, string_bytes, refl, inr, rules}
+use Rattle.std.proofs.Common.{◌≡◌, map, string_bytes, refl, inl, inr, rules}
 use Rattle.std.proofs.KnownBytes.{Keeps-refl}
 use Rattle.afdx_network_check.specs.Needs.{all_past}
 use Rattle.afdx_messages.specs.declared.failure.Failure.TheVariants.{Write}
@@ -29,15 +29,15 @@ returns-in_err-write_bytes g c =
     let needs = c.in_ok-needs.needs in
     let prefix = rw c.as_bytes.ensures.value at c.in_err-write_bytes.ensures.prefix in
     let reported : string_bytes c.in_ok-text.text ≡ needs_text c.args.form (names_of net.layout.switches) needs.rows.items = search rules in
-    of_error _ _ _ Write c.from_residual-in_err-write_bytes.ensures (
-      net,
-      needs.rows.items,
-      needs.past,
-      string_bytes c.in_ok-text.text,
-      record { has_network = got.got.0; fits = c.in_default.ensures.0; needs = c.in_ok-needs.ensures; reported = reported },
-      prefix,
+    of_error _ _ _ Write c.from_residual-in_err-write_bytes.ensures
+    (inl (
+      (
+        string_bytes c.in_ok-text.text,
+        (net, needs.rows.items, needs.past, record { has_network = got.got.0; fits = c.in_default.ensures.0; needs = c.in_ok-needs.ensures; reported = reported }),
+        prefix,
+      ),
       (got.same, got.got.1),
-    )
+    ))
 
 pub returns-in-Some : goal.returns-in-Some
 returns-in-Some g c =
@@ -53,7 +53,7 @@ returns-in-Some g c =
       net,
       needs.rows.items,
       c.in-Some.field-0,
-      (string_bytes c.in_ok-text.text, record { has_network = got.got.0; fits = c.in_default.ensures.0; needs = are; reported = reported }, all, (got.same, got.got.1)),
+      ((string_bytes c.in_ok-text.text, record { has_network = got.got.0; fits = c.in_default.ensures.0; needs = are; reported = reported }, all), (got.same, got.got.1)),
       (refl, rows, named),
     )
 
@@ -67,10 +67,5 @@ returns-in-None g c =
     let are = rw c.in-None.is at c.in_ok-needs.ensures in (
       net,
       needs.rows.items,
-      (
-        string_bytes c.in_ok-text.text,
-        record { has_network = got.got.0; fits = c.in_default.ensures.0; needs = are; reported = reported },
-        all,
-        (got.same, got.got.1),
-      ),
+      ((string_bytes c.in_ok-text.text, record { has_network = got.got.0; fits = c.in_default.ensures.0; needs = are; reported = reported }, all), (got.same, got.got.1)),
     )

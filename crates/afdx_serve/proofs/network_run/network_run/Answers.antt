@@ -143,10 +143,10 @@ returns-in_err-write_bytes g c =
     let p = (goal.at.returns-in_err-write_bytes g c).After-deref-8 in
     let q = (goal.at.returns-in_err-write_bytes g c).After-deref-7 in
     of_error _ _ _ Write c.from_residual-in_err-write_bytes.ensures
-    (c.in_ok-network.network, c.in_ok-files.ensures.led.0.0, puts g p (led g q) (outputs_are g q), rw (text_is g p) at c.in_err-write_bytes.ensures.prefix)
+    (_, (c.in_ok-network.network, c.in_ok-files.ensures.led.0.0, puts g p (led g q) (outputs_are g q), refl), rw (text_is g p) at c.in_err-write_bytes.ensures.prefix)
 
 pub returns : goal.returns
 returns g c =
     let p = (goal.at.returns g c).After-deref-8 in
     let q = (goal.at.returns g c).After-deref-7 in
-    (c.in_ok-network.network, c.in_ok-files.ensures.led.0.0, puts g p (led g q) (outputs_are g q), rw (text_is g p) at c.in_ok-write_bytes.ensures.all)
+    (_, (c.in_ok-network.network, c.in_ok-files.ensures.led.0.0, puts g p (led g q) (outputs_are g q), refl), rw (text_is g p) at c.in_ok-write_bytes.ensures.all)

@@ -19,7 +19,7 @@ returns-in_err-write_bytes g c =
     let prefix = rw c.as_bytes.ensures.value at c.in_err-write_bytes.ensures.prefix in
     let text = rw (c.deref-2.ensures.value, named, c.tables.ensures.tables) at c.in_ok-text.ensures in
     of_error _ _ _ Write c.from_residual-in_err-write_bytes.ensures
-    (c.in_ok-network.network, string_bytes c.in_ok-text.text, got.got.0, text, prefix, (got.same, got.got.1))
+    ((string_bytes c.in_ok-text.text, (c.in_ok-network.network, got.got.0, text), prefix), (got.same, got.got.1))
 
 pub returns : goal.returns
 returns g c =
@@ -27,4 +27,4 @@ returns g c =
     let named : map string_bytes c.in_ok-names.names.items ≡ names_of c.in_ok-network.network.layout.switches = search rules in
     let written = rw c.as_bytes.ensures.value at c.in_ok-write_bytes.ensures.all in
     let text = rw (c.deref-2.ensures.value, named, c.tables.ensures.tables) at c.in_ok-text.ensures in
-    (c.in_ok-network.network, string_bytes c.in_ok-text.text, got.got.0, text, written, (got.same, got.got.1))
+    ((string_bytes c.in_ok-text.text, (c.in_ok-network.network, got.got.0, text), written), (got.same, got.got.1))

@@ -42,11 +42,11 @@ returns-in_err-write_bytes g c =
     let planned = c.in_ok-planned.ensures in
     let ran = c.in_ok-text.ensures in
     of_error _ _ _ Write c.from_residual-in_err-write_bytes.ensures
-    (c.in_ok-text.text.items, surveyed g p, rw c.deref.ensures.value at c.in_err-write_bytes.ensures.prefix, (KeepsFiles-trans _ _ _ planned.same ran.same, ran.led.1 ∙ planned.got.1))
+    ((c.in_ok-text.text.items, surveyed g p, rw c.deref.ensures.value at c.in_err-write_bytes.ensures.prefix), (KeepsFiles-trans _ _ _ planned.same ran.same, ran.led.1 ∙ planned.got.1))
 
 pub returns : goal.returns
 returns g c =
     let p = (goal.at.returns g c).In_ok-text in
     let planned = c.in_ok-planned.ensures in
     let ran = c.in_ok-text.ensures in
-    (c.in_ok-text.text.items, surveyed g p, rw c.deref.ensures.value at c.in_ok-write_bytes.ensures.all, (KeepsFiles-trans _ _ _ planned.same ran.same, ran.led.1 ∙ planned.got.1))
+    ((c.in_ok-text.text.items, surveyed g p, rw c.deref.ensures.value at c.in_ok-write_bytes.ensures.all), (KeepsFiles-trans _ _ _ planned.same ran.same, ran.led.1 ∙ planned.got.1))

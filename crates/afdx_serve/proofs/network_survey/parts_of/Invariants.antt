@@ -8,5 +8,5 @@ invariant-loop-both l = record {
   whole : l.yielded ++ into_iter_items l.both-iterator ≡ into_iter_items l.initial.both-iterator;
   left : into_iter_len l.both-iterator ≡ length (into_iter_items l.both-iterator);
   count : l.switch ≡ length l.yielded;
-  parts : ArePartsOf (map string_bytes l.names) l.yielded l.parts;
+  parts : ArePartsOf l.form (map string_bytes l.names) l.yielded l.parts;
 }

@@ -1,4 +1,4 @@
-use Rattle.std.proofs.Common.{◌∙◌, ap, sym, None}
+use Rattle.std.proofs.Common.{◌∙◌, ap, sym, refl, None}
 use Rattle.std.proofs.KnownBytes.{Keeps-refl}
 use Rattle.std.proofs.lemmas.List.{length-map}
 use Rattle.afdx_messages.specs.declared.failure.Failure.TheVariants.{Write}
@@ -39,7 +39,7 @@ returns-in_err-write_bytes g c =
     let put = rw l.named at puts (g.F.Folder.files c.args.folder.now) (bytes_of_captures l.results.captures) keeps (l.many ∙ length-map _ _) l.have in
     let written = rw (c.as_bytes.ensures.value ∙ is.0.2.text ∙ ap (text_of c.args.options.now) l.counted) at c.in_err-write_bytes.ensures.prefix in
     of_error _ _ _ Write c.from_residual-in_err-write_bytes.ensures
-    (l.results, all_put c.args.paths.now l.results _ _ _ _ _ _ l.leads (KeepsFiles-refl _) (is.1 ∙ got.1) put.0 put.1 None None, written)
+    (_, (_, (l.results, all_put c.args.paths.now l.results _ _ _ _ _ _ l.leads (KeepsFiles-refl _) (is.1 ∙ got.1) put.0 put.1 None None, refl, refl), written))
 
 pub returns-then-report : goal.returns-then-report
 returns-then-report g c =
@@ -51,7 +51,7 @@ returns-then-report g c =
     let put = rw l.named at puts (g.F.Folder.files c.args.folder.now) (bytes_of_captures l.results.captures) keeps (l.many ∙ length-map _ _) l.have in
     let written = rw (c.as_bytes.ensures.value ∙ is.0.2.text ∙ ap (text_of c.args.options.now) l.counted) at c.in_ok-write_bytes.ensures.all in
     let found = sym (is.0.2.found ∙ ap (λ (counts : Tally). is_found c.args.options.now.fail_on (verdict_of counts)) l.counted) ∙ c.if-report.true in
-    (l.results, all_put c.args.paths.now l.results _ _ _ _ _ _ l.leads (KeepsFiles-refl _) (is.1 ∙ got.1) put.0 put.1 None None, written, found)
+    (_, (l.results, all_put c.args.paths.now l.results _ _ _ _ _ _ l.leads (KeepsFiles-refl _) (is.1 ∙ got.1) put.0 put.1 None None, refl, found), written)
 
 pub returns : goal.returns
 returns g c =
@@ -63,4 +63,4 @@ returns g c =
     let put = rw l.named at puts (g.F.Folder.files c.args.folder.now) (bytes_of_captures l.results.captures) keeps (l.many ∙ length-map _ _) l.have in
     let written = rw (c.as_bytes.ensures.value ∙ is.0.2.text ∙ ap (text_of c.args.options.now) l.counted) at c.in_ok-write_bytes.ensures.all in
     let found = sym (is.0.2.found ∙ ap (λ (counts : Tally). is_found c.args.options.now.fail_on (verdict_of counts)) l.counted) ∙ c.if-report.false in
-    (l.results, all_put c.args.paths.now l.results _ _ _ _ _ _ l.leads (KeepsFiles-refl _) (is.1 ∙ got.1) put.0 put.1 None None, written, found)
+    (_, (l.results, all_put c.args.paths.now l.results _ _ _ _ _ _ l.leads (KeepsFiles-refl _) (is.1 ∙ got.1) put.0 put.1 None None, refl, found), written)

@@ -1,64 +1,65 @@
--- What is reported of the run of a network of which nothing is put: the rows of a survey, and the whole, in a form.
-use Rattle.std.proofs.Common.{◌≡◌, ℕ, ◌<◌, Bool, List, [], ◌∷◌, ◌++◌, length, Option, Result, Ok, Err, Vec, string_bytes, refl, ap, sym, ◌∙◌, subst}
+-- What is written of the run of a network of which nothing is put: the parts of a survey, and the whole, in a form.
+use Rattle.std.proofs.Common.{◌≡◌, ℕ, ◌<◌, Bool, List, [], ◌∷◌, ◌++◌, length, Option, Result, Ok, Err, Vec, refl, ap, sym, ◌∙◌, subst}
 use Rattle.std.specs.Prelude.{MatchResult}
-use Rattle.std.proofs.lemmas.List.{append_assoc}
+use Rattle.std.proofs.lemmas.List.{append_assoc, append-nil}
 use Rattle.afdx_core.specs.State.{State}
 use Rattle.afdx_count.specs.Tally.{Tally}
-use Rattle.afdx_csv.specs.Csv.{heading}
 use Rattle.afdx_csv.specs.declared.form.Form.{Form}
-use Rattle.afdx_csv.specs.declared.form.Form.TheVariants.{Csv}
 use Rattle.afdx_messages.specs.declared.failure.Failure.{Failure}
 use Rattle.afdx_messages.specs.declared.failure.Failure.TheVariants as failure
 use Rattle.afdx_folder.specs.Files.{Files, DeviceLog}
 use Rattle.afdx_origins.specs.Origins.{Origins}
 use Rattle.afdx_network_report.specs.Lines.{Names, name_of}
 use Rattle.afdx_network_report.specs.declared.link_ends.LinkEnd.{LinkEnd}
-use Rattle.afdx_rows.specs.Counts.{counts_rows}
-use Rattle.afdx_rows.specs.Delays.{network_measure_columns, buffers_rows}
-use Rattle.afdx_rows.specs.Spells.{network_survey_columns, policing_rows}
+use Rattle.afdx_rows.specs.Delays.{network_measure_columns}
+use Rattle.afdx_rows.specs.Spells.{network_survey_columns}
 use Rattle.afdx_network_check.specs.Net.{Network}
-use Rattle.afdx_serve.specs.declared.network_survey.SwitchRows.{SwitchRows}
-use Rattle.afdx_serve.specs.NetworkMeasures.{AreEndsOf, HaveEnds, heading_in, buffers_in, counts_in, policing_in, WatchesFrom, HasMeasuredText, HasSurveyText}
-use Rattle.afdx_serve.specs.NetworkRuns.{FailsToGetGiven}
-use Rattle.afdx_serve.specs.Inner.Watching.{HasMeasured, HasRowsMore, AreRowsOf}
+use Rattle.afdx_serve.specs.declared.network_survey.Parts.{Parts}
+use Rattle.afdx_serve.specs.Checks.{heading_in}
+use Rattle.afdx_serve.specs.NetworkMeasures.{AreEndsOf, HaveEnds, buffers_of, spells_of, buffers_in, counts_in, policing_in, WatchesFrom, HasMeasuredText, HasSurveyText}
+use Rattle.afdx_serve.specs.NetworkRuns.{counts_of, FailsToGetGiven}
+use Rattle.afdx_serve.specs.Inner.Watching.{HasMeasured, HasPartsMore, ArePartsOf}
 use Rattle.afdx_serve.proofs.NetworkMeasureLemmas.{none_said, one_more_said_of}
 
--- ---- the rows of a survey
+-- ---- the parts of a survey
 
-abbrev counted : List ℕ → Tally → State → List ℕ
-counted name counts s = counts_rows network_survey_columns name counts
+abbrev counted : Form → List ℕ → Tally → State → List ℕ
+counted form name counts s = counts_of form network_survey_columns name counts
 
-abbrev filled : List ℕ → Tally → State → List ℕ
-filled name counts s = buffers_rows network_survey_columns name s.run
+abbrev filled : Form → List ℕ → Tally → State → List ℕ
+filled form name counts s = buffers_of form network_survey_columns name s
 
-abbrev policed : List ℕ → Tally → State → List ℕ
-policed name counts s = policing_rows name s.run
+abbrev policed : Form → List ℕ → Tally → State → List ℕ
+policed form name counts s = spells_of form name s
 
-pub no_rows : (names : Names) (r : SwitchRows) → string_bytes r.counts ≡ [] → string_bytes r.buffers ≡ [] → string_bytes r.policing ≡ [] → AreRowsOf names [] r
-no_rows names r counts buffers policing = record {
-  counts = counts ∙ sym (none_said counted names);
-  buffers = buffers ∙ sym (none_said filled names);
-  policing = policing ∙ sym (none_said policed names);
-}
+pub no_parts : (form : Form) (names : Names) (p : Parts) → p.counts.items ≡ heading_in form network_survey_columns → p.buffers.items ≡ [] → p.policing.items ≡ [] → ArePartsOf form names [] p
+no_parts form names p counts buffers policing =
+    let head = heading_in form network_survey_columns in
+    record {
+      counts = counts ∙ sym (ap (λ (more : List ℕ). head ++ more) (none_said (counted form) names) ∙ append-nil head);
+      buffers = buffers ∙ sym (none_said (filled form) names);
+      policing = policing ∙ sym (none_said (policed form) names);
+    }
 
-pub rows_more : (names : Names) (switches : List (Tally × State)) (both : Tally × State) (switch : ℕ) (name : List ℕ) (old new : SwitchRows) → switch ≡ length switches → switch < length names
-    → name ≡ name_of names switch → AreRowsOf names switches old → HasRowsMore name both.0 both.1 old new → AreRowsOf names (switches ++ both ∷ []) new
-rows_more names switches both switch name old new count lt named was more = record {
-  counts = one_more_said_of counted names switches both switch [] _ _ name count lt named was.counts more.counts_are;
-  buffers = one_more_said_of filled names switches both switch [] _ _ name count lt named was.buffers more.buffers;
-  policing = one_more_said_of policed names switches both switch [] _ _ name count lt named was.policing more.policing;
-}
+pub parts_more : (form : Form) (names : Names) (switches : List (Tally × State)) (both : Tally × State) (switch : ℕ) (name : List ℕ) (old new : Parts) → switch ≡ length switches
+    → switch < length names → name ≡ name_of names switch → ArePartsOf form names switches old → HasPartsMore form name both.0 both.1 old new → ArePartsOf form names (switches ++ both ∷ []) new
+parts_more form names switches both switch name old new count lt named was more =
+    let head = heading_in form network_survey_columns in
+    record {
+      counts = one_more_said_of (counted form) names switches both switch head _ _ name count lt named was.counts more.counts_are;
+      buffers = one_more_said_of (filled form) names switches both switch [] _ _ name count lt named was.buffers more.buffers;
+      policing = one_more_said_of (policed form) names switches both switch [] _ _ name count lt named was.policing more.policing;
+    }
 
--- they are joined below a heading, with other rows after the counts
-pub rows_joined : (names : Names) (switches : List (Tally × State)) (r : SwitchRows) (ends headed text : List ℕ) → AreRowsOf names switches r → headed ≡ heading network_survey_columns
-    → text ≡ (((headed ++ string_bytes r.counts) ++ ends) ++ string_bytes r.buffers) ++ string_bytes r.policing
-    → text ≡ heading network_survey_columns ++ counts_in Csv names switches ++ (ends ++ buffers_in Csv network_survey_columns names switches) ++ policing_in Csv names switches
-rows_joined names switches r ends headed text are begun is =
-    let head = heading network_survey_columns in
-    let counts = counts_in Csv names switches in
-    let buffers = buffers_in Csv network_survey_columns names switches in
-    let policing = policing_in Csv names switches in
-    rw (begun, are.counts, are.buffers, are.policing) at is ∙ ap (λ (t : List ℕ). t ++ policing) (append_assoc (head ++ counts) ends buffers)
+-- they are joined, with what is written of ends after the counts
+pub survey_joined : (form : Form) (names : Names) (switches : List (Tally × State)) (p : Parts) (ends text : List ℕ) → ArePartsOf form names switches p
+    → text ≡ ((p.counts.items ++ ends) ++ p.buffers.items) ++ p.policing.items
+    → text ≡ heading_in form network_survey_columns ++ counts_in form names switches ++ (ends ++ buffers_in form network_survey_columns names switches) ++ policing_in form names switches
+survey_joined form names switches p ends text are is =
+    let counts = heading_in form network_survey_columns ++ counts_in form names switches in
+    let buffers = buffers_in form network_survey_columns names switches in
+    let policing = policing_in form names switches in
+    rw (are.counts, are.buffers, are.policing) at is ∙ ap (λ (t : List ℕ). t ++ policing) (append_assoc counts ends buffers)
 
 -- ---- the whole, in a form
 

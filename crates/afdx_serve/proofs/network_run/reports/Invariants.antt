@@ -1,7 +1,0 @@
-use Rattle.std.proofs.Common.{◌≡◌, List, map, take, string_bytes}
-use Rattle.afdx_session.specs.Outcome.{Results}
-use Rattle.afdx_serve.specs.NetworkRuns.{reports_of}
-use Rattle.afdx_serve.proofs.network_run.reports.Given as goal
-
-abbrev pub invariant-loop-switch : goal.invariant-loop-switch
-invariant-loop-switch l = (left : List Results) → l.counts ≡ map (λ r. r.counts) left → l.text.items ≡ reports_of (map string_bytes l.names) (take l.switch left)

@@ -1,5 +1,0 @@
-use Rattle.std.proofs.Common.{◌∙◌}
-use Rattle.afdx_serve.proofs.network_survey.push_policing.Goals as goal
-
-pub returns : goal.returns
-returns c = rw (c.deref.ensures ∙ c.in_ok-lines.ensures) at c.push_report.ensures
