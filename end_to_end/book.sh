@@ -1,9 +1,9 @@
 #!/usr/bin/env bash
 # The pages against the repository: the quotes of docs/trust are what their sources have, and its counts of definitions are right; all
 # that the contracts of `run`, `Session` and `serve` rest on is quoted; the maps of crates are those of crates.txt; the examples on the
-# crates' front pages are what tests run; numbers that stand in the code and on a page are the same, and so is the version; each wrong
-# body can be applied and PROOFS names it; the contracts that pages claim are there, and say what they said; and no page names a file or
-# a section that is not there.
+# crates' front pages are what tests run; numbers that stand in the code and on a page are the same, and so is the version; the
+# docstring of each function begins with a verb; each wrong body can be applied and PROOFS names it; the contracts that pages claim are
+# there, and say what they said; and no page names a file or a section that is not there.
 . "$(dirname "$0")/common.sh"
 install python3=python3
 export PYTHONDONTWRITEBYTECODE=1 LC_ALL=C.UTF-8
@@ -15,6 +15,7 @@ check "the examples on the crates' front pages are what tests run" python3 docs/
 check "what \`afdx explain\` prints is in MESSAGES" python3 docs/develop/remedies.py --check
 check "numbers on the pages are the constants of the code" python3 end_to_end/constants.py
 check "the version is that of the code" python3 end_to_end/versions.py
+check "the docstring of each function begins with a verb" python3 end_to_end/docstrings.py
 check "each wrong body can be applied, and PROOFS names it" python3 end_to_end/edits.py
 
 # --- what turns, in a copy ---
@@ -31,6 +32,11 @@ turned_by() {
     python3 "$room/tree/${words[0]}" "${words[@]:1}" >"$room/answer.txt" 2>&1 || status=$?
     cat "$room/answer.txt" && cp "$2" "$room/tree/$2" && [ "$status" -eq 1 ] && grep -qF -- "$5" "$room/answer.txt"
 }
+
+# --- docstrings ---
+
+check "a docstring that begins with no verb" turned_by end_to_end/docstrings.py crates/afdx_past/src/history.rt \
+    '\/\/\/ Returns the item at' '\/\/\/ The item at' "the docstring of a function begins with 'The'"
 
 # --- examples on front pages ---
 

@@ -18,7 +18,7 @@ use std::io::IsTerminal;
 use std::process::ExitCode;
 use std::{env, io};
 
-/// The arguments of the command line, of which the first is the program's name. Arguments that are not UTF-8 are refused.
+/// Returns the arguments of the command line, of which the first is the program's name. Arguments that are not UTF-8 are refused.
 fn arguments(rt: &HostRuntime) -> Result<Vec<String>, Failure> {
     match env::args(rt) {
         Ok(arguments) => Ok(arguments.collect(rt.alloc())?),

@@ -21,7 +21,7 @@ pub enum Account {
 }
 
 impl Account {
-    /// A full account for frames of at most `max_size` bytes, at most 1518, with a jitter of at most 10 ms.
+    /// Makes a full account for frames of at most `max_size` bytes (at most 1518), with a jitter of at most 10 ms.
     pub fn new(police: Police, max_size: u32, bag: Bag, jitter_ns: u64) -> Account
         requires size_limit { max_size ≤ greatest_size }
         requires jitter_limit { jitter_ns ≤ 10000000 }

@@ -27,7 +27,7 @@ pub struct ByteAccount {
 }
 
 impl ByteAccount {
-    /// A full account for frames of at most `max_size` bytes, at most 1518, with a jitter of at most 10 ms.
+    /// Makes a full account for frames of at most `max_size` bytes (at most 1518), with a jitter of at most 10 ms.
     pub fn new(max_size: u32, bag: Bag, jitter_ns: u64) -> ByteAccount
         requires size_limit { max_size ≤ greatest_size }
         requires jitter_limit { jitter_ns ≤ 10000000 }

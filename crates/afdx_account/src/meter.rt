@@ -9,7 +9,7 @@ ghost use Rattle.afdx_account.specs.Level.{PassesWhatConforms, credited_level};
 use afdx_units::{Speed, Stamp};
 
 /// The account of one virtual link: it holds units, is credited over time up to a greatest level, and passes
-/// a frame where its level is at least the frame's price (profile).
+/// a frame if its level is at least the frame's price (profile).
 ///
 /// Every call is O(1) and takes no memory.
 pub trait Meter {
@@ -22,39 +22,39 @@ pub trait Meter {
     /// Its level at an instant.
     ghost level: { Self → ℕ → ℕ };
 
-    /// Line time that a unit is worth, in the 2,048,000,000th part of a nanosecond.
+    /// Line time that a unit is worth, in 2,048,000,000ths of a nanosecond.
     ghost weight_of: { Self → Speed → ℕ };
 
     /// The greatest size in bytes that its link allows.
     ghost greatest: { Self → ℕ };
 
-    /// The greatest level, in units.
+    /// Returns the greatest level, in units.
     fn cap(&self) -> u64
         ensures { result ≡ (terms self.now).cap };
 
-    /// Units that are credited in each nanosecond.
+    /// Returns how many units are credited in each nanosecond.
     fn rate(&self) -> u64
         ensures { result ≡ (terms self.now).rate };
 
-    /// Units that a frame of this size in bytes costs.
+    /// Returns how many units a frame of this size in bytes costs.
     fn price(&self, size: u32) -> u64
         ensures { result ≡ (terms self.now).price size };
 
-    /// The level, in units, at an instant that isn't before the last offer.
+    /// Returns the level, in units, at an instant that is not before the last offer.
     fn level_at(&self, at: Stamp) -> u64
         requires { since self.now ≤ at }
         ensures { result ≡ level self.now at };
 
-    /// Line time that a unit is worth, in the 2,048,000,000th part of a nanosecond.
+    /// Returns the line time that a unit is worth at a speed, in 2,048,000,000ths of a nanosecond.
     fn weight(&self, speed: Speed) -> u64
         ensures { result ≡ weight_of self.now speed };
 
-    /// Passes a frame of this size in bytes where the level is at least its price, and debits the price;
-    /// otherwise leaves the level alone. Stamps of offers don't go back.
+    /// Passes a frame of this size in bytes if the level is at least its price, and debits the price;
+    /// otherwise leaves the level alone. Returns whether it passes the frame. Stamps of offers do not go back.
     fn offer(&mut self, at: Stamp, size: u32) -> bool
         requires { since self.old ≤ at }
 
-        // The level decides, and is debited where the frame is passed.
+        // The level decides, and is debited if the frame is passed.
         ensures passed { IsTrue result ↔ ((terms self.old).price size ≤ level self.old at) }
         ensures level { level self.new at ≡ (if result then level self.old at - (terms self.old).price size else level self.old at) }
         ensures since { since self.new ≡ at }
@@ -66,7 +66,7 @@ pub trait Meter {
         ensures paid { IsTrue result → (speed : Speed) → least_size ≤ size → size ≤ greatest self.old
             → parts * cost_of speed size + weight_of self.new speed * level self.new at ≤ weight_of self.old speed * level self.old at }
 
-        // Whatever frames were offered to a full account before, the frame is passed exactly where it
+        // Whatever frames were offered to a full account before, the frame is passed if and only if it
         // conforms to those that were passed.
         ensures conforming { PassesWhatConforms (terms self.old) (since self.old) (level self.old (since self.old)) at size result (level self.new at) };
 
@@ -77,7 +77,7 @@ pub trait Meter {
     ghost credited: { (m : Self) (at later : ℕ) → since m ≤ at → at ≤ later
         → level m later ≡ credited_level (terms m) (level m at) (later - at) };
 
-    /// What a frame costs pays for its line time, where the link allows its size.
+    /// What a frame costs pays for its line time, if the link allows its size.
     ghost pays: { (m : Self) (speed : Speed) (size : ℕ) → least_size ≤ size → size ≤ greatest m
         → parts * cost_of speed size ≤ weight_of m speed * (terms m).price size };
 }

@@ -6,8 +6,9 @@ ghost use Rattle.afdx_account.specs.Early.{credit_time, IsEarlyBy};
 use crate::meter::Meter;
 use afdx_units::Stamp;
 
-/// The least nanoseconds later at which an account would pass a frame of this size in bytes, which its link may send at
-/// all, where no frame is passed meanwhile; 0 where it passes the frame at this instant. O(1).
+/// Returns by how many nanoseconds a frame of this size in bytes, which its link may send at all, comes too early at an
+/// instant: the least time after which an account would pass it, if no frame is passed meanwhile; 0 if the account
+/// passes it at this instant. O(1).
 pub fn early_by<M: Meter>(meter: &M, at: Stamp, size: u32) -> u64
     requires in_order { M.since meter.now ≤ at }
     requires credited { 0 < (M.terms meter.now).rate }

@@ -13,17 +13,17 @@ use afdx_pcap::laws::{early_faults_stay, rests_are_read_on};
 use std::alloc::Allocator;
 use std::io::Read;
 
-/// Polices one link by itself: the capture of those of its own frames that its account passes, in order,
-/// their stamps and bytes unchanged.
+/// Polices one link by itself, and returns the capture of those of its own frames that its account passes, in order,
+/// with their stamps and bytes unchanged.
 ///
-/// A frame is the link's own where its verdict would be Clean in a table of the constant `03 00 00 00`
+/// A frame is the link's own if its verdict would be Clean in a table of the constant `03 00 00 00`
 /// with this one link, coming from this capture's port (profile): the law `own_frames_are_clean`.
 ///
 /// # Errors
 ///
-/// `Capture` with the first fault of an input that is no capture; `Memory` where memory ran out.
+/// `Capture` with the first fault of an input that is no capture; `Memory` if memory ran out.
 ///
-/// One pass; a frame's bytes are copied once, into the answer, where it passes. O(frames + bytes of the answer).
+/// One pass; a frame's bytes are copied once, into the answer, if it passes. O(frames + bytes of the answer).
 pub fn alone<A: Allocator>(alloc: A, link: &Alone, input: &[u8]) -> Result<Vec<u8, A>, AloneFault>
     ensures answer { IfOk result (λ v. IsAnswer link.now input.now v.items) }
     ensures fault { IfErr result (IsFaultOf input.now) }
@@ -33,15 +33,15 @@ pub fn alone<A: Allocator>(alloc: A, link: &Alone, input: &[u8]) -> Result<Vec<u
     Ok(policing.into_answer())
 }
 
-/// The same of a capture that a reader gives, by at most 16,777,216 reads of at most 65,536 bytes (profile). It keeps the
-/// answer, and of the input no more than 327,696 bytes.
+/// Polices one link by itself as `alone` does, over a capture that a reader gives, by at most 16,777,216 reads of at most
+/// 65,536 bytes (profile). It keeps the answer, and of the input no more than 327,696 bytes.
 ///
 /// # Errors
 ///
-/// `Device` where a read fails or all reads are used up; `Capture` with the first fault of an input that is no capture, as
-/// soon as no further bytes can mend it; `Memory` where memory ran out. Some of the input may then not have been read.
+/// `Device` if a read fails or all reads are used up; `Capture` with the first fault of an input that is no capture, as
+/// soon as no further bytes can mend it; `Memory` if memory ran out. Some of the input may then not have been read.
 ///
-/// One pass; a frame's bytes are copied once, into the answer, where it passes. O(input).
+/// One pass; a frame's bytes are copied once, into the answer, if it passes. O(input).
 pub fn read_alone<R: Read, A: Allocator + Copy>(
     alloc: A,
     link: &Alone,

@@ -2,8 +2,8 @@
 
 ghost use Rattle.afdx_alone.specs.Inner.OwnClean.{OwnFramesAreClean};
 
-/// A frame is a link's own exactly where it is clean in a table of the profile's constant that has this link alone, coming
-/// in at the link's port.
+/// Proves that a frame is a link's own exactly if it is clean in a table of the profile's constant that has this link alone,
+/// coming in at the link's port.
 pub fn own_frames_are_clean()
     ensures { OwnFramesAreClean }
 {}

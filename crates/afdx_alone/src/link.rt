@@ -26,7 +26,7 @@ impl Alone {
     ghost use Rattle.afdx_alone.specs.declared.link.Alone.{Alone as Link};
     ghost use Rattle.afdx_alone.specs.Link.{HasNumbers};
 
-    /// The link of these numbers (gap in ms, jitter in µs, size in bytes); `None` where one is out of its limits. O(1).
+    /// Returns the link of these numbers (gap in ms, jitter in µs, size in bytes); `None` if one is out of its limits. O(1).
     pub fn of_numbers(id: u64, bag: u64, jitter: u64, size: u64) -> Option<Alone>
         ensures { MatchOption result ((link : Link) → HasNumbers link id bag jitter size → ⊥)
             (λ link. HasNumbers link id bag jitter size) }

@@ -13,14 +13,14 @@ use std::alloc::Allocator;
 /// The constant field of every link (profile).
 const CONSTANT: [u8; 4] = [3, 0, 0, 0];
 
-/// The size in bytes of a captured frame.
+/// Returns the size in bytes of a captured frame.
 pub(crate) fn frame_size<A: Allocator>(frame: &Record<'_, A>) -> u32
     ensures { result ≡ size_of (length frame.now.bytes) }
 {
     size(frame.bytes().len() as u32)
 }
 
-/// Whether the destination address is that of the link of this number.
+/// Returns whether the destination address is that of the link of this number.
 fn is_addressed(bytes: &[u8], id: u16) -> bool
     requires { 6 ≤ length bytes.now }
     ensures { result ≡ is_addressed id bytes.now }
@@ -29,7 +29,7 @@ fn is_addressed(bytes: &[u8], id: u16) -> bool
     address.constant() == CONSTANT && address.link() == id
 }
 
-/// Whether a frame is the link's own: whole, of a size that frames have, addressed to the link, and not
+/// Returns whether a frame is the link's own: whole, of a size that frames have, addressed to the link, and not
 /// too big for it.
 pub(crate) fn is_own<A: Allocator>(link: &Alone, frame: &Record<'_, A>) -> bool
     ensures { result ≡ is_own link.now frame.now }

@@ -29,7 +29,7 @@ use std::alloc::{AllocError, Allocator};
 pub(crate) struct Policing<A: Allocator> {
     /// The capture's format, once its header was read.
     pub(crate) format: Option<Format>,
-    /// The stamp of the last record that was read, 0 where there is none.
+    /// The stamp of the last record that was read, 0 if there is none.
     pub(crate) last: Stamp,
     /// How many records were read.
     pub(crate) count: usize,
@@ -37,7 +37,7 @@ pub(crate) struct Policing<A: Allocator> {
     pub(crate) answer: Vec<u8, A>,
 }
 
-/// Offers a frame that is the link's own to its account, and says whether it passes it.
+/// Offers a frame to the link's account if it is the link's own, and returns whether the account passes it.
 fn passes<A: Allocator>(link: &Alone, account: &mut ByteAccount, frame: &Record<'_, A>) -> bool
     requires { byte_account_since account.old ≤ frame.now.stamp }
     ensures own { IsTrue (is_own link.now frame.now) → IsOffered account.old account.new (frame_of frame.now) result }
@@ -48,7 +48,7 @@ fn passes<A: Allocator>(link: &Alone, account: &mut ByteAccount, frame: &Record<
     is_own(link, frame) && account.offer(frame.stamp(), frame_size(frame))
 }
 
-/// The laws of the crates below that the policing of a capture rests on.
+/// Gathers the laws of the crates below on which the policing of a capture rests.
 fn ground<A: Allocator>()
     ensures { Ground }
 {
@@ -59,7 +59,7 @@ fn ground<A: Allocator>()
     rests_are_read_on();
 }
 
-/// A fault, unless these bytes wait for more that can mend it.
+/// Returns these bytes if they wait for more that can mend the fault, and else the fault.
 fn unless_they_wait(bytes: &[u8], fault: PcapFault, ended: bool) -> Result<&[u8], AloneFault>
     ensures { MatchResult result (λ rest. (rest.now ≡ bytes.now) × ((ended || not (is_cut fault)) ≡ false))
         (λ e. (e ≡ fault_of fault) × ((ended || not (is_cut fault)) ≡ true)) }
@@ -72,7 +72,7 @@ fn unless_they_wait(bytes: &[u8], fault: PcapFault, ended: bool) -> Result<&[u8]
 }
 
 impl<A: Allocator> Policing<A> {
-    /// Before anything of a capture was read.
+    /// Makes the policing of a link before anything of its capture was read.
     pub(crate) fn new(alloc: A, link: &Alone) -> Result<Policing<A>, AllocError>
         ensures polices { IfOk result (λ p. (bytes : List ℕ) → Polices link.now bytes bytes p) }
         ensures none { IfOk result (λ p. p.count ≡ 0) }
@@ -88,7 +88,7 @@ impl<A: Allocator> Policing<A> {
         })
     }
 
-    /// Takes the next record. O(its bytes) where it passes, else O(1).
+    /// Takes the next record. O(its bytes) if it passes, else O(1).
     fn offer<B: Allocator>(&mut self, link: &Alone, frame: &Record<'_, B>) -> Result<(), AllocError>
         requires few { self.old.count + 1 < 2 ^ 64 }
         requires order { byte_account_since self.old.account ≤ frame.now.stamp }
@@ -102,7 +102,7 @@ impl<A: Allocator> Policing<A> {
         Ok(())
     }
 
-    /// Takes the whole records at the start of the bytes, and gives what comes after them.
+    /// Takes the whole records at the start of the bytes, and returns what comes after them.
     fn take_records<'b>(
         &mut self,
         link: &Alone,
@@ -133,8 +133,8 @@ impl<A: Allocator> Policing<A> {
         Ok(rest)
     }
 
-    /// Takes what comes next of the capture, as far as it is whole: the header, where it was not read, and records. What comes
-    /// after them is given back, to be taken again with more bytes behind it; none where the input has ended. O(bytes).
+    /// Takes what comes next of the capture, as far as it is whole: the header, if it was not read, and records. Returns what
+    /// comes after them, to be taken again with more bytes after it; none if the input has ended. O(bytes).
     pub(crate) fn take<'b>(
         &mut self,
         link: &Alone,
@@ -161,7 +161,7 @@ impl<A: Allocator> Policing<A> {
         }
     }
 
-    /// The answer to what was read.
+    /// Returns the answer to what was read.
     pub(crate) fn into_answer(self) -> Vec<u8, A>
         ensures { result ≡ self.answer }
     {

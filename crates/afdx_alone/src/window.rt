@@ -26,7 +26,7 @@ pub(crate) struct Window {
 impl Window {
     ghost use Rattle.afdx_alone.specs.Inner.Window.{items};
 
-    /// A window of nothing so far.
+    /// Makes a window of nothing so far.
     pub(crate) fn new() -> Window
         ensures { items result ≡ [] }
     {
@@ -37,7 +37,7 @@ impl Window {
         }
     }
 
-    /// The bytes that were not taken.
+    /// Returns the bytes that were not taken.
     pub(crate) fn as_slice(&self) -> &[u8]
         ensures same { result.now ≡ items self.now }
         ensures few { length result.now ≤ window_size }
@@ -45,7 +45,7 @@ impl Window {
         &self.bytes[self.start..self.end]
     }
 
-    /// What is left is at the front, so that all room is behind it.
+    /// Moves what is left to the front, so that all room is after it.
     fn move_to_front(&mut self)
         ensures items { items self.new ≡ items self.old }
         ensures end { self.new.end ≡ length (items self.old) }
@@ -56,7 +56,7 @@ impl Window {
         self.end = end - start;
     }
 
-    /// Takes all but this many of the bytes, the last ones.
+    /// Takes all bytes but the last, of which it leaves this many.
     pub(crate) fn keep_last(&mut self, left: usize)
         requires { left ≤ length (items self.old) }
         ensures { items self.new ≡ drop (length (items self.old) - left) (items self.old) }
@@ -64,8 +64,8 @@ impl Window {
         self.start = self.end - left;
     }
 
-    /// Reads more behind the bytes that were not taken, of which there are no more than the longest record has. Whether the
-    /// input was at its end; an interrupted read gives nothing.
+    /// Reads more after the bytes that were not taken, of which there are no more than the longest record has, and returns
+    /// whether the input was at its end. An interrupted read gives nothing.
     pub(crate) fn fill<R: Read>(&mut self, input: &mut R) -> Result<bool, ReadFault>
         requires { length (items self.old) ≤ longest_record }
         ensures ok { IfOk result (λ ended. (piece : List ℕ) × (items self.new ≡ items self.old ++ piece)

@@ -25,7 +25,7 @@ use clap::error::ErrorKind;
 use clap::{ArgMatches, Command, Error};
 use std::alloc::{AllocError, Global};
 
-/// The number of an option.
+/// Returns the number of an option, if it has one.
 pub(crate) fn number(matches: &ArgMatches<'_>, name: &str) -> Option<u64>
     ensures { MatchOption result ((n : ℕ) → HasNumber name.now (rows_of (found_of matches.now)) n → ⊥)
         (HasNumber name.now (rows_of (found_of matches.now))) }
@@ -33,14 +33,14 @@ pub(crate) fn number(matches: &ArgMatches<'_>, name: &str) -> Option<u64>
     matches.get_one::<u64>(name)
 }
 
-/// The argument in a place.
+/// Returns the first argument of this name, if there is one.
 pub(crate) fn argument<'a>(matches: &ArgMatches<'a>, name: &str) -> Option<&'a str>
     ensures { option_map (λ w. w.now) result ≡ first_of name.now (rows_of (found_of matches.now)) }
 {
     matches.get_str(name)
 }
 
-/// Whether a flag is set: `clap` gives it as an argument.
+/// Returns whether a flag is set: `clap` gives it as an argument.
 pub(crate) fn flag(matches: &ArgMatches<'_>, name: &str) -> bool
     ensures { result ≡ is_set name.now (rows_of (found_of matches.now)) }
 {
@@ -50,7 +50,7 @@ pub(crate) fn flag(matches: &ArgMatches<'_>, name: &str) -> bool
     }
 }
 
-/// The form of what is written.
+/// Returns the form of what is written.
 pub(crate) fn form_of(matches: &ArgMatches<'_>) -> Form
     ensures { result ≡ form_in (rows_of (found_of matches.now)) }
 {
@@ -61,7 +61,7 @@ pub(crate) fn form_of(matches: &ArgMatches<'_>) -> Form
     }
 }
 
-/// The link of the four options.
+/// Returns the link of the four options, if they have one.
 fn alone_of(matches: &ArgMatches<'_>) -> Option<Alone>
     ensures { MatchOption result ((link : Link) → HasLink (rows_of (found_of matches.now)) link → ⊥)
         (HasLink (rows_of (found_of matches.now))) }
@@ -73,7 +73,7 @@ fn alone_of(matches: &ArgMatches<'_>) -> Option<Alone>
     Alone::of_numbers(id, bag, jitter, size)
 }
 
-/// The files of a run. An empty argument names no folder.
+/// Returns the files of a run, if all are named. An empty argument names no folder.
 fn paths_of<'a>(matches: &ArgMatches<'a>) -> Option<Paths<'a>>
     ensures { MatchOption result ((paths : Files) → HasPaths (rows_of (found_of matches.now)) paths → ⊥)
         (HasPaths (rows_of (found_of matches.now))) }
@@ -93,7 +93,7 @@ fn paths_of<'a>(matches: &ArgMatches<'a>) -> Option<Paths<'a>>
     })
 }
 
-/// The files of a run of which nothing is put. An empty argument names no folder.
+/// Returns the files of a run of which nothing is put, if all are named. An empty argument names no folder.
 fn inputs_of<'a>(matches: &ArgMatches<'a>) -> Option<Inputs<'a>>
     ensures { MatchOption result ((inputs : Given) → HasInputs (rows_of (found_of matches.now)) inputs → ⊥)
         (HasInputs (rows_of (found_of matches.now))) }
@@ -111,7 +111,7 @@ fn inputs_of<'a>(matches: &ArgMatches<'a>) -> Option<Inputs<'a>>
     })
 }
 
-/// What is asked of a run beside its files.
+/// Returns what is asked of a run beside its files; none if the list of `--fail-on` is refused.
 fn options_of(matches: &ArgMatches<'_>) -> Option<RunOptions>
     ensures { MatchOption result ((options : Options) → HasOptions (rows_of (found_of matches.now)) options → ⊥)
         (HasOptions (rows_of (found_of matches.now))) }
@@ -129,7 +129,7 @@ fn options_of(matches: &ArgMatches<'_>) -> Option<RunOptions>
     })
 }
 
-/// The numbers of links that texts are.
+/// Reads texts as the numbers of links, and returns none if one of them is no such number.
 fn links_in(alloc: Global, texts: &[&str]) -> Result<Option<Vec<u16>>, AllocError>
     ensures { IfOk result (λ found. MatchOption found ((links : List ℕ) → AreLinks (map (λ t. t.now) texts.now) links → ⊥)
         (λ links. AreLinks (map (λ t. t.now) texts.now) links.items)) }
@@ -144,7 +144,7 @@ fn links_in(alloc: Global, texts: &[&str]) -> Result<Option<Vec<u16>>, AllocErro
     Ok(Some(links))
 }
 
-/// The links of a trace's options.
+/// Returns the links of a trace's options; none if one of them is no number of a link.
 fn links_of(alloc: Global, matches: &ArgMatches<'_>) -> Result<Option<Vec<u16>>, AllocError>
     ensures { IfOk result (λ found. MatchOption found
         ((links : List ℕ) → AreLinks (unwrap_or (all_of (codes "link") (rows_of (found_of matches.now))) []) links → ⊥)
@@ -156,7 +156,7 @@ fn links_of(alloc: Global, matches: &ArgMatches<'_>) -> Result<Option<Vec<u16>>,
     }
 }
 
-/// What is asked of a trace beside its files.
+/// Returns what is asked of a trace beside its files; none if one of its links is no number of a link.
 fn trace_options_of(
     alloc: Global,
     matches: &ArgMatches<'_>,
@@ -171,7 +171,7 @@ fn trace_options_of(
     Ok(Some(TraceOptions { links, relative }))
 }
 
-/// What the subcommand `trace` asks for.
+/// Returns what the subcommand `trace` asks for, if its arguments are accepted.
 fn trace_asked<'a>(alloc: Global, inner: &ArgMatches<'a>) -> Result<Option<Request<'a>>, AllocError>
     ensures { IfOk result (λ found. MatchOption found ((request : Asked) → AsksFor (Some (codes "trace", rows_of (found_of inner.now))) request → ⊥)
         (AsksFor (Some (codes "trace", rows_of (found_of inner.now))))) }
@@ -185,7 +185,7 @@ fn trace_asked<'a>(alloc: Global, inner: &ArgMatches<'a>) -> Result<Option<Reque
     Ok(Some(Request::Trace(paths, options)))
 }
 
-/// What another subcommand asks for.
+/// Returns what a subcommand other than `alone`, `check`, `size` and `trace` asks for, if it is known and its arguments are accepted.
 fn run_asked<'a>(name: &str, inner: &ArgMatches<'a>) -> Option<Request<'a>>
     requires alone { bytes_eq name.now (codes "alone") ≡ false }
     requires check { bytes_eq name.now (codes "check") ≡ false }
@@ -219,7 +219,7 @@ fn run_asked<'a>(name: &str, inner: &ArgMatches<'a>) -> Option<Request<'a>>
     }
 }
 
-/// What a subcommand other than `trace` asks for.
+/// Returns what a subcommand other than `trace` asks for, if it is known and its arguments are accepted.
 fn other_asked<'a>(name: &str, inner: &ArgMatches<'a>) -> Option<Request<'a>>
     requires { bytes_eq name.now (codes "trace") ≡ false }
     ensures { MatchOption result ((request : Asked) → AsksFor (Some (name.now, rows_of (found_of inner.now))) request → ⊥)
@@ -241,7 +241,7 @@ fn other_asked<'a>(name: &str, inner: &ArgMatches<'a>) -> Option<Request<'a>>
     }
 }
 
-/// What the subcommand that was entered asks for.
+/// Returns what the subcommand that was entered asks for, if there is one and its arguments are accepted.
 fn asked<'a>(alloc: Global, matches: &ArgMatches<'a>) -> Result<Option<Request<'a>>, AllocError>
     ensures { IfOk result (λ found. MatchOption found ((request : Asked) → AsksFor (subcommand_rows_of matches.now) request → ⊥)
         (AsksFor (subcommand_rows_of matches.now))) }
@@ -256,7 +256,7 @@ fn asked<'a>(alloc: Global, matches: &ArgMatches<'a>) -> Result<Option<Request<'
     }
 }
 
-/// What an error of `clap` means.
+/// Returns what an error of `clap` means.
 fn refusal(alloc: Global, error: &Error) -> NoRequest
     ensures { Explains (kind_of error.now) result }
 {
@@ -270,7 +270,7 @@ fn refusal(alloc: Global, error: &Error) -> NoRequest
     }
 }
 
-/// What `clap` finds in arguments, by this command.
+/// Returns what `clap` finds in arguments by this command, or why they ask for no command.
 fn matches_of<'a>(
     alloc: Global,
     command: Command<'a>,
@@ -288,7 +288,7 @@ fn matches_of<'a>(
     }
 }
 
-/// Whether the first argument after the program's name is `network`.
+/// Returns whether the first argument after the program's name is `network`.
 fn is_network(arguments: &[String]) -> bool
     ensures { result ≡ is_network (map string_bytes arguments.now) }
 {
@@ -298,7 +298,7 @@ fn is_network(arguments: &[String]) -> bool
     }
 }
 
-/// What the arguments after `afdx` ask for, of which the first is `network`.
+/// Returns what the arguments after `afdx` ask for, of which the first is `network`.
 fn parse_network<'a>(alloc: Global, arguments: &'a [String]) -> Result<Request<'a>, NoRequest>
     requires { is_network (map string_bytes arguments.now) ≡ true }
     ensures { Reads (map string_bytes arguments.entry.now) result }
@@ -313,7 +313,7 @@ fn parse_network<'a>(alloc: Global, arguments: &'a [String]) -> Result<Request<'
     }
 }
 
-/// What arguments ask for that are of no network.
+/// Returns what arguments that are of no network ask for.
 fn parse_other<'a>(
     alloc: Global,
     version: &'a str,
@@ -333,13 +333,15 @@ fn parse_other<'a>(
     }
 }
 
-/// What the arguments ask for, of which the first is the program's name. `version` is what follows the name in the text of the version.
+/// Returns what the arguments ask for, of which the first is the program's name. `version` is what follows the name in the text of the
+/// version.
 ///
 /// # Errors
 ///
-/// `Help` with its text where `clap` is asked for help or the version; `Memory` where memory ran out; `Usage` where `clap` refuses
-/// the arguments for another cause, an option's number is out of its limits, IN or OUT is empty, the list of what a run is to fail
-/// on has another word or one twice, or a code is none of MESSAGES.
+/// `Help` with its text if `clap` is asked for help or the version; `Memory` if memory ran out; `Usage` if `clap` refuses the arguments
+/// for another cause, an option's number is out of its limits, IN, OUT or the folder of `--rows` is empty, the list of what a run is to
+/// fail on has another word or one twice, a text of `--stamps`, `--offset` or `--ports` is refused, `--rest` and `--from` are both
+/// there, or a code is none of MESSAGES.
 ///
 /// O(arguments).
 pub fn parse<'a>(

@@ -13,7 +13,7 @@ use clap::builder::ValueParser;
 use clap::{Arg, ArgAction, Command};
 use std::alloc::{AllocError, Global};
 
-/// A required option with a whole number of 64 bits. `Alone::of_numbers` alone tests its limits.
+/// Makes a required option with a whole number of 64 bits. `Alone::of_numbers` alone tests its limits.
 fn number_option<'a>(alloc: Global, name: &'a str, value: &'a str, about: &'a str) -> Arg<'a>
     ensures rule { rule_of result ≡ number_rule name.entry.now }
     ensures local { result.global ≡ false }
@@ -26,7 +26,7 @@ fn number_option<'a>(alloc: Global, name: &'a str, value: &'a str, about: &'a st
         .value_parser(ValueParser::unsigned(0, u64::MAX))
 }
 
-/// A required argument in its place.
+/// Makes a required argument in its place.
 pub(crate) fn path<'a>(alloc: Global, name: &'a str, about: &'a str) -> Arg<'a>
     ensures rule { rule_of result ≡ path_rule name.entry.now }
     ensures local { result.global ≡ false }
@@ -34,7 +34,7 @@ pub(crate) fn path<'a>(alloc: Global, name: &'a str, about: &'a str) -> Arg<'a>
     Arg::new(alloc, name).help(about).required(true)
 }
 
-/// A flag.
+/// Makes a flag.
 pub(crate) fn flag<'a>(alloc: Global, name: &'a str, about: &'a str) -> Arg<'a>
     ensures rule { rule_of result ≡ flag_rule name.entry.now }
     ensures local { result.global ≡ false }
@@ -45,7 +45,7 @@ pub(crate) fn flag<'a>(alloc: Global, name: &'a str, about: &'a str) -> Arg<'a>
         .action(ArgAction::SetTrue)
 }
 
-/// The flag for comma-separated values.
+/// Makes the flag for comma-separated values.
 pub(crate) fn csv<'a>(alloc: Global) -> Arg<'a>
     ensures rule { rule_of result ≡ csv_rule }
     ensures local { result.global ≡ false }
@@ -54,7 +54,7 @@ pub(crate) fn csv<'a>(alloc: Global) -> Arg<'a>
     flag(alloc, "csv", about)
 }
 
-/// An option with a text.
+/// Makes an option with a text.
 pub(crate) fn text_option<'a>(
     alloc: Global,
     name: &'a str,
@@ -70,7 +70,7 @@ pub(crate) fn text_option<'a>(
         .help(about)
 }
 
-/// An option with a link's number, which may be there again with another.
+/// Makes an option with a link's number, which may be given again with another one.
 fn links_option<'a>(alloc: Global, name: &'a str, value: &'a str, about: &'a str) -> Arg<'a>
     ensures rule { rule_of result ≡ links_rule name.entry.now }
     ensures local { result.global ≡ false }
@@ -172,7 +172,7 @@ Example: mkdir rows && afdx trace table.toml in rows";
 /// What the help of `network` says at its end. Its own commands are read by a program of their own.
 const NETWORK: &str = "Its commands are check, size, jitter and run: see afdx network --help.";
 
-/// A command without its arguments.
+/// Makes a command without its arguments.
 pub(crate) fn with_no_arguments<'a>(
     alloc: Global,
     name: &'a str,
@@ -185,7 +185,7 @@ pub(crate) fn with_no_arguments<'a>(
     Command::new(alloc, name).about(about).after_help(more)
 }
 
-/// A command with one more argument, the last.
+/// Adds an argument to a command, as its last.
 pub(crate) fn with_argument<'a>(
     command: Result<Command<'a>, AllocError>,
     argument: Arg<'a>,
@@ -199,7 +199,7 @@ pub(crate) fn with_argument<'a>(
     command?.arg(argument)
 }
 
-/// A program with one more command, the last.
+/// Adds a command to a program, as its last.
 pub(crate) fn with_command<'a>(
     program: Command<'a>,
     command: Result<Command<'a>, AllocError>,
@@ -251,7 +251,7 @@ fn size<'a>(alloc: Global) -> Result<Command<'a>, AllocError>
     with_argument(command, csv(alloc))
 }
 
-/// A command that goes by a table and by files that come in, with what its help says of it, at its end and of OUT.
+/// Makes a command that goes by a table and by files that come in, with what its help says of it, at its end and of OUT.
 pub(crate) fn with_files<'a>(
     alloc: Global,
     name: &'a str,
@@ -269,7 +269,7 @@ pub(crate) fn with_files<'a>(
     with_argument(with_argument(command, input), output)
 }
 
-/// A command that goes by the files of a run, with what its help says of it, at its end and of OUT.
+/// Makes a command that goes by the files of a run, with what its help says of it, at its end and of OUT.
 fn with_paths<'a>(
     alloc: Global,
     name: &'a str,
@@ -299,7 +299,7 @@ fn run<'a>(alloc: Global) -> Result<Command<'a>, AllocError>
     with_argument(command, csv(alloc))
 }
 
-/// A command of a table and of captures, of which nothing is put.
+/// Makes a command of a table and of captures, of which nothing is put.
 fn with_inputs<'a>(
     alloc: Global,
     name: &'a str,
@@ -348,7 +348,7 @@ fn trace<'a>(alloc: Global) -> Result<Command<'a>, AllocError>
     with_argument(with_argument(command, links), relative)
 }
 
-/// What the program's help says of the commands of networks.
+/// Makes the command `network`, by which the program's help tells of the commands of networks.
 fn network<'a>(alloc: Global) -> Command<'a>
     ensures app { app_of result ≡ network_app }
     ensures local { (out-Command result).has_globals ≡ false }
@@ -357,7 +357,7 @@ fn network<'a>(alloc: Global) -> Command<'a>
     with_no_arguments(alloc, "network", about, NETWORK)
 }
 
-/// The program without its commands.
+/// Makes the program without its commands.
 fn bare_program<'a>(alloc: Global, version: &'a str) -> Result<Command<'a>, AllocError>
     ensures { IfOk result (λ c. app_of c ≡ bare_program) }
 {
@@ -371,7 +371,7 @@ fn bare_program<'a>(alloc: Global, version: &'a str) -> Result<Command<'a>, Allo
     with_argument(command, explained)
 }
 
-/// The program with the commands of one link and of a table's load.
+/// Makes the program with the commands of one link and of a table's load.
 fn with_checks<'a>(alloc: Global, version: &'a str) -> Result<Command<'a>, AllocError>
     ensures { IfOk result (λ c. app_of c ≡ with_subcommand (with_subcommand bare_program alone_app.top) check_app.top) }
 {
@@ -379,7 +379,7 @@ fn with_checks<'a>(alloc: Global, version: &'a str) -> Result<Command<'a>, Alloc
     with_command(program, check(alloc))
 }
 
-/// A program with the commands `size` and `run` too.
+/// Adds the commands `size` and `run` to a program.
 fn with_run<'a>(alloc: Global, program: Command<'a>) -> Result<Command<'a>, AllocError>
     ensures { IfOk result (λ c. app_of c ≡ with_subcommand (with_subcommand (app_of program.entry) size_app.top) run_app.top) }
 {
@@ -387,7 +387,7 @@ fn with_run<'a>(alloc: Global, program: Command<'a>) -> Result<Command<'a>, Allo
     with_command(program, run(alloc))
 }
 
-/// A program with the commands `measure`, `survey` and `trace` too.
+/// Adds the commands `measure`, `survey` and `trace` to a program.
 fn with_rows<'a>(alloc: Global, program: Command<'a>) -> Result<Command<'a>, AllocError>
     ensures { IfOk result (λ c. app_of c
         ≡ with_subcommand (with_subcommand (with_subcommand (app_of program.entry) (inputs_app (codes "measure")).top) (inputs_app (codes "survey")).top) trace_app.top) }
@@ -397,7 +397,7 @@ fn with_rows<'a>(alloc: Global, program: Command<'a>) -> Result<Command<'a>, All
     with_command(program, trace(alloc))
 }
 
-/// The whole program, which says this of its version.
+/// Makes the whole program, which says this of its version.
 pub(crate) fn program<'a>(alloc: Global, version: &'a str) -> Result<Command<'a>, AllocError>
     ensures { IfOk result (λ c. app_of c ≡ program) }
 {

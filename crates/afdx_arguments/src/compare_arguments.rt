@@ -15,7 +15,7 @@ use afdx_recordings::{MAX_LEAST, MAX_TOLERANCE, Offsets, Outputs, Recordings, St
 use afdx_units::{MICROSECOND, Stamp};
 use clap::ArgMatches;
 
-/// The number of an option that is at most this; 0 where it is left out, and none where it is greater.
+/// Returns the number of an option that is at most this: 0 if it is left out, and none if it is greater.
 fn number_to(matches: &ArgMatches<'_>, name: &str, most: u64) -> Option<u64>
     ensures { MatchOption result ((n : ℕ) → HasUpTo name.now most (rows_of (found_of matches.now)) n → ⊥)
         (HasUpTo name.now most (rows_of (found_of matches.now))) }
@@ -27,7 +27,7 @@ fn number_to(matches: &ArgMatches<'_>, name: &str, most: u64) -> Option<u64>
     Some(number)
 }
 
-/// The instant of an option, or that it is left out; none where there is no such instant.
+/// Returns the instant of an option, or that it is left out; none if there is no such instant.
 fn stamp_of(matches: &ArgMatches<'_>, name: &str) -> Option<Option<Stamp>>
     ensures { MatchOption result ((instant : Optional ℕ) → HasInstant name.now (rows_of (found_of matches.now)) instant → ⊥)
         (HasInstant name.now (rows_of (found_of matches.now))) }
@@ -41,7 +41,7 @@ fn stamp_of(matches: &ArgMatches<'_>, name: &str) -> Option<Option<Stamp>>
     }
 }
 
-/// What stamps are; none where the option says neither.
+/// Returns what stamps are; none if the option's text is neither of the two.
 fn stamps_of(matches: &ArgMatches<'_>) -> Option<Stamps>
     ensures { MatchOption result ((stamps : Instants) → ChoosesStamps (first_of (codes "stamps") (rows_of (found_of matches.now))) stamps → ⊥)
         (ChoosesStamps (first_of (codes "stamps") (rows_of (found_of matches.now)))) }
@@ -60,7 +60,7 @@ fn stamps_of(matches: &ArgMatches<'_>) -> Option<Stamps>
     }
 }
 
-/// What is added to stamps; none where the option says no offsets.
+/// Returns what is added to stamps; none if the option's text says no offsets.
 fn offsets_of(matches: &ArgMatches<'_>) -> Option<Offsets>
     ensures { MatchOption result ((offsets : Added) → ChoosesOffsets (first_of (codes "offset") (rows_of (found_of matches.now))) offsets → ⊥)
         (ChoosesOffsets (first_of (codes "offset") (rows_of (found_of matches.now)))) }
@@ -71,7 +71,7 @@ fn offsets_of(matches: &ArgMatches<'_>) -> Option<Offsets>
     }
 }
 
-/// Which outputs were recorded; none where the option names no ports.
+/// Returns which outputs were recorded; none if the option's text names no ports.
 fn outputs_of(matches: &ArgMatches<'_>) -> Option<Outputs>
     ensures { MatchOption result ((outputs : Recorded) → ChoosesOutputs (first_of (codes "ports") (rows_of (found_of matches.now))) outputs → ⊥)
         (ChoosesOutputs (first_of (codes "ports") (rows_of (found_of matches.now)))) }
@@ -82,7 +82,7 @@ fn outputs_of(matches: &ArgMatches<'_>) -> Option<Outputs>
     }
 }
 
-/// What is known of the recordings. They begin at rest or at an instant, not both.
+/// Returns what is known of the recordings, if the options are accepted. They begin at rest or at an instant, not both.
 pub(crate) fn recordings_of(matches: &ArgMatches<'_>) -> Option<Recordings>
     ensures { MatchOption result ((recordings : Known) → HasRecordings (rows_of (found_of matches.now)) recordings → ⊥)
         (HasRecordings (rows_of (found_of matches.now))) }
@@ -110,7 +110,7 @@ pub(crate) fn recordings_of(matches: &ArgMatches<'_>) -> Option<Recordings>
     })
 }
 
-/// Whether an argument that may be left out is there and empty.
+/// Returns whether an argument that may be left out is there and empty.
 fn is_empty(argument: Option<&str>) -> bool
     ensures { IsTrue result ↔ (option_map (λ w. w.now) argument.entry ≡ Some []) }
 {
@@ -120,7 +120,7 @@ fn is_empty(argument: Option<&str>) -> bool
     }
 }
 
-/// The files. An empty argument names no folder.
+/// Returns the files of recordings, if all are named. An empty argument names no folder.
 pub(crate) fn compare_of<'a>(matches: &ArgMatches<'a>) -> Option<Compare<'a>>
     ensures { MatchOption result ((compare : Compared) → HasCompare (rows_of (found_of matches.now)) compare → ⊥)
         (HasCompare (rows_of (found_of matches.now))) }

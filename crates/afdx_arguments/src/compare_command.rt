@@ -28,7 +28,7 @@ give what its links ask for, 5 memory or a device.
 
 Example: afdx compare table.toml in recorded --tolerance 200";
 
-/// An option with a whole number of 64 bits.
+/// Makes an option with a whole number of 64 bits.
 fn optional_number<'a>(alloc: Global, name: &'a str, value: &'a str, about: &'a str) -> Arg<'a>
     ensures rule { rule_of result ≡ optional_rule name.entry.now }
     ensures local { result.global ≡ false }
@@ -36,7 +36,7 @@ fn optional_number<'a>(alloc: Global, name: &'a str, value: &'a str, about: &'a 
     text_option(alloc, name, value, about).value_parser(ValueParser::unsigned(0, u64::MAX))
 }
 
-/// A command with what is known of the switch and of the stamps.
+/// Adds to a command the options that say what is known of the switch and of the stamps.
 fn with_stamps<'a>(
     alloc: Global,
     command: Result<Command<'a>, AllocError>,
@@ -57,7 +57,7 @@ fn with_stamps<'a>(
     with_argument(with_argument(command, stamps), offset)
 }
 
-/// A command with what is known of where the recordings begin and end.
+/// Adds to a command the options that say when the recordings begin and end.
 fn with_span<'a>(
     alloc: Global,
     command: Result<Command<'a>, AllocError>,

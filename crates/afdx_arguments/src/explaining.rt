@@ -31,7 +31,7 @@ pub(crate) fn explain<'a>(alloc: Global) -> Result<Command<'a>, AllocError>
     with_no_arguments(alloc, "explain", about, EXPLAIN).arg(path(alloc, "CODE", "The code"))
 }
 
-/// The entry of the code.
+/// Returns the entry of the code, if there is one.
 pub(crate) fn entry_asked(matches: &ArgMatches<'_>) -> Option<&'static str>
     ensures { MatchOption result ((entry : List ℕ) → HasEntry (rows_of (found_of matches.now)) entry → ⊥)
         (λ entry. HasEntry (rows_of (found_of matches.now)) entry.now) }
@@ -40,7 +40,7 @@ pub(crate) fn entry_asked(matches: &ArgMatches<'_>) -> Option<&'static str>
     entry_of(code)
 }
 
-/// Whether the first argument after the program's name is `--explain`: after the line of a failure its entry is wanted too. O(1).
+/// Returns whether the first argument after the program's name is `--explain`: after the line of a failure its entry is wanted too. O(1).
 pub fn is_explained(arguments: &[String]) -> bool
     ensures { result ≡ is_explained (map string_bytes arguments.now) }
 {
@@ -50,8 +50,8 @@ pub fn is_explained(arguments: &[String]) -> bool
     }
 }
 
-/// The arguments without that one, where it is there; then the first that is left is not the program's name, which nothing reads.
-/// O(1).
+/// Returns the arguments that ask for a command: those from `--explain` on, if it is the first after the program's name. It stands
+/// then in the place of that name, which nothing reads. O(1).
 pub fn plain_of(arguments: &[String]) -> &[String]
     ensures { map string_bytes result.now ≡ plain_of (map string_bytes arguments.now) }
 {

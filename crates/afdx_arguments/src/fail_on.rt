@@ -5,7 +5,7 @@ ghost use Rattle.std.specs.Str.{bytes_eq};
 ghost use Rattle.afdx_arguments.specs.declared.fail_on.FailOn.{FailOn as Chosen};
 ghost use Rattle.afdx_arguments.specs.FailOn.{words_of, times, IsListOf};
 
-/// What a run is to fail on: it ends with status 1 where there was one of these.
+/// What a run is to fail on: it ends with status 1 if there was one of these.
 #[derive(Clone, Copy, Debug, Default, PartialEq, Eq)]
 pub struct FailOn {
     /// A frame that an account policed.
@@ -16,21 +16,21 @@ pub struct FailOn {
     pub lost: bool,
 }
 
-/// How often a word is in a list. O(list).
+/// Returns how often a word is in a list. O(list).
 fn count(list: &str, word: &str) -> usize
     ensures { result ≡ count_by (λ w. bytes_eq w word.now) (words_of list.now) }
 {
     list.split(',').filter(|other| *other == word).count()
 }
 
-/// The number of words of a list. O(list).
+/// Returns the number of words of a list. O(list).
 fn length(list: &str) -> usize
     ensures { result ≡ length (words_of list.now) }
 {
     list.split(',').count()
 }
 
-/// How often a word is in a list that is chosen or not.
+/// Returns how often a list has a word that it chooses or not: once or never.
 fn times(chosen: bool) -> usize
     ensures times { result ≡ times chosen }
     ensures most { result ≤ 1 }
@@ -38,7 +38,7 @@ fn times(chosen: bool) -> usize
     if chosen { 1 } else { 0 }
 }
 
-/// Whether a word that is in a list at most once is there; `None` where it is there more often.
+/// Returns whether a word that is in a list at most once is there; `None` if it is there more often.
 fn is_chosen(list: &str, word: &str) -> Option<bool>
     ensures { MatchOption result (1 < count_by (λ w. bytes_eq w word.now) (words_of list.now))
         (λ chosen. count_by (λ w. bytes_eq w word.now) (words_of list.now) ≡ times chosen) }
@@ -51,8 +51,8 @@ fn is_chosen(list: &str, word: &str) -> Option<bool>
 }
 
 impl FailOn {
-    /// What a list of words chooses, which commas part: of `policed`, `filtered` and `lost` each at most once, in any order, and nothing
-    /// else. Another list has `None`. O(list).
+    /// Returns what a list of words with commas between them chooses: of `policed`, `filtered` and `lost` each at most once, in any order,
+    /// and nothing else. Another list has `None`. O(list).
     pub(crate) fn of_list(list: &str) -> Option<FailOn>
         ensures { MatchOption result ((chosen : Chosen) → IsListOf list.now chosen → ⊥) (IsListOf list.now) }
     {

@@ -11,7 +11,7 @@ use crate::arguments::{argument, flag, form_of};
 use crate::request::{NetworkInputs, NetworkPaths, NetworkRequest};
 use clap::ArgMatches;
 
-/// The files of a network's run. An empty argument names no folder.
+/// Returns the files of a network's run, if all are named. An empty argument names no folder.
 fn network_paths_of<'a>(matches: &ArgMatches<'a>) -> Option<NetworkPaths<'a>>
     ensures { MatchOption result ((paths : Files) → HasNetworkPaths (rows_of (found_of matches.now)) paths → ⊥)
         (HasNetworkPaths (rows_of (found_of matches.now))) }
@@ -31,7 +31,7 @@ fn network_paths_of<'a>(matches: &ArgMatches<'a>) -> Option<NetworkPaths<'a>>
     })
 }
 
-/// The files of a network's run of which nothing is put. An empty argument names no folder.
+/// Returns the files of a network's run of which nothing is put, if all are named. An empty argument names no folder.
 fn network_inputs_of<'a>(matches: &ArgMatches<'a>) -> Option<NetworkInputs<'a>>
     ensures { MatchOption result ((inputs : GivenFiles) → HasNetworkInputs (rows_of (found_of matches.now)) inputs → ⊥)
         (HasNetworkInputs (rows_of (found_of matches.now))) }
@@ -49,7 +49,7 @@ fn network_inputs_of<'a>(matches: &ArgMatches<'a>) -> Option<NetworkInputs<'a>>
     })
 }
 
-/// What the subcommand that was entered asks for.
+/// Returns what the subcommand that was entered asks for, if there is one and its arguments are accepted.
 pub(crate) fn network_asked<'a>(matches: &ArgMatches<'a>) -> Option<NetworkRequest<'a>>
     ensures { MatchOption result ((request : Asked) → AsksOfNetwork (subcommand_rows_of matches.now) request → ⊥)
         (AsksOfNetwork (subcommand_rows_of matches.now)) }

@@ -91,7 +91,7 @@ check refuses, 5 memory or a device.
 
 Example: afdx network survey network.toml in";
 
-/// A command that goes by a network file.
+/// Makes a command that goes by a network file.
 fn with_path<'a>(
     alloc: Global,
     name: &'a str,
@@ -130,7 +130,7 @@ fn jitter<'a>(alloc: Global) -> Result<Command<'a>, AllocError>
     with_path(alloc, "jitter", about, JITTER)
 }
 
-/// A command over a network, captures and a folder for what is put.
+/// Makes a command over a network, captures and a folder for what is put.
 fn with_paths<'a>(
     alloc: Global,
     name: &'a str,
@@ -173,7 +173,7 @@ fn trace<'a>(alloc: Global) -> Result<Command<'a>, AllocError>
     with_paths(alloc, "trace", about, TRACE, outputs)
 }
 
-/// A command over a network and captures, of which nothing is put.
+/// Makes a command over a network and captures, of which nothing is put.
 fn with_inputs<'a>(
     alloc: Global,
     name: &'a str,
@@ -209,7 +209,7 @@ fn survey<'a>(alloc: Global) -> Result<Command<'a>, AllocError>
     with_inputs(alloc, "survey", about, SURVEY)
 }
 
-/// The program without its commands.
+/// Makes the program without its commands.
 fn bare_network<'a>(alloc: Global) -> Result<Command<'a>, AllocError>
     ensures { IfOk result (λ c. app_of c ≡ bare_network) }
 {
@@ -219,7 +219,7 @@ fn bare_network<'a>(alloc: Global) -> Result<Command<'a>, AllocError>
         .bin_name("afdx network")
 }
 
-/// The program with the commands `check` and `size`.
+/// Makes the program with the commands `check` and `size`.
 fn with_checks<'a>(alloc: Global) -> Result<Command<'a>, AllocError>
     ensures { IfOk result (λ c. app_of c ≡ network_checks) }
 {
@@ -227,7 +227,7 @@ fn with_checks<'a>(alloc: Global) -> Result<Command<'a>, AllocError>
     with_command(program, size(alloc))
 }
 
-/// The same with `jitter` and `run`.
+/// Makes the same program with `jitter` and `run` too.
 fn with_runs<'a>(alloc: Global) -> Result<Command<'a>, AllocError>
     ensures { IfOk result (λ c. app_of c ≡ network_runs) }
 {
@@ -235,7 +235,7 @@ fn with_runs<'a>(alloc: Global) -> Result<Command<'a>, AllocError>
     with_command(program, run(alloc))
 }
 
-/// The same with `measure` and `survey`.
+/// Makes the same program with `measure` and `survey` too.
 fn with_answers<'a>(alloc: Global) -> Result<Command<'a>, AllocError>
     ensures { IfOk result (λ c. app_of c ≡ network_answers) }
 {
@@ -243,7 +243,7 @@ fn with_answers<'a>(alloc: Global) -> Result<Command<'a>, AllocError>
     with_command(program, survey(alloc))
 }
 
-/// The program that reads the arguments after `afdx`, where the first of them is `network`.
+/// Makes the program that reads the arguments after `afdx` if the first of them is `network`.
 pub(crate) fn network_program<'a>(alloc: Global) -> Result<Command<'a>, AllocError>
     ensures { IfOk result (λ c. app_of c ≡ network_program) }
 {

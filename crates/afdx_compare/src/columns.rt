@@ -56,7 +56,7 @@ fn put_mark<A: Allocator + Copy>(text: &mut String<A>, mark: Option<Mark>) -> Re
     }
 }
 
-/// What takes an offset off stamps again.
+/// Makes the clock that takes an offset off stamps again.
 fn clock_back(offset: i64) -> Clock
     ensures { result ≡ clock_back offset }
 {
@@ -76,7 +76,8 @@ fn clock_back(offset: i64) -> Clock
     }
 }
 
-/// A record with its stamp as it was before an offset was added; where that had made it the first or the last stamp that there is, that one without the offset.
+/// Returns a record with its stamp as it was before an offset was added. If that had made it the first or the last stamp that there is, the offset
+/// is taken off that one.
 fn without(offset: i64, mark: Mark) -> Mark
     ensures { result ≡ without offset mark }
 {
@@ -86,7 +87,7 @@ fn without(offset: i64, mark: Mark) -> Mark
     }
 }
 
-/// The same of a record, if there is one.
+/// Returns a record, if there is one, with its stamp as it was before an offset was added.
 fn left_without(offset: i64, left: Option<Mark>) -> Option<Mark>
     ensures { result ≡ option_map (without offset) left }
 {
@@ -96,7 +97,7 @@ fn left_without(offset: i64, left: Option<Mark>) -> Option<Mark>
     }
 }
 
-/// The number of a link, if there is one.
+/// Returns the number of a link, if there is one.
 fn link_number(link: Option<u16>) -> Option<u128>
     ensures { result ≡ link }
 {
@@ -174,7 +175,7 @@ fn put_port<A: Allocator + Copy>(
     put_rows(text, offsets.at(row.id), row.id, &rows)
 }
 
-/// Appends those of all ports, by rising number.
+/// Appends the rows of all ports, by rising number.
 fn put_ports<A: Allocator + Copy>(
     alloc: A,
     text: &mut String<A>,
@@ -192,9 +193,9 @@ fn put_ports<A: Allocator + Copy>(
     Ok(())
 }
 
-/// All differences of a comparison that keeps them, as comma-separated values with a heading: by rising port, and at each by the instants of the records that left, and of
-/// missing frames. Numbers are decimal, of records in their captures from 1 on; times are nanoseconds, and stamps as recorded; what there is not is empty. The row of
-/// an extra record names the policed frame whose bytes it has, if there is one.
+/// Returns all differences of a comparison that keeps them, as comma-separated values with a heading: by rising port, and at each by the instants of
+/// the records that left, and of missing frames. Numbers are decimal, of records in their captures from 1 on; times are nanoseconds, and stamps as
+/// recorded; what there is not is empty. The row of an extra record names the policed frame whose bytes it has, if there is one.
 ///
 /// An error is out of memory. O(for each port the ports of all links; rows and their logarithm).
 pub fn differences<A: Allocator + Copy>(

@@ -49,7 +49,7 @@ impl<A: Allocator> Model for Port<A> {
 }
 
 impl<A: Allocator + Copy> Port<A> {
-    /// A port at which nothing was recorded. It takes no memory.
+    /// Makes a port at which nothing was recorded. It takes no memory.
     fn new(alloc: A) -> Port<A>
         ensures { result ≡ no_records }
     {
@@ -100,7 +100,7 @@ impl<'t, A: Allocator> Model for Comparison<'t, A> {
     ghost view = { λ c. record { table = c.table.now; watch = c.watch; keeps = c.keeps; links = c.links.items; ports = c.ports.items } };
 }
 
-/// What is known of the recorders and of the switch, where the recordings begin at an instant.
+/// Returns what is known of the recorders and of the switch, for recordings that begin at an instant.
 fn watch_of(table: &Table, recordings: &Recordings, from: Stamp) -> Watch
     ensures watch { result ≡ watch_of table.now recordings.now from }
     ensures scatter { result.scatter ≤ 100000 }
@@ -120,7 +120,7 @@ fn watch_of(table: &Table, recordings: &Recordings, from: Stamp) -> Watch
     }
 }
 
-/// The bound of a port for links of a priority, in nanoseconds; 0 if it has none, which no link of an accepted table meets.
+/// Returns the bound of a port for links of a priority, in nanoseconds; 0 if it has none, which no link of an accepted table meets.
 fn bound_at(loads: &Loads<'_>, port: &PortRow, priority: Priority, scatter: u64) -> u64
     requires scatter { scatter ≤ 100000 }
     requires port { port_row loads.now port.now.id ≡ Some port.now }
@@ -151,7 +151,7 @@ struct Making<'t> {
     ghost tolerance_most: { watch.tolerance ≤ 1000000000 },
 }
 
-/// A port of a link of a priority, where nothing has left.
+/// Makes a port of a link of a priority, at which nothing has left.
 fn output_of<A: Allocator + Copy>(
     alloc: A,
     making: &Making<'_>,
@@ -167,7 +167,7 @@ fn output_of<A: Allocator + Copy>(
     Output::new(alloc, port, limits, making.keeps)
 }
 
-/// The port of a number, if it was recorded, where nothing has left.
+/// Makes the port of a number, at which nothing has left, if it was recorded.
 fn output_at<A: Allocator + Copy>(
     alloc: A,
     making: &Making<'_>,
@@ -199,7 +199,7 @@ fn add<A: Allocator + Copy>(
     Ok(())
 }
 
-/// Of the ports of a link of a priority those that were recorded, where nothing has left.
+/// Makes those of the ports of a link of a priority that were recorded, at which nothing has left.
 fn outputs_of<A: Allocator + Copy>(
     alloc: A,
     making: &Making<'_>,
@@ -216,7 +216,7 @@ fn outputs_of<A: Allocator + Copy>(
     Ok(outputs)
 }
 
-/// A link at those of its ports that were recorded, before anything came.
+/// Makes a link at those of its ports that were recorded, before anything came.
 fn link_of<A: Allocator + Copy>(
     alloc: A,
     making: &Making<'_>,
@@ -232,7 +232,7 @@ fn link_of<A: Allocator + Copy>(
     Ok(Following::new(alloc, account, tolerance, since, outputs))
 }
 
-/// All links of a table.
+/// Makes all links of a table.
 fn links_of<A: Allocator + Copy>(
     alloc: A,
     making: &Making<'_>,
@@ -249,7 +249,7 @@ fn links_of<A: Allocator + Copy>(
     Ok(links)
 }
 
-/// All ports of a table.
+/// Makes all ports of a table.
 fn ports_of<A: Allocator + Copy>(alloc: A, table: &Table) -> Result<Vec<Port<A>, A>, AllocError>
     ensures { IfOk result (λ v. v.items ≡ map (λ p. no_records) table.now.ports) }
 {
@@ -260,7 +260,7 @@ fn ports_of<A: Allocator + Copy>(alloc: A, table: &Table) -> Result<Vec<Port<A>,
     Ok(ports)
 }
 
-/// The place of the link that a record names; none where it has no address, or one of no link of the table.
+/// Returns the place of the link that a record names; none if it has no address, or one of no link of the table.
 fn place_of_named(table: &Table, bytes: &[u8]) -> Option<usize>
     ensures { result ≡ place_of_named table.now bytes.now }
 {
@@ -270,7 +270,7 @@ fn place_of_named(table: &Table, bytes: &[u8]) -> Option<usize>
     }
 }
 
-/// The place of the port of a number among those of the link at a place, with that place.
+/// Returns the place of a link with that of the port of a number among the link's; none if there is no such link or no such port.
 fn link_among<A: Allocator + Copy>(
     links: &[Following<'static, A>],
     port: u8,
@@ -283,21 +283,21 @@ fn link_among<A: Allocator + Copy>(
     Some((link, output))
 }
 
-/// Whether all records at ports are of links that lead there.
+/// Returns whether all records at ports are of links that lead there.
 fn none_is_foreign<A: Allocator + Copy>(ports: &[Port<A>]) -> bool
     ensures { result ≡ list_all (λ p. p.foreign == 0) ports.now }
 {
     ports.iter().all(|port| port.foreign == 0)
 }
 
-/// Whether at all links nothing speaks against the switch.
+/// Returns whether at all links nothing speaks against the switch.
 fn all_conform<A: Allocator + Copy>(links: &[Following<'static, A>]) -> bool
     ensures { result ≡ list_all (λ f. conforms f) links.now }
 {
     links.iter().all(|link| link.conforms())
 }
 
-/// Ends each link, where records were recorded up to an instant, or all had left.
+/// Ends each link. Records were recorded up to an instant or, if there is none, all had left.
 fn end_all<A: Allocator + Copy>(
     links: &mut [Following<'static, A>],
     last: Option<u64>,
@@ -311,7 +311,7 @@ fn end_all<A: Allocator + Copy>(
 }
 
 impl<'t, A: Allocator + Copy> Comparison<'t, A> {
-    /// A table whose recordings begin at an instant, of which nothing was read.
+    /// Makes the comparison of a table whose recordings begin at an instant, of which nothing was read.
     pub(crate) fn new(
         alloc: A,
         table: &'t Table,
@@ -338,28 +338,28 @@ impl<'t, A: Allocator + Copy> Comparison<'t, A> {
         })
     }
 
-    /// The table. O(1).
+    /// Returns the table. O(1).
     pub(crate) fn table(&self) -> &'t Table
         ensures { result.now ≡ self.now.table }
     {
         self.table
     }
 
-    /// The links, by their places in the table. O(1).
+    /// Returns the links, by their places in the table. O(1).
     pub(crate) fn links(&self) -> &[Following<'static, A>]
         ensures { result.now ≡ self.now.links }
     {
         &self.links
     }
 
-    /// The ports, by their places in the table. O(1).
+    /// Returns the ports, by their places in the table. O(1).
     pub(crate) fn ports(&self) -> &[Port<A>]
         ensures { result.now ≡ self.now.ports }
     {
         &self.ports
     }
 
-    /// Takes notice of where the recordings end. What comes afterwards counts up to there alone.
+    /// Notes where the recordings end. What comes afterwards counts up to there alone.
     pub(crate) fn set_until(&mut self, until: Stamp)
         ensures { self.new ≡ with_until until self.old }
     {
@@ -384,8 +384,8 @@ impl<'t, A: Allocator + Copy> Comparison<'t, A> {
         self.links[link].came(came)
     }
 
-    /// The place of the link that a record at the port of a number is of, and that of the port among the link's that were recorded; none
-    /// for no link that leads there.
+    /// Returns the place of the link that a record at the port of a number is of, and that of the port among the link's that were recorded; none if
+    /// it is of no link that leads there.
     fn link_at(&self, port: u8, bytes: &[u8]) -> Option<(usize, usize)>
         ensures { result ≡ link_at port bytes.now self.now }
     {
@@ -414,14 +414,14 @@ impl<'t, A: Allocator + Copy> Comparison<'t, A> {
         }
     }
 
-    /// Ends all links, where all was read.
+    /// Ends all links once all was read.
     pub(crate) fn end(&mut self) -> Result<(), AllocError>
         ensures { OnOk result (self.new ≡ with_end self.old) }
     {
         end_all(&mut self.links, self.watch.last_record())
     }
 
-    /// Whether nothing speaks against the switch. O(ports of links).
+    /// Returns whether nothing speaks against the switch. O(ports of links).
     pub(crate) fn conforms(&self) -> bool
         ensures { result ≡ conform self.now }
     {

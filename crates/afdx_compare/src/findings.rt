@@ -35,7 +35,7 @@ pub struct Findings<'t, A: Allocator> {
 }
 
 impl<'t, A: Allocator + Copy> Findings<'t, A> {
-    /// Whether nothing speaks against the switch. O(ports of links).
+    /// Returns whether nothing speaks against the switch. O(ports of links).
     pub fn conforms(&self) -> bool
         ensures { result ≡ conform self.now.comparison }
     {
@@ -62,8 +62,8 @@ fn take<A: Allocator + Copy>(
     }
 }
 
-/// Whether it is known that a record counts up to where the recordings end, where that is the greatest stamp of all, of which this is the
-/// greatest so far: frames do, and a record that left does whose stamp is less by the tolerance.
+/// Returns whether it is known that a record counts up to where the recordings end. If no end was given, it is the greatest stamp of all, and
+/// `greatest` is the greatest so far: frames count, and so does a record that left if its stamp is less by the tolerance.
 fn is_settled(leaves: bool, stamp: Stamp, recordings: &Recordings, greatest: Option<Stamp>) -> bool
     ensures { result ≡ is_settled recordings.now greatest leaves stamp }
 {
@@ -80,7 +80,7 @@ struct Held<A: Allocator> {
     greatest: Option<Stamp>,
 }
 
-/// Whether a record waits of which it is known that it counts up to where the recordings end.
+/// Returns whether the first record that waits, if there is one, is known to count up to where the recordings end.
 fn is_first_settled<A: Allocator + Copy>(
     sources: &Sources<A>,
     held: &Held<A>,
@@ -121,7 +121,7 @@ fn take_settled<A: Allocator + Copy>(
     Ok(())
 }
 
-/// The greater of an instant and the greatest of others, if any.
+/// Returns the greater of an instant and the greatest of others, if any.
 fn greater(stamp: Stamp, greatest: Option<Stamp>) -> Stamp
     ensures { result ≡ greater stamp greatest }
 {
@@ -161,7 +161,7 @@ fn take_next<A: Allocator + Copy>(
     take_settled(comparison, sources, held, recordings)
 }
 
-/// Reads all captures, and takes their records; those come back of which it is not known whether they count.
+/// Reads all captures, and takes their records. Returns those of which it is not known whether they count.
 fn read_all<R: Read, A: Allocator + Copy>(
     alloc: A,
     comparison: &mut Comparison<'_, A>,
@@ -192,7 +192,7 @@ fn read_all<R: Read, A: Allocator + Copy>(
     Err(CompareFault::Memory)
 }
 
-/// Takes all records that wait, where it is known where the recordings end, and ends.
+/// Takes all records that wait, once it is known where the recordings end, and ends the comparison.
 fn take_all<A: Allocator + Copy>(
     comparison: &mut Comparison<'_, A>,
     sources: &Sources<A>,
@@ -209,19 +209,19 @@ fn take_all<A: Allocator + Copy>(
     comparison.end()
 }
 
-/// A table that was read is well formed. It does nothing.
+/// Proves that a table that was read is well formed. It does nothing.
 fn is_formed(table: &Table)
     ensures { IsWellFormed table.now }
 {
     let _links = table.link_count();
 }
 
-/// Compares what came at a switch with what left it: the readers give first a capture of each port of the table, by rising number, of what
-/// came in, and then one of each output port that was recorded, of what left. If it `keeps`, each single difference is kept.
+/// Compares what came at a switch with what left it. The readers give first a capture of what came in at each port of the table, by rising number,
+/// and then one of what left at each output port that was recorded. If it `keeps`, each single difference is kept.
 ///
 /// # Errors
 ///
-/// `Read` at the first place at which a reader fails; else `Came` or `Left` of the first one that is no capture; `Memory` where memory ran out.
+/// `Read` at the first place at which a reader fails; else `Came` or `Left` of the first one that is no capture; `Memory` if memory ran out.
 ///
 /// O(bytes, and for each record the captures and the logarithm of what is held). Each capture is read once; it holds records of twice the
 /// ports' bounds and of the tolerance.

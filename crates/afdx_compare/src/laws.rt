@@ -10,7 +10,7 @@ use afdx_levels::laws::at_rest_is_the_account;
 use afdx_load::laws::{accepted_keeps_bounds, high_links_leave_a_part};
 use afdx_table::laws::{links_are_at_their_places, links_are_found, ports_are_found};
 
-/// Where nothing speaks against a switch, once all records of captures were taken, it keeps to what is proved of ours.
+/// Proves that a switch keeps to what is proved of ours if nothing speaks against it once all records of captures were taken.
 pub fn conforms_is_kept()
     ensures { ConformsIsKept }
 {
@@ -22,7 +22,7 @@ pub fn conforms_is_kept()
     followed_is_kept();
 }
 
-/// What is proved of our own switch is what recordings keep to of which all is exact: they are whole and begin at rest, each frame takes the
+/// Proves that what is proved of our own switch is what recordings keep to if all is exact: they are whole and begin at rest, each frame takes the
 /// table's latency, and stamps are not off. So whatever a run of an accepted table answers keeps to it.
 pub fn exactly_is_isolated()
     ensures { ExactlyIsIsolated }
@@ -36,7 +36,7 @@ pub fn exactly_is_isolated()
     nothing_is_scattered();
 }
 
-/// What a run of an accepted table answers is what recordings of it keep to.
+/// Proves that recordings of what a run of an accepted table answers keep to what is proved of our own switch.
 pub fn our_runs_keep_to_it()
     ensures { OurRunsKeepToIt }
 {

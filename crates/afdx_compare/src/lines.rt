@@ -150,7 +150,7 @@ fn put_port<A: Allocator + Copy>(
     }
 }
 
-/// The row of the port at a place of a table.
+/// Returns the row of the port at a place of a table, if there is one.
 pub(crate) fn row_at(table: &Table, place: usize) -> Option<&PortRow>
     ensures { option_copied result ≡ slice_get table.now.ports place }
 {
@@ -235,8 +235,8 @@ fn put_verdict<A: Allocator + Copy>(
     }
 }
 
-/// What is reported of a comparison, in this form: its span, a line for each link and each of its output ports that were recorded, one for each of these ports, and last `conforms` or
-/// `differs`; or as comma-separated values a heading, and a row for each of these lines.
+/// Returns what is reported of a comparison, in this form: its span, a line for each link and each of its output ports that were recorded, one for
+/// each of these ports, and last `conforms` or `differs`; or as comma-separated values a heading, and a row for each of these lines.
 ///
 /// An error is out of memory. O(lines).
 pub fn report<A: Allocator + Copy>(

@@ -63,7 +63,7 @@ pub(crate) fn put_span_row<A: Allocator + Copy>(
     )
 }
 
-/// The least delay of the pairs, if there is one.
+/// Returns the least delay of the pairs, if there is one.
 fn least(tally: &Tally) -> Option<u128>
     ensures { result ≡ option_map (λ r. r.least) tally.now.delays }
 {
@@ -71,7 +71,7 @@ fn least(tally: &Tally) -> Option<u128>
     Some(range.least)
 }
 
-/// The greatest of them.
+/// Returns the greatest delay of the pairs, if there is one.
 fn greatest(tally: &Tally) -> Option<u128>
     ensures { result ≡ option_map (λ r. r.greatest) tally.now.delays }
 {
@@ -79,7 +79,7 @@ fn greatest(tally: &Tally) -> Option<u128>
     Some(range.greatest)
 }
 
-/// The greatest delay as 64 bits tell it.
+/// Returns the greatest delay of the pairs, if there is one, as 64 bits tell it.
 fn greatest_of(tally: &Tally) -> Option<u64>
     ensures { result ≡ greatest_of tally.now }
 {
@@ -162,7 +162,7 @@ pub(crate) fn put_port_row<A: Allocator + Copy>(
     )
 }
 
-/// The word of the verdict.
+/// Returns the word of the verdict.
 pub(crate) fn verdict_word(conforms: bool) -> &'static str
     ensures { result.now ≡ verdict_word conforms }
 {

@@ -34,7 +34,7 @@ pub(crate) struct Row {
     pub(crate) bound: Option<u128>,
 }
 
-/// That of a link with a bound.
+/// Makes the row of a link with a bound.
 fn link_row(
     link: u16,
     bound: u64,
@@ -55,7 +55,7 @@ fn link_row(
     }
 }
 
-/// That of a pair of a link.
+/// Makes the row of a pair of a link.
 fn pair_row(link: u16, bound: u64, kind: Kind, pair: Pair) -> Row
     ensures { result ≡ link_row link bound kind (Some pair.came) (Some pair.left) (Some pair.delay) }
 {
@@ -70,7 +70,7 @@ fn pair_row(link: u16, bound: u64, kind: Kind, pair: Pair) -> Row
 }
 
 impl Row {
-    /// That of what was found of a link, if it speaks against the switch.
+    /// Makes the row of what was found of a link, if it speaks against the switch.
     pub(crate) fn of_event(link: u16, bound: u64, event: &Event) -> Option<Row>
         ensures { result ≡ row_of link bound event.now }
     {
@@ -97,7 +97,7 @@ impl Row {
         }
     }
 
-    /// That of a record of no link that leads to its port.
+    /// Makes the row of a record of no link that leads to its port.
     pub(crate) fn foreign(left: Mark) -> Row
         ensures { result ≡ foreign_row left }
     {
@@ -111,7 +111,7 @@ impl Row {
         }
     }
 
-    /// The instant by which it is in order, in nanoseconds: that of the record that left, or of the frame where none left.
+    /// Returns the instant by which it is in order, in nanoseconds: that of the record that left or, if none left, of the frame.
     pub(crate) fn instant(&self) -> u64
         ensures { result ≡ instant_of self.now }
     {

@@ -24,7 +24,7 @@ fn add_event<A: Allocator + Copy>(
     Ok(())
 }
 
-/// Adds those of all that was found of a link.
+/// Adds the rows of all that was found of a link.
 fn add_events<A: Allocator + Copy>(
     rows: &mut Vec<Row, A>,
     link: u16,
@@ -39,7 +39,7 @@ fn add_events<A: Allocator + Copy>(
     Ok(())
 }
 
-/// Adds those of a link at an output port, if it is the one of this number.
+/// Adds the rows of a link at an output port, if it is the one of this number.
 fn add_output<A: Allocator + Copy>(
     rows: &mut Vec<Row, A>,
     port: u8,
@@ -55,7 +55,7 @@ fn add_output<A: Allocator + Copy>(
     }
 }
 
-/// Adds those of a link at the port of a number, if it was recorded and the link leads there.
+/// Adds the rows of a link at the port of a number, if it was recorded and the link leads there.
 fn add_link<A: Allocator + Copy>(
     rows: &mut Vec<Row, A>,
     port: u8,
@@ -70,7 +70,7 @@ fn add_link<A: Allocator + Copy>(
     Ok(())
 }
 
-/// Adds those of all links at the port of a number, in the table's order.
+/// Adds the rows of all links at the port of a number, in the table's order.
 fn add_links<A: Allocator + Copy>(
     rows: &mut Vec<Row, A>,
     port: u8,
@@ -87,7 +87,7 @@ fn add_links<A: Allocator + Copy>(
     Ok(())
 }
 
-/// Adds those of records of no link.
+/// Adds the rows of records of no link.
 fn add_foreign<A: Allocator + Copy>(
     rows: &mut Vec<Row, A>,
     marks: &[Mark],
@@ -107,7 +107,8 @@ fn sort<A: Allocator + Copy>(rows: &mut Vec<Row, A>) -> Result<(), AllocError>
     rows.sort_by_key(|row| row.instant())
 }
 
-/// All rows of the port of a number, in order: by their instants, and of equal ones those of links in the table's order and then those of no link.
+/// Returns all rows of the port of a number, in order: by their instants, and of equal ones those of links in the table's order and then those of no
+/// link.
 pub(crate) fn rows_at<A: Allocator + Copy>(
     alloc: A,
     port: u8,

@@ -20,7 +20,7 @@ pub enum CompareFault {
     Read(usize),
     /// What came at this port is no capture, and this is its first fault. All were read, and those of what came at lower ports are captures.
     Came(u8, PcapFault),
-    /// The same of what left at this port, where all of what came are captures.
+    /// The same of what left at this port; all of what came are captures.
     Left(u8, PcapFault),
 }
 
@@ -59,7 +59,7 @@ impl<A: Allocator> Model for Sources<A> {
     ghost view = { λ s. record { captures = s.captures.items; clocks = s.clocks.items } };
 }
 
-/// The clock of what came.
+/// Makes the clock of what came.
 fn input_clock() -> Clock
     ensures { result ≡ input_clock }
 {
@@ -70,21 +70,21 @@ fn input_clock() -> Clock
     }
 }
 
-/// By how many nanoseconds an offset makes stamps later.
+/// Returns by how many nanoseconds an offset makes stamps later.
 fn later_by(offset: i64) -> u64
     ensures { result ≡ later_by offset }
 {
     if offset < 0 { 0 } else { offset.unsigned_abs() }
 }
 
-/// By how many nanoseconds an offset makes stamps sooner.
+/// Returns by how many nanoseconds an offset makes stamps sooner.
 fn sooner_by(offset: i64) -> u64
     ensures { result ≡ sooner_by offset }
 {
     if offset < 0 { offset.unsigned_abs() } else { 0 }
 }
 
-/// The clock of what left at a port: its records are in order by the latest instant at which by the stamps the line was free again.
+/// Makes the clock of what left at a port: its records are in order by the latest instant at which by the stamps the line was free again.
 fn output_clock(port: &PortRow, recordings: &Recordings) -> Clock
     ensures { result ≡ output_clock recordings.now port.now }
 {
@@ -120,7 +120,7 @@ fn add<A: Allocator + Copy>(
 }
 
 impl<A: Allocator + Copy> Sources<A> {
-    /// The captures of a table's ports.
+    /// Lists the captures of a table's ports.
     pub(crate) fn new(
         alloc: A,
         table: &Table,
@@ -137,7 +137,7 @@ impl<A: Allocator + Copy> Sources<A> {
         Ok(sources)
     }
 
-    /// Adds those of what came.
+    /// Adds the captures of what came.
     fn add_inputs(&mut self, table: &Table) -> Result<(), AllocError>
         ensures { OnOk result (self.new ≡ record {
           captures = self.old.captures ++ (inputs_of table.now).captures;
@@ -150,7 +150,7 @@ impl<A: Allocator + Copy> Sources<A> {
         Ok(())
     }
 
-    /// Adds those of what left.
+    /// Adds the captures of what left.
     fn add_outputs(&mut self, table: &Table, recordings: &Recordings) -> Result<(), AllocError>
         ensures { OnOk result (self.new ≡ record {
           captures = self.old.captures ++ outputs_from recordings.now.outputs 0 table.now.ports;
@@ -165,14 +165,14 @@ impl<A: Allocator + Copy> Sources<A> {
         Ok(())
     }
 
-    /// Their clocks. O(1).
+    /// Returns their clocks. O(1).
     pub(crate) fn clocks(&self) -> &[Clock]
         ensures { result.now ≡ self.now.clocks }
     {
         &self.clocks
     }
 
-    /// The one at a place. O(1).
+    /// Returns the capture at a place. O(1).
     pub(crate) fn at(&self, place: usize) -> Source
         requires { place < length self.now.captures }
         ensures { slice_get self.now.captures place ≡ Some result }
@@ -180,7 +180,7 @@ impl<A: Allocator + Copy> Sources<A> {
         self.captures[place]
     }
 
-    /// The same fault, said of a port. O(1).
+    /// Returns the same fault, said of a port. O(1).
     pub(crate) fn fault(&self, fault: MergeFault) -> CompareFault
         requires { IsWithin (length self.now.captures) fault }
         ensures { IsFaultOf self.now.captures fault result }

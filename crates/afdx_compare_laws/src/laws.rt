@@ -1,4 +1,4 @@
-//! Laws over the definitions: functions that call laws of lower crates, whose contracts are the laws.
+//! Laws over the definitions: functions that do nothing, or call laws of lower crates, whose contracts are the laws.
 
 ghost use Rattle.afdx_compare_laws.specs.Alone.{RowsAreAlone};
 ghost use Rattle.afdx_compare_laws.specs.Comparing.{KeptIsConforms, KeptIsNotForeign};
@@ -25,8 +25,8 @@ use afdx_port::laws::{ends_do_not_fall, ends_within_a_second};
 use afdx_session::laws::{outcomes_isolate, outputs_are_readable};
 use afdx_table::laws::{links_are_at_their_places, links_are_found, ports_are_found};
 
-/// Of what recordings keep to, a link's frames that passed are passed by its policing with a jitter that is twice the tolerance more: no
-/// other surplus hides, whatever its account had where they begin.
+/// Proves that, if recordings keep to what is proved of our switch, a link's frames that passed are passed by its policing with a jitter that is
+/// twice the tolerance more. No other surplus hides, whatever the link's account had when they begin.
 pub fn no_surplus_hides()
     ensures { NoSurplusHides }
 {
@@ -35,8 +35,8 @@ pub fn no_surplus_hides()
     links_are_found();
 }
 
-/// What recordings keep to, each span of them keeps to, whatever came before it, where a link's frames within a bound of each other
-/// differ.
+/// Proves that, if recordings keep to what is proved of our switch, each span of them does so too, whatever came before it, given that a link's
+/// frames within a bound of each other differ.
 pub fn each_span_is_kept()
     ensures { EachSpanIsKept }
 {
@@ -44,12 +44,13 @@ pub fn each_span_is_kept()
     links_are_found();
 }
 
-/// What recordings keep to for a latency they keep to for a less one, and where latencies differ by more, wherever they begin and end.
+/// Proves that recordings that keep to what is proved of our switch for a least latency do so for a lesser one too, and if latencies differ by more,
+/// wherever they begin and end.
 pub fn less_latency_is_kept_too()
     ensures { LessLatencyIsKeptToo }
 {}
 
-/// What whole recordings keep to where all is exact they keep to whatever their stamps are off by.
+/// Proves that whole recordings of which all is exact, if they keep to what is proved of our switch, do so whatever their stamps are off by.
 pub fn more_tolerance_is_kept_too()
     ensures { MoreToleranceIsKeptToo }
 {
@@ -59,8 +60,8 @@ pub fn more_tolerance_is_kept_too()
     links_are_found();
 }
 
-/// Of what is isolated as what a run of an accepted table answers, each span keeps to what is proved of ours, for each least latency up to the
-/// table's and whatever its stamps are off by, where a link's frames within a bound of each other differ.
+/// Proves that each span of what is isolated as what a run of an accepted table answers keeps to what is proved of ours. It does so for each least
+/// latency up to the table's and whatever its stamps are off by, if a link's frames within a bound of each other differ.
 pub fn our_spans_are_kept()
     ensures { OurSpansAreKept }
 {
@@ -70,9 +71,9 @@ pub fn our_spans_are_kept()
     more_tolerance_is_kept_too();
 }
 
-/// What a run of an accepted table answers, of it each span keeps to what is proved of ours, for each least latency up to the table's and
-/// whatever its stamps are off by, where a link's frames within a bound of each other differ: what came and what leaves is in the order of its
-/// stamps.
+/// Proves that each span of what a run of an accepted table answers keeps to what is proved of ours. It does so for each least latency up to the
+/// table's and whatever its stamps are off by, if a link's frames within a bound of each other differ. What came and what leaves is in the order of
+/// its stamps.
 pub fn our_answers_are_kept()
     ensures { OurAnswersAreKept }
 {
@@ -81,8 +82,8 @@ pub fn our_answers_are_kept()
     our_spans_are_kept();
 }
 
-/// What is found out of a link, and with it its lines and its rows, rests on what came at its own port and on what left at the ports that it
-/// leads to: whatever other captures hold, it is the same.
+/// Proves that what is found out of a link, and with it its lines and its rows, rests on what came at its own port and on what left at the ports
+/// that it leads to: whatever other captures hold, it is the same.
 pub fn rows_are_alone()
     ensures { RowsAreAlone }
 {
@@ -90,8 +91,9 @@ pub fn rows_are_alone()
     links_are_at_their_places();
 }
 
-/// Where a switch was at rest and stamps are exact, what is said of a link at an output port, its text and its rows, rests on what came at its own
-/// port and on what left at that one: whatever other captures hold, those of its other output ports among them, it is the same.
+/// Proves that, if a switch was at rest and stamps are exact, what is said of a link at an output port, its text and its rows, rests on what came at
+/// the link's own port and on what left at that output port. Whatever other captures hold, those of its other output ports among them, it is the
+/// same.
 pub fn each_row_is_alone()
     ensures { EachRowIsAlone }
 {
@@ -100,14 +102,14 @@ pub fn each_row_is_alone()
     ports_are_found();
 }
 
-/// Where the records of a port are what left of the passed frames, nothing that is told of it speaks against the switch: the other direction of
-/// what `afdx_pairing` promises, where by the stamps no frame has left when it comes.
+/// Proves that, if the records of a port are what left of the passed frames, nothing that is told of it speaks against the switch, given that by the
+/// stamps no frame has left when it comes. It is the other direction of what `afdx_pairing` promises.
 pub fn kept_is_fine()
     ensures { KeptIsFine }
 {}
 
-/// Where some fates of a link's frames explain what left at its ports, those do that are told, if each record can be of one frame only or all is
-/// known of the account.
+/// Proves that, if some fates of a link's frames explain what left at its ports, those that are told explain it too, given that each record can be
+/// of one frame only or all is known of the account.
 pub fn told_fates_explain()
     ensures { ToldFatesExplain }
 {
@@ -115,8 +117,9 @@ pub fn told_fates_explain()
     at_rest_is_the_account();
 }
 
-/// Where some fates of a link's frames explain all records that it was told of, the link conforms: the other direction of what `afdx_following`
-/// promises, if its fates can be told, and no record is past the instant at which the recordings end, nor a frame by more than the tolerance.
+/// Proves that, if some fates of a link's frames explain all records that it was told of, the link conforms, given that its fates can be told, and
+/// that no record is past the instant at which the recordings end, nor a frame by more than the tolerance. It is the other direction of what
+/// `afdx_following` promises.
 pub fn kept_link_conforms()
     ensures { KeptLinkConforms }
 {
@@ -124,7 +127,7 @@ pub fn kept_link_conforms()
     at_rest_is_the_account();
 }
 
-/// Of recordings that keep to what is proved of our switch no record is foreign, where each has the six bytes of an address.
+/// Proves that no record is foreign of recordings that keep to what is proved of our switch, if each record has the six bytes of an address.
 pub fn kept_is_not_foreign()
     ensures { KeptIsNotForeign }
 {
@@ -133,8 +136,8 @@ pub fn kept_is_not_foreign()
     ports_are_found();
 }
 
-/// What recordings keep to is said to conform, where no record is foreign: the other direction of what `afdx_compare` promises, with the premises
-/// of `kept_link_conforms` of each link.
+/// Proves that recordings that keep to what is proved of our switch are said to conform if no record is foreign, with the premises of
+/// `kept_link_conforms` of each link. It is the other direction of what `afdx_compare` promises.
 pub fn kept_is_conforms()
     ensures { KeptIsConforms }
 {
@@ -146,8 +149,8 @@ pub fn kept_is_conforms()
     kept_link_conforms();
 }
 
-/// What a run answers is said to conform for each least latency up to the table's for which the table is accepted, and so is each span of it,
-/// where a link's frames within a bound of each other differ.
+/// Proves that what a run answers is said to conform for each least latency up to the table's for which the table is accepted, and so is each span
+/// of it, if a link's frames within a bound of each other differ.
 pub fn our_runs_conform()
     ensures { OurRunsConform }
 {
@@ -166,8 +169,8 @@ pub fn our_runs_conform()
     kept_is_conforms();
 }
 
-/// What is read of the files of a run, of those that it read and of those that it put, is said to conform, as `our_runs_conform` has it of
-/// their records: each file is the capture of one list of records.
+/// Proves that what is read of the files of a run, of those that it read and of those that it put, is said to conform, as `our_runs_conform` has it
+/// of their records: each file is the capture of one list of records.
 pub fn our_files_conform()
     ensures { OurFilesConform }
 {

@@ -9,7 +9,7 @@ use afdx_samples::{capture, small};
 use afdx_units::{Bag, Speed, Stamp};
 use std::test::Fail;
 
-/// Nothing is known of the level at first; a gap later the account is full.
+/// Checks that nothing is known of the level at first, and that the account is full a gap later.
 #[test]
 fn a_level_becomes_known(rt: HostRuntime) -> Result<(), Fail> {
     let later = Stamp::from_ns(1_000_000).ok_or("an instant")?;
@@ -23,7 +23,7 @@ fn a_level_becomes_known(rt: HostRuntime) -> Result<(), Fail> {
     Ok(())
 }
 
-/// The record leaves one line time after the frame came.
+/// Checks that a record which leaves one line time after a frame came is of that frame.
 #[test]
 fn a_record_is_of_a_frame(rt: HostRuntime) -> Result<(), Fail> {
     let frame = record(rt.alloc(), (0, b'A'))?;
@@ -60,7 +60,7 @@ const CLOCK: Clock = Clock {
     delay: 0,
 };
 
-/// Of two captures the second has the first record.
+/// Checks that, of two captures, the second has the first record.
 #[test]
 fn the_first_of_two_captures(rt: HostRuntime) -> Result<(), Fail> {
     let later = capture(rt.alloc(), &[small(10, 2)])?;

@@ -25,7 +25,7 @@ struct Row {
     want: &'static str,
 }
 
-/// Whether that is found out.
+/// Returns whether that is found out.
 fn is_found_out(alloc: Global, row: &Row) -> Result<bool, Fail> {
     let text = answer(alloc, &row.known, row.came, row.left)?;
     Ok(text.as_str() == row.want)
@@ -36,7 +36,7 @@ fn is_found_out(alloc: Global, row: &Row) -> Result<bool, Fail> {
 /// With stamps of the ends of last bits.
 const END_STAMPS: Known = Known { gap: 12, ..EXACT };
 
-/// With stamps that are so far off.
+/// With stamps that may be off by so much.
 const WITHIN_1: Known = Known {
     tolerance: 1,
     ..EXACT
@@ -169,7 +169,7 @@ fn frames_that_do_not_leave_once(rt: HostRuntime) -> Result<(), Fail> {
 
 // ---- ends of recordings
 
-/// Recordings that end just before, and where, the last frame has to have left.
+/// Recordings that end just before, and at, the instant by which the last frame has to have left.
 const SOON: Known = Known {
     until: Some(2_022_719),
     ..EXACT

@@ -19,13 +19,13 @@ pub(crate) struct Known {
     pub(crate) tolerance: u64,
     /// Bytes from an output stamp until the line is free.
     pub(crate) gap: u64,
-    /// The instant at which they begin; none where that is at rest.
+    /// The instant at which they begin; none if they begin at rest.
     pub(crate) from: Option<u64>,
-    /// The instant at which they end; none where all had left.
+    /// The instant at which they end; none if all had left.
     pub(crate) until: Option<u64>,
 }
 
-/// At rest, with stamps that are exact and taken where the line is free again.
+/// At rest, with stamps that are exact and taken when the line is free again.
 pub(crate) const EXACT: Known = Known {
     tolerance: 0,
     gap: 0,
@@ -39,7 +39,7 @@ pub(crate) const CUT: Known = Known {
     ..EXACT
 };
 
-/// The instant of so many nanoseconds.
+/// Returns the instant of so many nanoseconds.
 fn instant(ns: u64) -> Result<Stamp, Fail> {
     match Stamp::from_ns(ns) {
         Some(stamp) => Ok(stamp),
@@ -47,7 +47,7 @@ fn instant(ns: u64) -> Result<Stamp, Fail> {
     }
 }
 
-/// The instant of so many nanoseconds, if any.
+/// Returns the instant of so many nanoseconds, if any.
 fn instant_of(ns: Option<u64>) -> Result<Option<Stamp>, Fail> {
     match ns {
         Some(ns) => Ok(Some(instant(ns)?)),
@@ -55,7 +55,7 @@ fn instant_of(ns: Option<u64>) -> Result<Option<Stamp>, Fail> {
     }
 }
 
-/// The record of a frame of link 7, of 64 bytes.
+/// Makes the record of a frame of link 7, of 64 bytes.
 pub(crate) fn record(alloc: Global, (ns, letter): Sight) -> Result<Record<'static, Global>, Fail> {
     let stamp = instant(ns)?;
     let mut bytes = [3, 0, 0, 0, 0, 7].to_vec(alloc)?;
@@ -67,7 +67,7 @@ pub(crate) fn record(alloc: Global, (ns, letter): Sight) -> Result<Record<'stati
     }
 }
 
-/// Adds the text of an event, with the numbers of the frame and of the record, and the delay.
+/// Appends the text of an event, with the numbers of the frame and of the record, and the delay.
 fn tell(text: &mut String<Global>, event: &Event) -> Result<(), AllocError> {
     match *event {
         Event::Early(pair) => write!(
@@ -149,7 +149,7 @@ fn leave_between(
     Ok(())
 }
 
-/// A link, by bytes, of gap 1 ms and without jitter, at a port of 100 Mbit/s with a bound of 22,720 ns.
+/// Makes a link, by bytes, of gap 1 ms and without jitter, at a port of 100 Mbit/s with a bound of 22,720 ns.
 fn link_at_a_port(alloc: Global, watch: &Watch) -> Result<Following<'static, Global>, Fail> {
     if watch.tolerance > 1_000_000_000 {
         return Err(Fail::from("a tolerance"));
@@ -169,7 +169,7 @@ fn link_at_a_port(alloc: Global, watch: &Watch) -> Result<Following<'static, Glo
     // end of example
 }
 
-/// Adds the texts of events.
+/// Appends the texts of events.
 fn tell_all(text: &mut String<Global>, events: &[Event]) -> Result<(), AllocError> {
     for event in events {
         tell(text, event)?;
@@ -177,7 +177,7 @@ fn tell_all(text: &mut String<Global>, events: &[Event]) -> Result<(), AllocErro
     Ok(())
 }
 
-/// What was found out of a link.
+/// Writes what was found out of a link.
 fn text_of(alloc: Global, link: &Following<'static, Global>) -> Result<String<Global>, AllocError> {
     let mut text = String::new(alloc);
     for output in link.outputs() {
@@ -219,7 +219,7 @@ fn follow(
     Ok(())
 }
 
-/// What is found out of link 7 by what it is watched by.
+/// Writes what is found out of link 7 if it is watched by this.
 fn found_by(
     alloc: Global,
     watch: &Watch,
@@ -232,7 +232,7 @@ fn found_by(
     Ok(text)
 }
 
-/// What is found out of link 7, over what came and what was recorded.
+/// Writes what is found out of link 7, over what came and what was recorded.
 pub(crate) fn answer(
     alloc: Global,
     known: &Known,

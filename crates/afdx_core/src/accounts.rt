@@ -12,7 +12,7 @@ use afdx_table::Table;
 use afdx_units::Stamp;
 use std::alloc::{AllocError, Allocator};
 
-/// The accounts of a table's links by their places, all full.
+/// Makes the accounts of a table's links, by the links' places, all full.
 ///
 /// An error says that memory ran out. O(links).
 pub fn accounts_of<A: Allocator + Copy>(
@@ -29,7 +29,7 @@ pub fn accounts_of<A: Allocator + Copy>(
     Ok(accounts)
 }
 
-/// Offers the frame of a row to the account at a place, and answers whether it is passed. O(1).
+/// Offers the frame of a row to the account at a place, and returns whether it is passed. O(1).
 pub fn police(accounts: &mut [Account], place: usize, row: &Row) -> bool
     requires place { place < length accounts.old }
     requires in_order { (a : Account) → account_since (slice_index_or accounts.old place a) ≤ row.now.stamp }
@@ -38,7 +38,7 @@ pub fn police(accounts: &mut [Account], place: usize, row: &Row) -> bool
     accounts[place].offer(row.stamp, row.size)
 }
 
-/// By how many nanoseconds a frame of this size would come too early at an instant for the account at a place. O(1).
+/// Returns by how many nanoseconds a frame of this size would come too early at an instant for the account at a place. O(1).
 pub fn early_at(accounts: &[Account], place: usize, at: Stamp, size: u32) -> u64
     requires place { place < length accounts.now }
     requires in_order { (a : Account) → account_since (slice_index_or accounts.now place a) ≤ at }

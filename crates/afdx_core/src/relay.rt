@@ -89,7 +89,7 @@ impl<'a, A: Allocator + Copy> Relay<'a, A> {
         Ok(Relay { engine })
     }
 
-    /// Whether its table was checked and accepted: whether [`Relay::cleared`] made it. O(1).
+    /// Returns whether its table was checked and accepted: whether [`Relay::cleared`] made it. O(1).
     pub fn accepted(&self) -> bool
         ensures accepted { result ≡ self.now.accepted }
         ensures known { IsTrue result → IsAccepted self.now.run.table }
@@ -125,45 +125,45 @@ impl<'a, A: Allocator + Copy> Relay<'a, A> {
         self.engine.advance(to)
     }
 
-    /// The switch's table. O(1).
+    /// Returns the switch's table. O(1).
     pub fn table(&self) -> &Table
         ensures { result.now ≡ self.now.run.table }
     {
         &self.engine.table
     }
 
-    /// The instant of the first start or discard that was not carried out, before which it does nothing unless something arrives; none
-    /// where nothing is left. O(1).
+    /// Returns the instant of the first start or discard that was not carried out; none if nothing is left. Before that instant the switch
+    /// does nothing unless something arrives. O(1).
     pub fn next_event(&self) -> Option<Stamp>
         ensures { IsNextEvent self.now.run result }
     {
         self.engine.next_event()
     }
 
-    /// How many different frames are held, as [`Switch::held`](crate::Switch::held) counts them. O(1).
+    /// Returns how many different frames are held, as [`Switch::held`](crate::Switch::held) counts them. O(1).
     pub fn held(&self) -> usize
         ensures { result ≡ held_count self.now.run }
     {
         self.engine.held()
     }
 
-    /// The place of a port among the table's, by rising number; none where there is no such port. O(1).
+    /// Returns the place of a port among the table's, by rising number; none if there is no such port. O(1).
     pub fn place_of(&self, port: u8) -> Option<usize>
         ensures { result ≡ place_of self.now.run port }
     {
         self.engine.place_of(port)
     }
 
-    /// The bytes that the buffer of the port at a place holds at the instant that the greatest stamp reaches, one latency later; 0 where
-    /// there is no such port. O(1).
+    /// Returns how many bytes the buffer of the port at a place holds at the instant that the greatest stamp reaches, one latency later; 0
+    /// if there is no such port. O(1).
     pub fn occupied(&self, place: usize) -> u64
         ensures { result ≡ occupied_in self.now.run (slice_get self.now.run.table.ports place) }
     {
         self.engine.occupied(place)
     }
 
-    /// By how many nanoseconds a frame of this size of the link at a place would come too early at an instant for those that were passed;
-    /// 0 where there is no such link. O(1).
+    /// Returns by how many nanoseconds a frame of this size of the link at a place would come too early at an instant for those that were
+    /// passed; 0 if there is no such link. O(1).
     pub fn early_by(&self, place: usize, at: Stamp, size: u32) -> u64
         requires { self.now.run.latest ≤ at }
         ensures { result ≡ early_in self.now.run (slice_get self.now.run.table.links place) (record { stamp = at; size = size }) }
@@ -171,7 +171,7 @@ impl<'a, A: Allocator + Copy> Relay<'a, A> {
         self.engine.early_by(place, at, size)
     }
 
-    /// What the port's next frame that was not handed out was sent as, with the port's place; none where none is left, or there is no such
+    /// Returns the port's next sent item whose frame was not handed out, with the port's place; none if none is left, or there is no such
     /// port. O(1).
     pub fn next_sent(&self, port: u8) -> Option<(usize, Sent)>
         ensures { IsNextOf self.now.run port result }
@@ -218,21 +218,21 @@ impl<'a, A: Allocator + Copy> Relay<'a, A> {
 }
 
 impl<'a, A: Allocator + Copy> Relayed<'a, A> {
-    /// The switch's table. O(1).
+    /// Returns the switch's table. O(1).
     pub fn table(&self) -> &Table
         ensures { result.now ≡ self.now.run.table }
     {
         &self.engine.table
     }
 
-    /// The place of a port among the table's, by rising number; none where there is no such port. O(1).
+    /// Returns the place of a port among the table's, by rising number; none if there is no such port. O(1).
     pub fn place_of(&self, port: u8) -> Option<usize>
         ensures { result ≡ place_of self.now.run port }
     {
         self.engine.place_of(port)
     }
 
-    /// What the port's next frame that was not handed out was sent as, as [`Relay::next_sent`] says it.
+    /// Returns the port's next sent item whose frame was not handed out, as [`Relay::next_sent`] does.
     pub fn next_sent(&self, port: u8) -> Option<(usize, Sent)>
         ensures { IsNextOf self.now.run port result }
     {
@@ -260,14 +260,14 @@ impl<'a, A: Allocator + Copy> Relayed<'a, A> {
         self.engine.next_out_into(port, capture)
     }
 
-    /// How many items of each priority a port sent; none where there is no such port. O(ports).
+    /// Returns how many items of each priority a port sent; none if there is no such port. O(ports).
     pub fn sent_tally(&self, port: u8) -> Tally
         ensures { result ≡ tally_of_sent (sent_in self.now.run (port_row self.now.run.table port)) }
     {
         self.engine.sent_tally(port)
     }
 
-    /// How many items of each priority a port discarded for their age; none where there is no such port. O(ports).
+    /// Returns how many items of each priority a port discarded for their age; none if there is no such port. O(ports).
     pub fn aged_tally(&self, port: u8) -> Tally
         ensures { result ≡ tally_of_aged (aged_in self.now.run (port_row self.now.run.table port)) }
     {

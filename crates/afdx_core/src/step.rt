@@ -43,7 +43,7 @@ pub struct Row {
     pub size: u32,
     /// What the filter says of it.
     pub verdict: Verdict,
-    /// The number of the link that it names, where the filter found that link in the table.
+    /// The number of the link that it names, if the filter found that link in the table.
     pub link: Option<u16>,
     /// The port at which it came in; last, as fields are in the order in which they are declared.
     pub in_port: u8,
@@ -62,16 +62,17 @@ pub struct Step {
     /// The port at which it came in.
     pub in_port: u8,
     pub fate: Fate,
-    /// The ports that its link leads to, in the link's order, with the answer of each; none where
-    /// it was not passed.
+    /// The ports that its link leads to, in the link's order, with the answer of each; none if it was not
+    /// passed.
     pub offers: Offers,
-    /// Where its link is in the table's file order, from 0, as the filter found it; none where it is no link's.
-    /// Contracts do not see it: it spares a look-up, and who uses it looks whether that link has the number.
+    /// The place of its link in the table's file order, from 0, as the filter found it; none if it is no
+    /// link's. Contracts do not see it: it spares a look-up, and a caller that uses it checks that the link
+    /// there has the number.
     pub place: Option<usize>,
 }
 
 impl Step {
-    /// What became of the arrival of this row.
+    /// Makes the step that says what became of the arrival of this row.
     pub(crate) fn of(
         number: usize,
         row: &Row,

@@ -47,7 +47,7 @@ pub struct OutCount {
     pub sent: u64,
 }
 
-/// One more, and no more than the greatest value.
+/// Adds one to a counter, unless it is at its greatest value.
 pub(crate) fn up(count: u64) -> u64
     ensures { result ≡ up count }
 {
@@ -98,7 +98,7 @@ impl OutCount {
     }
 }
 
-/// The counters of the high copies and of the low ones, with those that were sent. It is one pass over the list, which is long.
+/// Adds sent copies to the counters of the high ones and of the low ones. It is one pass over the list, which is long.
 pub(crate) fn more_sent(high: u64, low: u64, sent: &[Sent]) -> (u64, u64)
     ensures high { result.0 ≡ more_sent high High sent.now }
     ensures low { result.1 ≡ more_sent low Low sent.now }
@@ -114,7 +114,7 @@ pub(crate) fn more_sent(high: u64, low: u64, sent: &[Sent]) -> (u64, u64)
     (of_high, of_low)
 }
 
-/// The counters of the high copies and of the low ones, with those that were discarded.
+/// Adds discarded copies to the counters of the high ones and of the low ones.
 pub(crate) fn more_aged(high: u64, low: u64, aged: &[Aged]) -> (u64, u64)
     ensures high { result.0 ≡ more_aged high High aged.now }
     ensures low { result.1 ≡ more_aged low Low aged.now }

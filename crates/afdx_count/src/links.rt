@@ -50,7 +50,7 @@ impl LinkTally {
     }
 }
 
-/// The counters of a table's links, in the file's order. O(links).
+/// Makes the counters of a table's links, in the file's order. O(links).
 fn tallies_of<A: Allocator + Copy>(alloc: A, table: &Table) -> Result<Vec<LinkTally, A>, AllocError>
     ensures tallies { IfOk result (λ tallies. tallies.items ≡ map new_link table.now.links) }
     ensures distinct { IsDistinct nat_eq (map (λ l. l.id) table.now.links) }
@@ -62,7 +62,7 @@ fn tallies_of<A: Allocator + Copy>(alloc: A, table: &Table) -> Result<Vec<LinkTa
     Ok(tallies)
 }
 
-/// The place of the link of a number among these, from 0. O(links).
+/// Finds the place of the link with a number among these counters, from 0. O(links).
 fn search(tallies: &[LinkTally], id: u16) -> Option<usize>
     ensures { result ≡ position (λ l. l.id == id) tallies.now }
 {
@@ -90,7 +90,7 @@ impl<A: Allocator> Model for Links<A> {
 }
 
 impl<A: Allocator + Copy> Links<A> {
-    /// The counters of a table's links, in the file's order.
+    /// Makes the counters of a table's links, in the file's order.
     pub(crate) fn new(alloc: A, table: &Table) -> Result<Self, AllocError>
         ensures { IfOk result (λ links. links ≡ map new_link table.now.links) }
     {
@@ -104,7 +104,7 @@ impl<A: Allocator + Copy> Links<A> {
         self.tallies.as_slice()
     }
 
-    /// The place of the link of a number, from 0. O(links).
+    /// Finds the place of the link with a number, from 0. O(links).
     fn place(&self, id: u16) -> Option<usize>
         ensures at { IfSome result (IsPlaceOf (λ l. l.id) id self.now) }
         ensures absent { IfNone result (list_any (λ l. id == l.id) self.now ≡ false) }
@@ -114,7 +114,7 @@ impl<A: Allocator + Copy> Links<A> {
         search(&self.tallies, id)
     }
 
-    /// Whether the link at a place has the number.
+    /// Returns whether the link at a place has the number.
     fn has_number_at(&self, place: usize, id: u16) -> bool
         ensures at { IsTrue result → IsPlaceOf (λ l. l.id) id self.now place }
         ensures distinct { IsDistinct nat_eq (map (λ l. l.id) self.now) }
@@ -122,8 +122,8 @@ impl<A: Allocator + Copy> Links<A> {
         place < self.tallies.len() && self.tallies[place].id == id
     }
 
-    /// The place of the link of a number: the one that is given, where that link has the number, and else the one that
-    /// is found.
+    /// Finds the place of the link with a number: the one that is given, if the link there has the number, else the one that
+    /// a search finds.
     fn place_reported(&self, id: u16, reported: Option<usize>) -> Option<usize>
         ensures at { IfSome result (IsPlaceOf (λ l. l.id) id self.now) }
         ensures absent { IfNone result (list_any (λ l. id == l.id) self.now ≡ false) }
@@ -136,7 +136,7 @@ impl<A: Allocator + Copy> Links<A> {
         }
     }
 
-    /// The counters of the link of a number.
+    /// Returns the counters of the link with a number, if there is one.
     pub(crate) fn get(&self, id: u16) -> Option<LinkTally>
         ensures { result ≡ link_in id self.now }
     {
@@ -146,7 +146,7 @@ impl<A: Allocator + Copy> Links<A> {
         }
     }
 
-    /// Counts a passed frame at the link of a number, which may be at the place that is given, and gives the priority
+    /// Counts a passed frame at the link with a number, which may be at the place that is given, and returns the priority
     /// of its copies.
     fn note_passed(&mut self, id: u16, reported: Option<usize>) -> Option<Priority>
         ensures links { self.new ≡ changed_at (λ l. l.id) id one_passed self.old }
@@ -170,7 +170,7 @@ impl<A: Allocator + Copy> Links<A> {
         }
     }
 
-    /// Counts an arrival at its link, which may be at the place that is given, and gives the priority of the copies of a
+    /// Counts an arrival at its link, which may be at the place that is given, and returns the priority of the copies of a
     /// passed frame.
     pub(crate) fn note(&mut self, fate: Fate, reported: Option<usize>) -> Option<Priority>
         ensures links { self.new ≡ map (noted_link fate) self.old }

@@ -8,7 +8,7 @@ use crate::links::LinkTally;
 use crate::ports::PortTally;
 use std::alloc::{AllocError, Allocator};
 
-/// A word and its number.
+/// Appends a word and its number.
 fn put_part<A: Allocator + Copy>(
     text: &mut String<A>,
     word: &str,
@@ -20,7 +20,7 @@ fn put_part<A: Allocator + Copy>(
     write!(text, "{number}")
 }
 
-/// Words with their numbers, and a line feed.
+/// Appends words with their numbers, and a line feed.
 fn put_line<A: Allocator + Copy>(
     text: &mut String<A>,
     parts: &[(&str, u64)],

@@ -8,7 +8,7 @@ use std::alloc::{AllocError, Allocator};
 /// What a row has in a column.
 #[derive(Clone, Copy, Debug, PartialEq, Eq)]
 pub enum Field<'a> {
-    /// A number; nothing where there is none.
+    /// A number; nothing if there is none.
     Number(Option<u128>),
     /// A number below 0 by so much.
     Below(u128),
@@ -17,7 +17,7 @@ pub enum Field<'a> {
 }
 
 impl Field<'static> {
-    /// Returns a field with a number of 64 bits, where there is one. O(1).
+    /// Returns a field with a number of 64 bits, if there is one. O(1).
     pub fn of(number: Option<u64>) -> Field<'static>
         ensures { result ≡ Field.Number number }
     {
@@ -28,7 +28,7 @@ impl Field<'static> {
     }
 }
 
-/// Appends a number; nothing where there is none.
+/// Appends a number; nothing if there is none.
 fn put_number<A: Allocator + Copy>(
     text: &mut String<A>,
     number: Option<u128>,

@@ -6,7 +6,7 @@ ghost use Rattle.afdx_csv.specs.Slack.{left_text, per_mille, slack_text, share_t
 
 use crate::field::Field;
 
-/// What was left of a limit: below 0 where more was used.
+/// Returns what was left of a limit: below 0 if more was used.
 fn left(used: u128, limit: u128) -> Field<'static>
     ensures { text_of result ≡ left_text used limit }
 {
@@ -17,7 +17,7 @@ fn left(used: u128, limit: u128) -> Field<'static>
     }
 }
 
-/// Thousandths of a bound, rounded up.
+/// Returns how many thousandths of a bound the greatest delay takes, rounded up.
 fn per_mille(greatest: u64, bound: u128) -> u128
     requires { 0 < bound }
     ensures { result ≡ per_mille greatest bound }
@@ -25,8 +25,8 @@ fn per_mille(greatest: u64, bound: u128) -> u128
     (1000 * u128::from(greatest)).div_ceil(bound)
 }
 
-/// How much of a bound the greatest delay left, both in nanoseconds: below 0 where it was past the bound, nothing where one of them is not
-/// there. O(1).
+/// Returns how much of a bound the greatest delay left, both in nanoseconds: below 0 if it was past the bound, nothing if one of them is
+/// not there. O(1).
 pub fn slack(greatest: Option<u64>, bound: Option<u128>) -> Field<'static>
     ensures { text_of result ≡ slack_text greatest bound }
 {
@@ -36,7 +36,7 @@ pub fn slack(greatest: Option<u64>, bound: Option<u128>) -> Field<'static>
     }
 }
 
-/// The same in thousandths of the bound, rounded down, so that it is below 0 where the slack is; nothing where the bound is 0. O(1).
+/// Returns the same in thousandths of the bound, rounded down, so that it is below 0 if the slack is; nothing if the bound is 0. O(1).
 pub fn slack_per_mille(greatest: Option<u64>, bound: Option<u128>) -> Field<'static>
     ensures { text_of result ≡ share_text greatest bound }
 {

@@ -40,7 +40,7 @@ impl Model for Instants {
     ghost invariant = { λ i. AreGrouped i.places i.numbers i.leasts i.firsts };
 }
 
-/// The number that is kept for an instant or none.
+/// Returns the number that is kept for an instant or none.
 fn number_for(instant: Option<Stamp>) -> u64
     ensures { instant_in result ≡ instant }
 {
@@ -50,7 +50,7 @@ fn number_for(instant: Option<Stamp>) -> u64
     }
 }
 
-/// Of the group that starts at a place the first place of the least number, and that number.
+/// Returns the first place of the least number in the group that starts at a place, and that number.
 fn first_of_group(numbers: &[u64; PLACES], start: usize) -> (usize, u64)
     requires { start + 6 ≤ length numbers.now }
     ensures { IsFirstFrom numbers.now start (start + 6) result.0 result.1 }
@@ -68,7 +68,7 @@ fn first_of_group(numbers: &[u64; PLACES], start: usize) -> (usize, u64)
 }
 
 impl Instants {
-    /// So many places, none of which has an instant. O(1).
+    /// Makes the instants of so many places, none of which has one. O(1).
     pub fn new(places: usize) -> Instants
         requires { places ≤ 24 }
         ensures { result ≡ replicate places None }
@@ -81,8 +81,8 @@ impl Instants {
         }
     }
 
-    /// The place whose instant is the first, of equal ones the first place, and the instant; none where no place has one.
-    /// O(1).
+    /// Returns the place that has the first instant, with that instant; if several places have it, the first of them; none if
+    /// no place has an instant. O(1).
     pub fn first(&self) -> Option<(usize, Stamp)>
         ensures { IsFirstIn self.now (length self.now) result }
     {
@@ -98,7 +98,7 @@ impl Instants {
         Some((first, stamp))
     }
 
-    /// A place has another instant, or none; where it is the same as before, nothing is changed. O(1).
+    /// Gives a place another instant, or none; changes nothing if it is the same as before. O(1).
     pub fn set(&mut self, place: usize, instant: Option<Stamp>)
         requires { place < length self.old }
         ensures { self.new ≡ set self.old place instant }
@@ -110,7 +110,7 @@ impl Instants {
         }
     }
 
-    /// A place has another number.
+    /// Gives a place another number.
     fn change(&mut self, place: usize, number: u64)
         requires { place < length self.old }
         ensures { self.new ≡ set self.old place (instant_in number) }

@@ -21,10 +21,9 @@ use std::alloc::Allocator;
 pub struct Judged {
     /// The first case of [`Verdict`] that holds.
     pub verdict: Verdict,
-    /// The place of a clean frame's link in file order, from 0; none of any other frame.
+    /// The place of a clean frame's link in file order, from 0; none for any other frame.
     pub place: Option<usize>,
-    /// The number of the link that the frame names, of a clean one, of one at a wrong port and of one that is too big; none
-    /// of any other frame.
+    /// The number of the link that the frame names, if the frame is clean, at a wrong port or too big; none for any other frame.
     pub link: Option<u16>,
 }
 
@@ -39,7 +38,7 @@ impl Judged {
         }
     }
 
-    /// The same where the frame names a link of the table.
+    /// Makes the judgement of a frame that names a link of the table and is not clean.
     fn named(verdict: Verdict, number: u16) -> Judged
         ensures { result ≡ record { verdict = verdict; place = None; link = Some number } }
     {
@@ -51,7 +50,7 @@ impl Judged {
     }
 }
 
-/// The verdict on a frame that arrives at a port, with the link that it names and the place of a clean frame's link.
+/// Returns the verdict on a frame that arrives at a port, with the link that it names and the place of a clean frame's link.
 ///
 /// O(1) on average, with one look-up of the link by its number; it takes no memory.
 pub fn judge<A: Allocator>(table: &Table, in_port: u8, frame: &Record<'_, A>) -> Judged
@@ -77,7 +76,7 @@ pub fn judge<A: Allocator>(table: &Table, in_port: u8, frame: &Record<'_, A>) ->
     judge_number(table, in_port, size, address.link())
 }
 
-/// The same of a frame of this size and link number, which passed the tests before that of its link.
+/// Judges a frame of this size and link number, which has passed the tests that come before that of its link.
 fn judge_number(table: &Table, in_port: u8, size: u32, number: u16) -> Judged
     ensures verdict { result.verdict ≡ link_verdict in_port size (link_row table.now number) }
     ensures place { result.place ≡ place_named table.now result.verdict }
@@ -102,7 +101,7 @@ fn judge_number(table: &Table, in_port: u8, size: u32, number: u16) -> Judged
     }
 }
 
-/// The verdict on a frame that arrives at a port: the first case of [`Verdict`] that holds.
+/// Returns the verdict on a frame that arrives at a port: the first case of [`Verdict`] that holds.
 ///
 /// O(1) on average; it takes no memory.
 pub fn verdict<A: Allocator>(table: &Table, in_port: u8, frame: &Record<'_, A>) -> Verdict

@@ -10,7 +10,7 @@ pub const VERSION: &str = "1.2.3
 kit 4
 not proved";
 
-/// A folder with a table and with captures of ports 1 and up.
+/// Makes a folder with a table and with captures of ports 1 and up.
 pub fn folder_of(
     alloc: Global,
     table: &str,
@@ -30,7 +30,7 @@ pub fn folder_of(
     Ok(folder)
 }
 
-/// The arguments of a command line.
+/// Returns the arguments of a command line.
 pub fn split(alloc: Global, line: &str) -> Result<Vec<String>, AllocError> {
     let mut arguments = Vec::new(alloc);
     for argument in line.split_whitespace() {
@@ -48,14 +48,15 @@ pub struct Served {
 }
 
 impl Served {
-    /// Whether it is this status, with this on standard output and that on standard error, which took the whole line if there is one.
+    /// Returns whether it is this status, with this on standard output and that on standard error, which took the whole line if there is
+    /// one.
     pub fn is(&self, status: u8, out: &[u8], err: &[u8]) -> bool {
         let is_ended = self.ending.status == status && self.ending.is_told;
         is_ended && self.out.as_slice() == out && self.err.as_slice() == err
     }
 }
 
-/// What the program answers over a folder.
+/// Returns what the program answers over a folder.
 pub fn answer_over<A: Allocator + Copy>(
     alloc: Global,
     line: &str,
@@ -76,7 +77,7 @@ pub fn answer_over<A: Allocator + Copy>(
 /// A status, and what is on standard output and on standard error.
 pub type Said<'a> = (u8, &'a str, &'a str);
 
-/// Whether the program answers so over a folder.
+/// Returns whether the program answers so over a folder.
 pub fn answers<A: Allocator + Copy>(
     alloc: Global,
     line: &str,

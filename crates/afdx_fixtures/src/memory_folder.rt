@@ -54,12 +54,12 @@ pub struct MemoryFolder<A: Allocator> {
 }
 
 impl<A: Allocator + Copy> MemoryFolder<A> {
-    /// No files, and no call fails.
+    /// Makes a folder of no files, no call of which fails.
     pub fn new(alloc: A) -> MemoryFolder<A> {
         MemoryFolder::failing(alloc, 0, FolderFault::Device)
     }
 
-    /// No files.
+    /// Makes a folder of no files, whose call of number `failing` fails so.
     pub fn failing(alloc: A, failing: u64, fault: FolderFault) -> MemoryFolder<A> {
         MemoryFolder {
             alloc,
@@ -75,24 +75,24 @@ impl<A: Allocator + Copy> MemoryFolder<A> {
         }
     }
 
-    /// From now on no file that it opens can be read.
+    /// Lets no file that it opens from now on be read.
     pub fn fail_to_read(&mut self) {
         self.fails_to_read = true;
     }
 
-    /// From now on the call of this number, from 1, fails so.
+    /// Lets the call of this number, from 1, fail so from now on.
     pub fn fail_at(&mut self, failing: u64, fault: FolderFault) {
         self.failing = failing;
         self.fault = fault;
     }
 
-    /// From now on the new file of this number, from 1, fails so when it is settled.
+    /// Lets the new file of this number, from 1, fail so from now on when it is settled.
     pub fn fail_to_settle(&mut self, failing: u64, fault: FolderFault) {
         self.failing_settle = failing;
         self.fault = fault;
     }
 
-    /// Puts a file, which is no call that is counted.
+    /// Puts a file, which is not counted as a call.
     pub fn add(&mut self, name: &str, bytes: &[u8]) -> Result<(), AllocError> {
         let name = String::from_str(self.alloc, name)?;
         let bytes = Vec::from_slice(self.alloc, bytes)?;
@@ -100,7 +100,7 @@ impl<A: Allocator + Copy> MemoryFolder<A> {
         Ok(())
     }
 
-    /// Whether it has the first so many of these files and no others, each once, and no new ones.
+    /// Returns whether it has the first so many of these files and no others, each once, and no new ones.
     pub fn holds(&self, files: &[(&str, &[u8])], count: usize) -> bool {
         let mut all = self.count() == count;
         for place in 0..count {
@@ -113,22 +113,22 @@ impl<A: Allocator + Copy> MemoryFolder<A> {
         all
     }
 
-    /// How many times a file was added or put, and how many new ones are left beside these.
+    /// Returns how many times a file was added or put, plus how many new ones are left beside these.
     pub fn count(&self) -> usize {
         self.files.len().saturating_add(self.begun)
     }
 
-    /// How many calls that get or put it was given.
+    /// Returns how many calls that get, open or put it was given.
     pub fn calls(&self) -> u64 {
         self.calls
     }
 
-    /// The name that the last failure was for.
+    /// Returns the name that the last failure was for, if there was one.
     pub fn last_failure(&self) -> Option<&str> {
         self.log.last()
     }
 
-    /// The bytes that are under a name.
+    /// Returns the bytes that are under a name, if there is such a file.
     pub fn bytes(&self, name: &str) -> Option<&[u8]> {
         match find_file(&self.files, name) {
             Some(file) => Some(file.bytes.as_slice()),
@@ -143,7 +143,7 @@ fn find_file<'a, A: Allocator>(files: &'a [File<A>], name: &str) -> Option<&'a F
     files.iter().find(|file| file.name.as_str() == name)
 }
 
-/// Counts a call for this name, and gives the fault where it is the one that fails.
+/// Counts a call for this name, and returns the fault if it is the one that fails.
 fn call<A: Allocator + Copy>(folder: &mut MemoryFolder<A>, name: &str) -> Result<(), FolderFault>
     ensures files { folder.new.files ≡ folder.old.files }
     ensures cause { HasCause name.now folder.old.log folder.new.log result }
@@ -214,7 +214,7 @@ impl<B: Allocator + Copy> Folder for MemoryFolder<B> {
         self.put_new(new, name)
     }
 
-    /// With room for the header of a capture.
+    /// Begins a new file with room for the header of a capture.
     fn begin(&mut self, _name: &str) -> Result<MemoryFile<B>, AllocError> {
         let bytes = Vec::with_capacity(self.alloc, 24)?;
         self.begun = self.begun.saturating_add(1);

@@ -5,7 +5,7 @@ use afdx_folder::FolderFault;
 use afdx_samples::{HEADER, Sample, capture, frame, single};
 use std::alloc::{AllocError, Allocator, Global};
 
-/// A frame of link 10, of which so many bytes are captured.
+/// Makes a frame of link 10, of which so many bytes are captured.
 pub fn captured(bytes: u32, seconds: u32, nanos: u32) -> Sample {
     Sample {
         seconds,
@@ -50,7 +50,7 @@ pub const NO_DIFFERENCES: (&str, &[u8]) = (
     b"port,link,kind,record_in,stamp_in,record_out,stamp_out,delay,bound\n",
 );
 
-/// The run of one frame of 64 bytes at port 1: the table, and the captures that come in and go out where there are frames.
+/// The run of one frame of 64 bytes at port 1: the table, and the captures that come in and go out at the ports that have frames.
 #[derive(Drop)]
 pub struct OneFrame {
     alloc: Global,
@@ -60,7 +60,7 @@ pub struct OneFrame {
 }
 
 impl OneFrame {
-    /// Of a frame that comes at 0.
+    /// Makes the run of a frame that comes at 0.
     pub fn new(alloc: Global) -> Result<OneFrame, AllocError> {
         Ok(OneFrame {
             alloc,
@@ -70,12 +70,12 @@ impl OneFrame {
         })
     }
 
-    /// The capture that comes in at port 1.
+    /// Returns the capture that comes in at port 1.
     pub fn came(&self) -> &[u8] {
         &self.came
     }
 
-    /// The names and bytes of what is there, three files, and of what is put, two.
+    /// Returns the names and bytes of what is there, three files, and of what is put, two.
     pub fn files(&self) -> [(&str, &[u8]); 5] {
         [
             ("t", self.table.as_bytes()),
@@ -86,7 +86,7 @@ impl OneFrame {
         ]
     }
 
-    /// Adds what is there.
+    /// Adds what is there to a folder.
     pub fn add_to<A: Allocator + Copy>(
         &self,
         folder: &mut MemoryFolder<A>,
@@ -96,7 +96,7 @@ impl OneFrame {
         folder.add("in/port-2.pcap", &HEADER)
     }
 
-    /// Adds what is there and what is put: recordings of the switch.
+    /// Adds what is there and what is put to a folder: recordings of the switch.
     pub fn add_recordings_to<A: Allocator + Copy>(
         &self,
         folder: &mut MemoryFolder<A>,
@@ -106,13 +106,13 @@ impl OneFrame {
         folder.add("out/port-2.pcap", &self.sent)
     }
 
-    /// The recordings, and this file of differences.
+    /// Returns the recordings, and this file of differences.
     pub fn compared<'a>(&'a self, differences: (&'a str, &'a [u8])) -> [(&'a str, &'a [u8]); 6] {
         let [table, first, second, third, fourth] = self.files();
         [table, first, second, third, fourth, differences]
     }
 
-    /// What is there. The call of number `failing` fails so.
+    /// Makes a folder of what is there, whose call of number `failing` fails so.
     pub fn folder(
         &self,
         failing: u64,
@@ -123,13 +123,13 @@ impl OneFrame {
         Ok(folder)
     }
 
-    /// The same, where no call fails.
+    /// Makes a folder of what is there, no call of which fails.
     pub fn sound(&self) -> Result<MemoryFolder<Global>, AllocError> {
         self.folder(0, FolderFault::Device)
     }
 
-    /// Whether the program, over a folder that fails to settle the new file of this number, has status 5 and this line, for this name,
-    /// and left what was there: it put no file, and no new one is left.
+    /// Returns whether the program, over a folder that fails to settle the new file of this number, has status 5 and this line, for this
+    /// name, and left what was there: it put no file, and no new one is left.
     pub fn stops_settling(
         &self,
         arguments: &str,
@@ -144,8 +144,8 @@ impl OneFrame {
         Ok(is_said && is_left && folder.last_failure() == name)
     }
 
-    /// Whether the program, over a folder one of whose calls fails, has status 5 and this line, made no call after that one, and left
-    /// the first so many of these files and no others.
+    /// Returns whether the program, over a folder one of whose calls fails, has status 5 and this line, made no call after that one, and
+    /// left the first so many of these files and no others.
     pub fn stops(
         &self,
         arguments: &str,
@@ -170,7 +170,7 @@ pub struct Broken<'a> {
 }
 
 impl Broken<'_> {
-    /// Whether the folder was given no call after that one, and gives this name.
+    /// Returns whether the folder was given no call after that one, and gives this name.
     fn is_of(&self, folder: &MemoryFolder<Global>) -> bool {
         folder.calls() == self.call && folder.last_failure() == self.name
     }

@@ -25,7 +25,7 @@ pub(crate) struct Claims<A: Allocator> {
     waiting: usize,
 }
 
-/// The name of the folder that a file is in.
+/// Returns the name of the folder that a file is in.
 fn folder_of(name: &str) -> &str {
     match name.rfind('/') {
         Some(0) => "/",
@@ -34,7 +34,7 @@ fn folder_of(name: &str) -> &str {
     }
 }
 
-/// A folder, opened, and which it is.
+/// Opens a folder, and returns it with its identity, if that can be done.
 fn open_folder<R: Files<File = File>>(rt: &R, name: &str) -> Option<(FileId, File)> {
     let Ok(folder) = fs::open(rt, name) else {
         return None;
@@ -46,7 +46,7 @@ fn open_folder<R: Files<File = File>>(rt: &R, name: &str) -> Option<(FileId, Fil
 }
 
 impl<A: Allocator + Copy> Claims<A> {
-    /// Of no folder. O(1).
+    /// Makes claims of no folder. O(1).
     pub(crate) fn new(alloc: A) -> Claims<A> {
         Claims {
             folders: Vec::new(alloc),
@@ -54,12 +54,12 @@ impl<A: Allocator + Copy> Claims<A> {
         }
     }
 
-    /// Whether this run has the lock of a folder.
+    /// Returns whether this run has the lock of a folder.
     fn has(&self, id: FileId) -> bool {
         self.folders.iter().any(|(own, _)| *own == id)
     }
 
-    /// Takes the lock of the folder of this name, if no other run has it.
+    /// Takes the lock of the folder that the file of this name is in, if no other run has it, and returns who puts into that folder.
     pub(crate) fn take<R: Files<File = File>>(
         &mut self,
         rt: &R,
@@ -81,12 +81,12 @@ impl<A: Allocator + Copy> Claims<A> {
         }
     }
 
-    /// One more new file waits to be put.
+    /// Notes that one more new file waits to be put.
     pub(crate) fn wait(&mut self) {
         self.waiting = self.waiting.saturating_add(1);
     }
 
-    /// One of them does no longer.
+    /// Notes that one of them waits no longer, and gives the locks back if none waits.
     pub(crate) fn done(&mut self) {
         self.waiting = self.waiting.saturating_sub(1);
         self.end();

@@ -27,7 +27,7 @@ impl<A: Allocator> Model for DeviceLog<A> {
 }
 
 impl<A: Allocator + Copy> DeviceLog<A> {
-    /// No failure and no new file so far. O(1).
+    /// Makes the log of no failure and no new file. O(1).
     pub fn new(alloc: A) -> DeviceLog<A>
         ensures { result ≡ record { count = 0; last = None; settled = 0 } }
     {
@@ -39,8 +39,8 @@ impl<A: Allocator + Copy> DeviceLog<A> {
         }
     }
 
-    /// Counts a failure for this name, and gives it as a fault. A refused copy of the name is the fault instead, and is
-    /// not counted. O(name).
+    /// Counts a failure for this name, and returns it as a fault. If memory for a copy of the name is refused, that is the fault
+    /// instead, and nothing is counted. O(name).
     pub fn note(&mut self, name: &str) -> FolderFault
         ensures { IsCause result name.now self.old self.new }
     {
@@ -59,14 +59,14 @@ impl<A: Allocator + Copy> DeviceLog<A> {
         self.settled = self.settled.saturating_add(1);
     }
 
-    /// The count of failures, which stays at its greatest value. O(1).
+    /// Returns the count of failures, which stays at its greatest value once it is there. O(1).
     pub fn count(&self) -> u64
         ensures { result ≡ self.now.count }
     {
         self.count
     }
 
-    /// The name that the last failure was for. O(1).
+    /// Returns the name that the last failure was for, if there was one. O(1).
     pub fn last(&self) -> Option<&str>
         ensures { option_map (λ name. name.now) result ≡ self.now.last }
     {

@@ -18,10 +18,10 @@ use std::rt::Files;
 
 /// The files of the system, by their paths. It does not show their bytes.
 ///
-/// A put never harms a file: it replaces a file as a whole or leaves it as it is, and it fails where the name leads to a
-/// file that was got, to one that may not be written, or to what is no file. No new file is made beside such a name; that it
-/// is none is asked once more when the new file is settled. From then on until the last of the settled files is put or let go this
-/// run has the locks of their folders; where another one has one of these, the new file is not settled.
+/// A put never harms a file: it replaces a file as a whole or leaves it as it is, and it fails if the name leads to a file that
+/// was got, to one that may not be written, or to what is no file. No new file is made beside such a name; that it is none is
+/// asked once more when the new file is settled. From then on until the last of the settled files is put or let go, this run has
+/// the locks of their folders; if another run has one of these, the new file is not settled.
 #[derive(Drop)]
 pub struct Disk<'a, R: Files, A: Allocator> {
     rt: &'a R,
@@ -32,7 +32,7 @@ pub struct Disk<'a, R: Files, A: Allocator> {
 }
 
 impl<'a, R: Files, A: Allocator + Copy> Disk<'a, R, A> {
-    /// The files of this system, of which none was got and which has not failed so far. O(1).
+    /// Makes the folder of this system's files, which has got none and has not failed so far. O(1).
     pub fn new(alloc: A, rt: &'a R) -> Disk<'a, R, A>
         ensures { result.log ≡ record { count = 0; last = None; settled = 0 } }
     {
@@ -47,8 +47,8 @@ impl<'a, R: Files, A: Allocator + Copy> Disk<'a, R, A> {
 }
 
 impl<R: Files<File = File>, A: Allocator + Copy> Disk<'_, R, A> {
-    /// A new file that the device has taken; or none, and it is removed, where something of it failed, it may not be put, or another
-    /// run puts into its folder. What killed runs have left beside its name is removed.
+    /// Has the device take a new file, and returns it. If something of it failed, it may not be put, or another run puts into its
+    /// folder, removes it and returns none. What killed runs have left beside its name is removed, if this run has the folder's lock.
     fn settled(&mut self, new: WholeFile<A>, name: &str) -> Result<Option<WholeFile<A>>, AllocError>
         ensures { self.new.log ≡ self.old.log }
     {
@@ -70,7 +70,8 @@ impl<R: Files<File = File>, A: Allocator + Copy> Disk<'_, R, A> {
     }
 }
 
-/// All the bytes of a file, by as many reads as standard input has. A file that is not there is a fault.
+/// Reads all the bytes of a file, by as many reads as standard input has, and returns them with the file's identity. A file that is not
+/// there is a fault.
 fn read_file<R: Files, A: Allocator + Copy>(
     rt: &R,
     alloc: A,
@@ -86,7 +87,7 @@ fn read_file<R: Files, A: Allocator + Copy>(
     Ok((FileId::of(&metadata), bytes))
 }
 
-/// The file under a name, and which it is. What is not there, is a folder or cannot be opened is a fault.
+/// Opens the file under a name, and returns it with its identity. What is not there, is a folder or cannot be opened is a fault.
 fn open_file<R: Files>(rt: &R, name: &str) -> Result<(FileId, R::File), FolderFault> {
     let Ok(file) = fs::open(rt, name) else {
         return Err(FolderFault::Device);
@@ -97,13 +98,13 @@ fn open_file<R: Files>(rt: &R, name: &str) -> Result<(FileId, R::File), FolderFa
     }
 }
 
-/// Whether this process may write a file; nothing is written.
+/// Returns whether this process may write a file; nothing is written.
 fn may_be_written<R: Files>(rt: &R, name: &str) -> bool {
     OpenOptions::new().write(true).open(rt, name).is_ok()
 }
 
-/// Whether a name may be put: nothing is there, or a file that is none of these, whose mode lets somebody write it and which this
-/// process may write.
+/// Returns whether a name may be put: nothing is there, or a file that is none of these, whose mode lets somebody write it and which
+/// this process may write.
 fn may_be_put<R: Files>(rt: &R, name: &str, got: &[FileId]) -> bool {
     match fs::metadata(rt, name) {
         Ok(metadata) => {

@@ -21,7 +21,7 @@ impl FileId {
     }
 }
 
-/// Whether this very file is under a name, which is no link.
+/// Returns whether this very file is under a name that is no link.
 pub(crate) fn is_under<R: Files>(rt: &R, file: &R::File, name: &str) -> bool {
     match (file.metadata(), fs::symlink_metadata(rt, name)) {
         (Ok(opened), Ok(there)) => FileId::of(&opened) == FileId::of(&there),

@@ -63,17 +63,17 @@ pub trait Folder {
     /// A file that was opened to be read in pieces.
     type Opened: Read + Drop;
 
-    /// The files, where it shows them.
+    /// The files, if it shows them.
     ghost files: { Self → Option Files } = { λ _. None };
     /// How often it has failed and how many new files it has settled, as far as 64 bits go; and the name that the last call that
     /// failed was for.
     ghost failed: { Self → DeviceLog };
 
-    /// The bytes that are under a name.
+    /// Gets the bytes that are under a name.
     ///
     /// # Errors
     ///
-    /// `Memory` where memory ran out; `Device`, counted, where the folder failed or has no such file.
+    /// `Memory` if memory ran out; `Device`, counted, if the folder failed or has no such file.
     ///
     /// O(bytes of the file).
     fn get<A: Allocator + Copy>(&mut self, alloc: A, name: &str) -> Result<Vec<u8, A>, FolderFault>
@@ -81,11 +81,11 @@ pub trait Folder {
         ensures same { KeepsFiles (files self.old) (files self.new) }
         ensures cause { HasCause name.now (failed self.old) (failed self.new) result };
 
-    /// The file under a name, to be read in pieces, once. A pipe is opened as well, which waits for whoever writes into it.
+    /// Opens the file under a name, to be read in pieces, once. A pipe is opened as well, which waits for whoever writes into it.
     ///
     /// # Errors
     ///
-    /// `Memory` where memory ran out; `Device`, counted, where it was not opened; a file that is not there is such a failure.
+    /// `Memory` if memory ran out; `Device`, counted, if it was not opened; a file that is not there is such a failure.
     ///
     /// O(name).
     fn open(&mut self, name: &str) -> Result<Self::Opened, FolderFault>
@@ -93,7 +93,7 @@ pub trait Folder {
         ensures same { KeepsFiles (files self.old) (files self.new) }
         ensures cause { HasCause name.now (failed self.old) (failed self.new) result };
 
-    /// Counts that what was opened under a name could not be read, and gives it as a fault. O(name).
+    /// Counts that what was opened under a name could not be read, and returns it as a fault. O(name).
     fn note_unread(&mut self, name: &str) -> FolderFault
         ensures same { KeepsFiles (files self.old) (files self.new) }
         ensures cause { IsCause result name.now (failed self.old) (failed self.new) };
@@ -102,7 +102,7 @@ pub trait Folder {
     ///
     /// # Errors
     ///
-    /// `Memory` where memory ran out; `Device`, counted, where the folder failed.
+    /// `Memory` if memory ran out; `Device`, counted, if the folder failed.
     ///
     /// O(bytes).
     fn put<A: Allocator + Copy>(
@@ -115,8 +115,8 @@ pub trait Folder {
         ensures others { KeepsOthers (files self.old) (files self.new) name.now }
         ensures cause { HasCause name.now (failed self.old) (failed self.new) result };
 
-    /// A new file of no bytes, to be put under a name. Nothing else changes, and a failure of the device is answered when it is
-    /// settled or put. An error is out of memory.
+    /// Begins a new file of no bytes, to be put under a name. Nothing else changes, and a failure of the device is answered when the
+    /// file is settled or put. An error says that memory ran out.
     ///
     /// O(name).
     fn begin(&mut self, name: &str) -> Result<Self::New, AllocError>
@@ -129,8 +129,8 @@ pub trait Folder {
     ///
     /// # Errors
     ///
-    /// `Memory` where memory ran out; `Device`, counted, where the device failed since the file was begun, or it is known that the
-    /// file cannot be put.
+    /// `Memory` if memory ran out; `Device`, counted, if the device failed since the file was begun, or it is known that the file
+    /// cannot be put.
     ///
     /// O(bytes).
     fn settle(&mut self, new: Self::New, name: &str) -> Result<Self::New, FolderFault>
@@ -143,7 +143,7 @@ pub trait Folder {
     ///
     /// # Errors
     ///
-    /// As `put`, also where the device failed since the file was begun.
+    /// As `put`, also if the device failed since the file was begun.
     ///
     /// O(bytes).
     fn put_new(&mut self, new: Self::New, name: &str) -> Result<(), FolderFault>
@@ -153,7 +153,7 @@ pub trait Folder {
         ensures cause { HasCause name.now (failed self.old) (failed self.new) result };
 
     /// Appends all that a new file has to another one, and lets it go. Nothing else changes, and a failure of either is answered when the other
-    /// one is settled or put. An error is out of memory; nothing is said then of what that one has.
+    /// one is settled or put. An error says that memory ran out; nothing is said then of what that one has.
     ///
     /// O(bytes).
     fn join(&mut self, new: &mut Self::New, part: Self::New) -> Result<(), AllocError>
@@ -166,7 +166,7 @@ pub trait Folder {
         ensures same { KeepsFiles (files self.old) (files self.new) }
         ensures failed { failed self.new ≡ failed self.old };
 
-    /// The count of failures, which stays at its greatest value. O(1).
+    /// Returns the count of failures, which stays at its greatest value once it is there. O(1).
     fn failures(&self) -> u64
         ensures { result ≡ (failed self.now).count };
 }

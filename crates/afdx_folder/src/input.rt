@@ -38,8 +38,8 @@ fn zeros<A: Allocator + Copy>(alloc: A, count: usize) -> Result<Vec<u8, A>, Allo
     vec![in alloc; 0u8; count]
 }
 
-/// All the bytes that are left, by at most this many reads into the chunk; room for `expected` of them is made
-/// at once.
+/// Reads all the bytes that are left, by at most this many reads into the chunk, and returns them; room for `expected` of them is
+/// made at once.
 fn read_turns<R: Read, A: Allocator + Copy>(
     alloc: A,
     input: &mut R,
@@ -66,15 +66,14 @@ fn read_turns<R: Read, A: Allocator + Copy>(
     Err(InputFault::Device)
 }
 
-/// All the bytes that are left, by at most 16,777,216 reads of at most 65,536 bytes (profile).
+/// Reads all the bytes that are left, by at most 16,777,216 reads of at most 65,536 bytes (profile), and returns them.
 ///
 /// An interrupted read, and one that finds the end, is one of them. Room for `expected` bytes is made at once, which is the
-/// length of a file and 0 where none is known; more or fewer may come.
+/// length of a file and 0 if none is known; more or fewer may come.
 ///
 /// # Errors
 ///
-/// `Device` where a read fails or all reads are used up; `Memory` where memory ran out. Some of the input may then have
-/// been read.
+/// `Device` if a read fails or all reads are used up; `Memory` if memory ran out. Some of the input may then have been read.
 ///
 /// O(input).
 pub fn read_to_end<R: Read, A: Allocator + Copy>(

@@ -1,4 +1,4 @@
-//! Readers, writers and folders of files, with what is known of them where they fail.
+//! Readers, writers and folders of files, with what is known of them if they fail.
 //!
 //! [`read_to_end`] and [`write_bytes`] make a bounded number of calls and try none again. A [`Folder`] names which file it
 //! failed for at last; [`Disk`] is the one of real files. A file is put as a whole, as a [`NewFile`] that was written in parts.

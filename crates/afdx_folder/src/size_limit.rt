@@ -12,15 +12,15 @@ const LIMITS: &str = "/proc/self/limits";
 /// What stands there before the limit of a file's size.
 const FILE_SIZE: &str = "Max file size";
 
-/// The limit of a file's size that stands there, if there is one.
+/// Returns the limit of a file's size that stands in these limits, if there is one.
 fn told_size(limits: &[u8]) -> Option<u64> {
     let text = str::from_utf8(limits).ok()?;
     let rest = text.lines().find_map(|line| line.strip_prefix(FILE_SIZE))?;
     rest.split_whitespace().next()?.parse().ok()
 }
 
-/// How many bytes a file of this process may have; the greatest number if there is no limit, or none is told. The system ends a
-/// process that writes more.
+/// Returns how many bytes a file of this process may have; the greatest number if there is no limit, or none is told. The system ends
+/// a process that writes more.
 pub(crate) fn greatest_size<R: Files<File = File>, A: Allocator + Copy>(
     rt: &R,
     alloc: A,

@@ -19,7 +19,7 @@ const NAMES: u8 = 250;
 /// After so many free names in a row no file of a killed run is sought (profile): more than the parts that are joined to one new file.
 const FREE_NAMES: u8 = 32;
 
-/// The name of a new file beside this name.
+/// Returns the name of the new file of this number beside this name.
 fn name_beside<A: Allocator + Copy>(
     alloc: A,
     name: &str,
@@ -28,7 +28,8 @@ fn name_beside<A: Allocator + Copy>(
     format!(in alloc; "{name}.new-{number}")
 }
 
-/// Takes the lock of a new file, by which others know that it is in use. False where it was taken for one of a killed run before.
+/// Takes the lock of a new file, by which others know that it is in use. Returns false if another run took the file for one of a killed
+/// run before.
 fn hold<R: Files<File = File>>(rt: &R, file: &File, beside: &str) -> bool {
     match file.try_lock() {
         Ok(()) => is_under(rt, file, beside),
@@ -37,7 +38,7 @@ fn hold<R: Files<File = File>>(rt: &R, file: &File, beside: &str) -> bool {
     }
 }
 
-/// Makes a new file beside this name, and gives its name: `.new-0`, or the next number of which there is no file, is added.
+/// Makes a new file beside this name, and returns it with its name: `.new-0`, or the next number of which there is no file, is added.
 fn create_beside<R: Files<File = File>, A: Allocator + Copy>(
     rt: &R,
     alloc: A,
@@ -58,7 +59,7 @@ fn create_beside<R: Files<File = File>, A: Allocator + Copy>(
     Err(FolderFault::Device)
 }
 
-/// Removes a file if no run holds it, and says whether there was one. What is no file, and a link, stay.
+/// Removes a file if no run holds it, and returns whether there was something. What is no file, and a link, stay.
 fn remove_left<R: Files<File = File>>(rt: &R, beside: &str) -> bool {
     let Ok(there) = fs::symlink_metadata(rt, beside) else {
         return false;
@@ -102,7 +103,7 @@ impl<A: Allocator> Made<A> {
         }
     }
 
-    /// Goes back to its first byte, and gives the file to be read.
+    /// Goes back to its first byte, and returns the file to be read.
     fn read_again(&mut self) -> Option<&mut File> {
         let file = self.file.as_mut()?;
         match file.seek(SeekFrom::Start(0)) {
@@ -122,8 +123,8 @@ impl<A: Allocator> Made<A> {
 
 /// A new file beside the name onto which it is moved at the end, or that one of these steps failed. It does not show its bytes.
 ///
-/// Where a step fails, what is under the name is as it was, and the new file is removed where that can be done. One that is
-/// dropped, and neither put nor removed, stays.
+/// If a step fails, what is under the name is as it was, and the new file is removed if that can be done. One that is dropped,
+/// and neither put nor removed, stays.
 #[derive(Drop)]
 pub struct WholeFile<A: Allocator> {
     made: Option<Made<A>>,
@@ -131,7 +132,7 @@ pub struct WholeFile<A: Allocator> {
 }
 
 impl<A: Allocator + Copy> WholeFile<A> {
-    /// That it could not be made.
+    /// Makes one that has failed: it could not be made.
     pub(crate) fn failed() -> WholeFile<A> {
         WholeFile {
             made: None,
@@ -139,7 +140,7 @@ impl<A: Allocator + Copy> WholeFile<A> {
         }
     }
 
-    /// A file of no bytes beside this name, whose folder is not made; or that it could not be made.
+    /// Makes a file of no bytes beside this name, or one that has failed if it could not be made. The name's folder is not made.
     pub(crate) fn beside<R: Files<File = File>>(
         rt: &R,
         alloc: A,
@@ -167,7 +168,7 @@ impl<A: Allocator + Copy> WholeFile<A> {
         }
     }
 
-    /// Goes back to its first byte, and gives the file to be read, where nothing of it failed.
+    /// Goes back to its first byte, and returns the file to be read, if nothing of it failed.
     fn read_again(&mut self) -> Option<&mut File> {
         if self.has_failed {
             return None;
@@ -176,7 +177,7 @@ impl<A: Allocator + Copy> WholeFile<A> {
         made.read_again()
     }
 
-    /// Appends all that another one has. Where that cannot be read, or something of it failed before, this has failed.
+    /// Appends all that another one has. If that cannot be read, or something of it failed before, this has failed.
     pub(crate) fn take_in(&mut self, alloc: A, part: &mut WholeFile<A>) -> Result<(), AllocError> {
         let mut piece = vec![in alloc; 0u8; CHUNK]?;
         let Some(file) = part.read_again() else {
@@ -203,7 +204,7 @@ impl<A: Allocator + Copy> WholeFile<A> {
         Ok(())
     }
 
-    /// Whether the device has taken it.
+    /// Returns whether the device has taken it.
     pub(crate) fn is_settled(&self) -> bool {
         match &self.made {
             Some(made) => made.file.is_none(),
@@ -211,7 +212,7 @@ impl<A: Allocator + Copy> WholeFile<A> {
         }
     }
 
-    /// Has the device take its bytes; where that fails, or something failed before, it is removed.
+    /// Has the device take its bytes; if that fails, or something failed before, it is removed.
     pub(crate) fn settle<R: Files<File = File>>(
         mut self,
         rt: &R,
@@ -225,7 +226,7 @@ impl<A: Allocator + Copy> WholeFile<A> {
         Err(WriteFault)
     }
 
-    /// Removes the files beside this name that killed runs have left, its own not.
+    /// Removes the files beside this name that killed runs have left, but not its own.
     pub(crate) fn remove_others<R: Files<File = File>>(&self, rt: &R, alloc: A, name: &str) {
         let Some(made) = &self.made else {
             return;
@@ -243,7 +244,7 @@ impl<A: Allocator + Copy> WholeFile<A> {
         }
     }
 
-    /// Moves it onto a name once the device has its bytes; where that fails it is removed.
+    /// Moves it onto a name once the device has its bytes; if that fails, it is removed.
     pub(crate) fn put<R: Files<File = File>>(self, rt: &R, name: &str) -> Result<(), WriteFault> {
         let settled = self.settle(rt)?;
         if let Some(made) = &settled.made {

@@ -15,11 +15,12 @@ use afdx_units::Stamp;
 use std::alloc::{AllocError, Allocator};
 use std::marker::Model;
 
-/// One link at a watched switch: it takes the link's own frames and the records that left for the link at each of its ports, in the order of
-/// the instants at which they came and, by the stamps at most so late, left (profile).
+/// One link at a watched switch: it takes the link's own frames and the records that left for the link at each of its ports. They come in order:
+/// frames by the instants at which they came, records by the latest instants at which they left by the stamps (profile).
 ///
-/// It tells by what is known of the account which frames were passed; an unsure one was where a record within its bounds has its bytes,
-/// at any port. It holds frames and records of one bound. Once a call fails, which is where memory runs out, all later ones fail.
+/// It tells by what is known of the account which frames were passed; an unsure one was passed if a record within its bounds has its bytes, at any
+/// port. It holds the frames of the last two bounds, and the records that wait for one, of one bound. Once a call fails, as it does if
+/// memory runs out, all later ones fail.
 #[derive(Drop)]
 pub struct Following<'a, A: Allocator> {
     link: Watched<'a, A>,
@@ -39,8 +40,8 @@ impl<'a, A: Allocator> Model for Following<'a, A> {
 }
 
 impl<'a, A: Allocator + Copy> Following<'a, A> {
-    /// A link of which nothing came or left, at these ports, policed as this account polices. It was full, or nothing is known of it at an
-    /// instant; stamps may be off by the tolerance in nanoseconds. It takes no memory.
+    /// Makes a link at these ports, of which nothing came or left, policed as this account polices. The account was full or, if there is an instant,
+    /// nothing is known of it then. Stamps may be off by the tolerance in nanoseconds. It takes no memory.
     pub fn new(
         alloc: A,
         account: Account,
@@ -58,14 +59,14 @@ impl<'a, A: Allocator + Copy> Following<'a, A> {
         }
     }
 
-    /// Its ports. O(1).
+    /// Returns its ports. O(1).
     pub fn outputs(&self) -> &[Output<'a, A>]
         ensures { result.now ≡ self.now.outputs }
     {
         &self.link.outputs
     }
 
-    /// The place of the port of a number among them. O(ports).
+    /// Returns the place of the port of a number among the link's ports; none if it has no such port. O(ports).
     pub fn place_of(&self, port: u8) -> Option<usize>
         ensures place { result ≡ position (λ o. o.port == port) self.now.outputs }
         ensures some { IfSome result (λ place. place < length self.now.outputs) }
@@ -73,28 +74,28 @@ impl<'a, A: Allocator + Copy> Following<'a, A> {
         self.link.place_of(port)
     }
 
-    /// How many frames may have been passed and may have been policed, as far as was known when they came.
+    /// Returns how many frames may have been passed and may have been policed, as far as was known when they came.
     pub fn unsure(&self) -> u64
         ensures { result ≡ self.now.unsure }
     {
         self.link.unsure
     }
 
-    /// The instant, in nanoseconds, of the last frame or record that was taken. O(1).
+    /// Returns the instant, in nanoseconds, of the last frame or record that was taken. O(1).
     pub fn latest(&self) -> u128
         ensures { result ≡ self.now.latest }
     {
         self.link.latest
     }
 
-    /// Whether a frame is one that the link may send: its account, if full, passes it. O(1).
+    /// Returns whether a frame is one that the link may send: its account, if full, passes it. O(1).
     pub fn fits(&self, frame: &Numbered<'a, A>) -> bool
         ensures { result ≡ nat_le ((account_terms self.now.account).price (frame_size frame.now)) (account_terms self.now.account).cap }
     {
         self.link.fits(frame)
     }
 
-    /// Whether nothing speaks against the switch. O(ports).
+    /// Returns whether nothing speaks against the switch. O(ports).
     pub fn conforms(&self) -> bool
         ensures { result ≡ conforms self.now }
     {
@@ -117,8 +118,8 @@ impl<'a, A: Allocator + Copy> Following<'a, A> {
         Ok(())
     }
 
-    /// The latest instant, in nanoseconds, at which by the stamps the line was free again after a record at the port at a place; none if there is no
-    /// such place. O(1).
+    /// Returns the latest instant, in nanoseconds, at which by the stamps the line was free again after a record at the port at a place; none if
+    /// there is no such place. O(1).
     pub fn left_by(&self, place: usize, left: &Numbered<'a, A>) -> Option<u128>
         ensures by { result ≡ option_map (λ o. left_by left.now o) (slice_get self.now.outputs place) }
         ensures there { IfSome result (λ at. place < length self.now.outputs) }
@@ -139,7 +140,8 @@ impl<'a, A: Allocator + Copy> Following<'a, A> {
         Ok(())
     }
 
-    /// Ends, where all frames and records were taken; records were recorded up to an instant in nanoseconds, or all had left.
+    /// Ends the link once all frames and records were taken. Records were recorded up to an instant in nanoseconds or, if there is none, all had
+    /// left.
     pub fn end(&mut self, last: Option<u64>) -> Result<(), AllocError>
         ensures { OnOk result (self.new ≡ with_ends last self.old) }
     {
@@ -150,7 +152,7 @@ impl<'a, A: Allocator + Copy> Following<'a, A> {
     }
 }
 
-/// Takes notice that a call has begun, which has failed until it ends. An error says that one failed before.
+/// Notes that a call has begun; it counts as failed until it ends. An error says that one failed before.
 fn begin(failed: &mut bool) -> Result<(), AllocError>
     ensures before { OnOk result (failed.old ≡ false) }
     ensures now { failed.new ≡ true }

@@ -25,7 +25,7 @@ impl<A: Allocator> Model for Found<A> {
 }
 
 impl<A: Allocator + Copy> Found<A> {
-    /// Nothing yet. If it `keeps`, each event that speaks against the switch is listed. It takes no memory.
+    /// Makes the state in which nothing was found. If it `keeps`, each event that speaks against the switch is listed. It takes no memory.
     pub(crate) fn new(alloc: A, keeps: bool) -> Found<A>
         ensures { result ≡ nothing_found keeps }
     {
@@ -36,21 +36,21 @@ impl<A: Allocator + Copy> Found<A> {
         }
     }
 
-    /// The numbers. O(1).
+    /// Returns the numbers. O(1).
     pub(crate) fn tally(&self) -> &Tally
         ensures { result.now ≡ self.now.tally }
     {
         &self.tally
     }
 
-    /// What speaks against the switch, in the order in which it was found. O(1).
+    /// Returns what speaks against the switch, in the order in which it was found. O(1).
     pub(crate) fn differences(&self) -> &[Event]
         ensures { result.now ≡ self.now.differences }
     {
         &self.differences
     }
 
-    /// Takes what was told, of which nothing is left then. An error is out of memory. O(events).
+    /// Takes all that was told and leaves the list empty. An error is out of memory. O(events).
     pub(crate) fn take(&mut self, told: &mut Vec<Event, A>) -> Result<(), AllocError>
         ensures ok { OnOk result (self.new ≡ with_told told.old.items self.old) }
         ensures empty { told.new.items ≡ [] }
@@ -60,7 +60,7 @@ impl<A: Allocator + Copy> Found<A> {
         result
     }
 
-    /// Counts each of these, and keeps of them what is to be kept.
+    /// Counts each of these events, and keeps those that are to be kept.
     fn note_all(&mut self, events: &[Event]) -> Result<(), AllocError>
         ensures { OnOk result (self.new ≡ with_told events.now self.old) }
     {

@@ -36,7 +36,8 @@ impl<'a, A: Allocator> Model for Output<'a, A> {
 }
 
 impl<'a, A: Allocator + Copy> Output<'a, A> {
-    /// The port of this number, at which nothing has left. If it `keeps`, each event that speaks against the switch is listed. It takes no memory.
+    /// Makes the port of this number, at which nothing has left. If it `keeps`, each event that speaks against the switch is listed. It takes no
+    /// memory.
     pub fn new(alloc: A, port: u8, limits: Limits, keeps: bool) -> Output<'a, A>
         ensures { result ≡ output_at port limits keeps }
     {
@@ -50,35 +51,35 @@ impl<'a, A: Allocator + Copy> Output<'a, A> {
         }
     }
 
-    /// Its number. O(1).
+    /// Returns its number. O(1).
     pub fn port(&self) -> u8
         ensures { result ≡ self.now.port }
     {
         self.port
     }
 
-    /// The limits of the link at the port. O(1).
+    /// Returns the limits of the link at the port. O(1).
     pub fn limits(&self) -> Limits
         ensures { result ≡ self.now.limits }
     {
         self.limits
     }
 
-    /// What was found out so far, in numbers. O(1).
+    /// Returns what was found out so far, in numbers. O(1).
     pub fn tally(&self) -> &Tally
         ensures { result.now ≡ self.now.found.tally }
     {
         self.found.tally()
     }
 
-    /// What speaks against the switch so far, in the order in which it was found, if that is kept. O(1).
+    /// Returns what speaks against the switch so far, in the order in which it was found; nothing if that is not kept. O(1).
     pub fn differences(&self) -> &[Event]
         ensures { result.now ≡ self.now.found.differences }
     {
         self.found.differences()
     }
 
-    /// Whether a record that waits may be of a frame. O(bytes, log of the records).
+    /// Returns whether a record that waits may be of a frame. O(bytes, log of the records).
     pub(crate) fn has(&self, frame: &Numbered<'a, A>) -> bool
         ensures { result ≡ has frame.now self.now }
     {
@@ -90,21 +91,22 @@ impl<'a, A: Allocator + Copy> Output<'a, A> {
         }
     }
 
-    /// Whether all records were taken that may be of a frame, once all were that left before an instant, by the stamps at most so late.
+    /// Returns whether all records that may be of a frame were taken, if all were that left before an instant. Each counts as left at the latest
+    /// instant that its stamp allows.
     pub(crate) fn is_over(&self, frame: &Numbered<'a, A>, at: u128) -> bool
         ensures { result ≡ is_over at frame.now self.now }
     {
         u128::from(frame.stamp().ns()) + self.limits.most() + u128::from(self.limits.tolerance) < at
     }
 
-    /// The latest instant, in nanoseconds, at which by the stamps the line was free again after a record.
+    /// Returns the latest instant, in nanoseconds, at which by the stamps the line was free again after a record.
     pub(crate) fn left_by(&self, left: &Numbered<'a, A>) -> u128
         ensures { result ≡ left_by left.now self.now }
     {
         self.limits.left_at(left) + u128::from(self.limits.tolerance)
     }
 
-    /// The latest instant, in nanoseconds, at which by the stamps a record was recorded.
+    /// Returns the latest instant, in nanoseconds, at which by the stamps a record was recorded.
     pub(crate) fn stamped_by(&self, left: &Numbered<'a, A>) -> u128
         ensures { result ≡ stamped_by left.now self.now }
     {
@@ -127,7 +129,8 @@ impl<'a, A: Allocator + Copy> Output<'a, A> {
         self.waiting.push(left)
     }
 
-    /// How many of the records that wait left before any frame of which the fate is not known: such a frame comes no sooner than this.
+    /// Returns how many of the records that wait left before any frame whose fate is not known. Such a frame comes no sooner than the instant that
+    /// is given; if none is, there is no such frame.
     fn settled(&self, unknown: Option<u128>) -> usize
         ensures count { result ≡ settled unknown self.now }
         ensures some { result ≤ length self.now.waiting }
@@ -149,7 +152,7 @@ impl<'a, A: Allocator + Copy> Output<'a, A> {
         self.found.take(&mut self.told)
     }
 
-    /// Pairs the records that left before any frame of which the fate is not known; all if there is none.
+    /// Pairs the records that left before any frame whose fate is not known; all if there is none.
     pub(crate) fn pair(&mut self, unknown: Option<u128>) -> Result<(), AllocError>
         ensures { OnOk result (self.new ≡ paired_up_to unknown self.old) }
     {
@@ -162,7 +165,8 @@ impl<'a, A: Allocator + Copy> Output<'a, A> {
         Ok(())
     }
 
-    /// The instant, in nanoseconds, before which no record that waits left, nor any that leaves at an instant or later.
+    /// Returns the lesser of an instant, in nanoseconds, and that at which the first record that waits left. No record that waits left before it,
+    /// nor does any that leaves at the instant or later.
     fn earliest(&self, at: u128) -> u128
         ensures earliest { result ≡ earliest at self.now.limits (slice_get self.now.waiting 0) }
         ensures some { result ≤ at }
@@ -173,7 +177,7 @@ impl<'a, A: Allocator + Copy> Output<'a, A> {
         }
     }
 
-    /// Lets go of frames of which nothing that waits, or leaves at an instant or later, can be.
+    /// Lets go of the frames of which no record can be that waits, or that leaves at an instant or later.
     pub(crate) fn go_on(&mut self, at: u128) -> Result<(), AllocError>
         ensures { OnOk result (self.new ≡ gone_on at self.old) }
     {
@@ -185,7 +189,7 @@ impl<'a, A: Allocator + Copy> Output<'a, A> {
         self.found.take(&mut self.told)
     }
 
-    /// Ends the port, where records were recorded up to an instant, or all had left.
+    /// Ends the port. Records were recorded up to an instant or, if there is none, all had left.
     pub(crate) fn end(&mut self, last: Option<u64>) -> Result<(), AllocError>
         ensures { OnOk result (self.new ≡ with_end last self.old) }
     {
@@ -194,7 +198,8 @@ impl<'a, A: Allocator + Copy> Output<'a, A> {
         self.found.take(&mut self.told)
     }
 
-    /// The instant, in nanoseconds, up to which the line was free again after records, where these were recorded up to an instant.
+    /// Returns the instant, in nanoseconds, up to which the line was free again after records that were recorded up to an instant; none if all had
+    /// left.
     fn last_at(&self, last: Option<u64>) -> Option<u128>
         ensures { result ≡ last_at self.now.limits last }
     {

@@ -27,7 +27,7 @@ pub struct Tally {
     pub delays: Option<Range>,
 }
 
-/// One more, and no more than the greatest value.
+/// Returns a count with one more, and no more than the greatest value.
 pub(crate) fn up(count: u64) -> u64
     ensures { result ≡ up count }
 {
@@ -35,7 +35,7 @@ pub(crate) fn up(count: u64) -> u64
 }
 
 impl Range {
-    /// That of one delay.
+    /// Makes the range of one delay.
     fn of(delay: u128) -> Range
         ensures { result ≡ record { least = delay; greatest = delay } }
     {
@@ -45,7 +45,7 @@ impl Range {
         }
     }
 
-    /// The same with one delay more.
+    /// Returns the range with one delay more.
     fn with(self, delay: u128) -> Range
         ensures { result ≡ record { least = min self.least delay; greatest = max self.greatest delay } }
     {
@@ -57,7 +57,7 @@ impl Range {
 }
 
 impl Tally {
-    /// That of no frames and no records.
+    /// Makes the tally of no frames and no records.
     pub(crate) fn none() -> Tally
         ensures { result ≡ no_events }
     {
@@ -107,28 +107,28 @@ impl Tally {
         });
     }
 
-    /// Frames that the account passed.
+    /// Returns how many frames the account passed.
     pub fn passed(&self) -> u128
         ensures { result ≡ passed_in self.now }
     {
         self.pairs() + u128::from(self.missing) + u128::from(self.after)
     }
 
-    /// Records that left.
+    /// Returns how many records left.
     pub fn seen(&self) -> u128
         ensures { result ≡ seen_in self.now }
     {
         self.pairs() + u128::from(self.extra) + u128::from(self.before)
     }
 
-    /// Frames that were paired.
+    /// Returns how many frames were paired.
     fn pairs(&self) -> u128
         ensures { result ≡ self.now.kept + self.now.early + self.now.late }
     {
         u128::from(self.kept) + u128::from(self.early) + u128::from(self.late)
     }
 
-    /// Whether nothing speaks against the switch.
+    /// Returns whether nothing speaks against the switch.
     pub fn conforms(&self) -> bool
         ensures { result ≡ conforms_in self.now }
     {

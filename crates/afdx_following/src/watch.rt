@@ -18,21 +18,21 @@ pub enum Start {
 /// What is known of the recorders and of the switch (profile). Every call is O(1) and takes no memory.
 #[derive(Clone, Copy, Debug, PartialEq, Eq)]
 pub struct Watch {
-    /// The least latency of the switch, in nanoseconds; 0 where it is not known.
+    /// The least latency of the switch, in nanoseconds; 0 if it is not known.
     pub least: u64,
-    /// Nanoseconds by how much latencies differ, as far as frames may overtake.
+    /// By how many nanoseconds latencies differ, as far as frames may overtake.
     pub scatter: u64,
     /// The most nanoseconds by which a delay is off by the stamps, and a stamp from the switch's own instant; at most a second.
     pub tolerance: u64,
-    /// Bytes from an output stamp until the line is free: 12 where it is the end of the last bit, or 0.
+    /// Bytes from an output stamp until the line is free: 12 if it is the end of the last bit, or 0.
     pub gap: u64,
     pub start: Start,
-    /// The instant up to which the recorders ran; none where all had left.
+    /// The instant up to which the recorders ran; none if all had left.
     pub until: Option<Stamp>,
 }
 
 impl Watch {
-    /// Whether a frame that came at an instant counts.
+    /// Returns whether a frame that came at an instant counts.
     pub fn has_frame(&self, stamp: Stamp) -> bool
         ensures { result ≡ has_frame self.now stamp }
     {
@@ -44,7 +44,7 @@ impl Watch {
         begun && self.until.is_none_or(|until| stamp <= until)
     }
 
-    /// Whether a record that left counts.
+    /// Returns whether a record that left with this stamp counts.
     pub fn has_record(&self, stamp: Stamp) -> bool
         ensures { result ≡ has_record self.now stamp }
     {
@@ -57,7 +57,7 @@ impl Watch {
                 <= u128::from(until.ns()))
     }
 
-    /// The limits of a link at a port of this bound, in nanoseconds, and speed.
+    /// Returns the limits of a link at a port with this bound, in nanoseconds, and this speed.
     pub fn limits(&self, bound: u64, speed: Speed) -> Limits
         ensures { result ≡ limits_of self.now bound speed }
     {
@@ -77,7 +77,7 @@ impl Watch {
         }
     }
 
-    /// The instant from which on nothing is known of accounts, which is that from which on frames count; none where they were full.
+    /// Returns the instant from which on nothing is known of accounts, which is that from which on frames count; none if they were full.
     pub fn unknown_since(&self) -> Option<Stamp>
         ensures { result ≡ unknown_since self.now }
     {
@@ -88,7 +88,7 @@ impl Watch {
         Some(Stamp::from_ns_saturating(since))
     }
 
-    /// The instant up to which records count, in nanoseconds; none where all had left.
+    /// Returns the instant up to which records count, in nanoseconds; none if all had left.
     pub fn last_record(&self) -> Option<u64>
         ensures { result ≡ last_record self.now }
     {

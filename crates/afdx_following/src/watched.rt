@@ -34,7 +34,7 @@ pub(crate) struct Watched<'a, A: Allocator> {
     undecided: VecDeque<Numbered<'a, A>, A>,
     pub(crate) outputs: Vec<Output<'a, A>, A>,
     pub(crate) unsure: u64,
-    /// The instant of the last that was taken.
+    /// The instant of the last frame or record that was taken.
     pub(crate) latest: u128,
 }
 
@@ -54,7 +54,7 @@ impl<'a, A: Allocator> Model for Watched<'a, A> {
     } };
 }
 
-/// What is known of an account at first: it was full, or nothing is known of it at an instant.
+/// Returns what is known of an account at first: it was full or, if there is an instant, nothing is known of it then.
 fn levels_at_first(account: &Account, tolerance: u64, since: &Option<Stamp>) -> Levels
     requires { tolerance ≤ MAX_TOLERANCE }
     ensures { result ≡ levels_at_first account.now tolerance since.now }
@@ -65,7 +65,7 @@ fn levels_at_first(account: &Account, tolerance: u64, since: &Option<Stamp>) -> 
     }
 }
 
-/// The instant in nanoseconds from which on a link is watched.
+/// Returns the instant, in nanoseconds, from which on a link is watched.
 fn first_instant(since: &Option<Stamp>) -> u128
     ensures { result ≡ option_map_or (λ at. at) since.now 0 }
 {
@@ -75,7 +75,7 @@ fn first_instant(since: &Option<Stamp>) -> u128
     }
 }
 
-/// One more unsure frame, where a frame is unsure.
+/// Returns the count of unsure frames, with one more if a frame is unsure.
 fn counted(outlook: Outlook, count: u64) -> u64
     ensures { result ≡ counted outlook count }
 {
@@ -87,7 +87,7 @@ fn counted(outlook: Outlook, count: u64) -> u64
 }
 
 impl<'a, A: Allocator + Copy> Watched<'a, A> {
-    /// A link of which nothing came or left, at these ports. It takes no memory.
+    /// Makes a link at these ports, of which nothing came or left. It takes no memory.
     pub(crate) fn new(
         alloc: A,
         account: Account,
@@ -111,7 +111,7 @@ impl<'a, A: Allocator + Copy> Watched<'a, A> {
         }
     }
 
-    /// Whether a frame is one that the link may send.
+    /// Returns whether a frame is one that the link may send.
     pub(crate) fn fits(&self, frame: &Numbered<'a, A>) -> bool
         ensures { result ≡ nat_le ((account_terms self.now.account).price (frame_size frame.now)) (account_terms self.now.account).cap }
     {
@@ -119,7 +119,7 @@ impl<'a, A: Allocator + Copy> Watched<'a, A> {
         self.account.price(size) <= self.account.cap()
     }
 
-    /// The place of the port of a number among them.
+    /// Returns the place of the port of a number among the link's ports; none if it has no such port.
     pub(crate) fn place_of(&self, port: u8) -> Option<usize>
         ensures place { result ≡ position (λ o. o.port == port) self.now.outputs }
         ensures some { IfSome result (λ place. place < length self.now.outputs) }
@@ -127,7 +127,8 @@ impl<'a, A: Allocator + Copy> Watched<'a, A> {
         place_in(&self.outputs, port)
     }
 
-    /// The latest instant at which by the stamps the line was free again after a record at the port at a place, if there is such a place.
+    /// Returns the latest instant at which by the stamps the line was free again after a record at the port at a place; none if there is no such
+    /// place.
     pub(crate) fn left_by(&self, place: usize, left: &Numbered<'a, A>) -> Option<u128>
         ensures by { result ≡ option_map (λ o. left_by left.now o) (slice_get self.now.outputs place) }
         ensures there { IfSome result (λ at. place < length self.now.outputs) }
@@ -168,7 +169,7 @@ impl<'a, A: Allocator + Copy> Watched<'a, A> {
         self.settle(Some(by))
     }
 
-    /// Ends, where all frames and records were taken.
+    /// Ends the link once all frames and records were taken.
     pub(crate) fn end(&mut self, last: Option<u64>) -> Result<(), AllocError>
         requires { IsInStep self.old }
         ensures ok { OnOk result (self.new ≡ with_ends last self.old) }
@@ -178,7 +179,7 @@ impl<'a, A: Allocator + Copy> Watched<'a, A> {
         end_all(&mut self.outputs, last)
     }
 
-    /// Decides fates and pairs records as far as these follow from what came and left before an instant, or from all.
+    /// Decides fates and pairs records as far as these follow from what came and left before an instant or, if there is none, from all.
     fn settle(&mut self, at: Option<u128>) -> Result<(), AllocError>
         requires { IsInStep self.old }
         ensures ok { OnOk result (self.new ≡ settled_by at self.old) }
@@ -193,7 +194,7 @@ impl<'a, A: Allocator + Copy> Watched<'a, A> {
         }
     }
 
-    /// The instant of the first frame of which the fate is not told; none if there is none.
+    /// Returns the instant of the first frame whose fate is not told; none if there is none.
     fn first_unknown(&self) -> Option<u128>
         ensures { result ≡ first_unknown self.now.undecided }
     {
@@ -216,7 +217,7 @@ impl<'a, A: Allocator + Copy> Watched<'a, A> {
         Ok(())
     }
 
-    /// Decides the fate of the first frame that waits for it, if it can be told; whether it was.
+    /// Decides the fate of the first frame that waits for it, if it can be told. Returns whether it was.
     fn decide_next(&mut self, at: Option<u128>) -> Result<bool, AllocError>
         requires { IsInStep self.old }
         ensures more { IfOk result (λ more. OnTrue more (first_told at self.old.undecided self.old ≡ Some self.new)) }
@@ -237,7 +238,7 @@ impl<'a, A: Allocator + Copy> Watched<'a, A> {
         Ok(true)
     }
 
-    /// What the account may do with a frame that comes no sooner than that of which it was last told.
+    /// Returns what the account may do with a frame. It comes no sooner than the one of which the account was last told.
     fn outlook(&self, frame: &Numbered<'a, A>) -> Outlook
         requires bounded { self.now.tolerance ≤ MAX_TOLERANCE }
         requires in_order { self.now.levels.since ≤ frame.now.frame.stamp }
@@ -249,7 +250,7 @@ impl<'a, A: Allocator + Copy> Watched<'a, A> {
             .outlook(&self.account, self.tolerance, frame.stamp(), size)
     }
 
-    /// Whether a frame's fate can be told by what left before an instant, or by all.
+    /// Returns whether a frame's fate can be told by what left before an instant or, if there is none, by all.
     fn can_tell(&self, at: Option<u128>, outlook: Outlook, frame: &Numbered<'a, A>) -> bool
         ensures { result ≡ can_tell at self.now.outputs frame.now outlook }
     {
@@ -263,7 +264,7 @@ impl<'a, A: Allocator + Copy> Watched<'a, A> {
         }
     }
 
-    /// A frame's fate: an unsure one was passed where a record at any port may be of it.
+    /// Returns a frame's fate: an unsure one was passed if a record at any port may be of it.
     fn fate(&self, outlook: Outlook, frame: &Numbered<'a, A>) -> bool
         ensures { result ≡ fate_told outlook (list_any (λ o. has frame.now o) self.now.outputs) }
     {
@@ -274,7 +275,7 @@ impl<'a, A: Allocator + Copy> Watched<'a, A> {
         }
     }
 
-    /// Takes the first frame's fate, and hands it to each port.
+    /// Takes the first frame's fate, and hands the frame to each port with it.
     fn decide(&mut self, passes: bool) -> Result<(), AllocError>
         requires in_step { IsInStep self.old }
         requires may_be { (n : Seen) (ns : List Seen) → self.old.undecided ≡ n ∷ ns
@@ -293,14 +294,14 @@ impl<'a, A: Allocator + Copy> Watched<'a, A> {
     }
 }
 
-/// The place of the port of a number.
+/// Returns the place of the port of a number; none if there is no such port.
 fn place_in<'a, A: Allocator + Copy>(outputs: &[Output<'a, A>], port: u8) -> Option<usize>
     ensures { result ≡ position (λ o. o.port == port) outputs.now }
 {
     outputs.iter().position(|output| output.port() == port)
 }
 
-/// Whether at each port all records were taken that may be of a frame, once all were that left before an instant.
+/// Returns whether at each port all records that may be of a frame were taken, if all were that left before an instant.
 fn are_over<'a, A: Allocator + Copy>(
     outputs: &[Output<'a, A>],
     frame: &Numbered<'a, A>,
@@ -316,7 +317,7 @@ fn are_over<'a, A: Allocator + Copy>(
     true
 }
 
-/// Whether a record that waits at a port may be of a frame.
+/// Returns whether a record that waits at a port may be of a frame.
 fn is_seen<'a, A: Allocator + Copy>(outputs: &[Output<'a, A>], frame: &Numbered<'a, A>) -> bool
     ensures { result ≡ list_any (λ o. has frame.now o) outputs.now }
 {
@@ -343,7 +344,7 @@ fn hand_all<'a, A: Allocator + Copy>(
     Ok(())
 }
 
-/// Pairs, at each port, the records that left before any frame of which the fate is not told.
+/// Pairs, at each port, the records that left before any frame whose fate is not told.
 fn pair_all<'a, A: Allocator + Copy>(
     outputs: &mut [Output<'a, A>],
     unknown: Option<u128>,
@@ -356,7 +357,7 @@ fn pair_all<'a, A: Allocator + Copy>(
     Ok(())
 }
 
-/// Lets go, at each port, of frames of which nothing can be that leaves at an instant or later.
+/// Lets go, at each port, of the frames of which no record can be that waits, or that leaves at an instant or later.
 fn go_on_all<'a, A: Allocator + Copy>(
     outputs: &mut [Output<'a, A>],
     at: u128,

@@ -25,7 +25,7 @@ impl<'a> Model for View<'a> {
 }
 
 impl<'a> View<'a> {
-    /// The view of a frame of at least six bytes.
+    /// Makes the view of a frame of at least six bytes.
     pub(crate) fn new(bytes: &'a [u8]) -> View<'a>
         requires { 6 ≤ length bytes.now }
         ensures { result ≡ bytes.now }
@@ -33,14 +33,14 @@ impl<'a> View<'a> {
         View { bytes }
     }
 
-    /// The constant field: bytes 0 to 3, which all links of a network share (ARINC 664 Part 7).
+    /// Returns the constant field: bytes 0 to 3, which all links of a network share (ARINC 664 Part 7).
     pub fn constant(&self) -> [u8; 4]
         ensures { result ≡ constant_of self.now }
     {
         [self.bytes[0], self.bytes[1], self.bytes[2], self.bytes[3]]
     }
 
-    /// The number of the virtual link: bytes 4 and 5, big-endian (ARINC 664 Part 7).
+    /// Returns the number of the virtual link: bytes 4 and 5, big-endian (ARINC 664 Part 7).
     pub fn link(&self) -> u16
         ensures { result ≡ link_of self.now }
     {

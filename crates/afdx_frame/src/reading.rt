@@ -7,7 +7,7 @@ use crate::address::View;
 /// Bytes of a destination address (IEEE 802.3).
 const ADDRESS_LENGTH: usize = 6;
 
-/// The view of a frame; none where it has fewer than the six bytes of an address.
+/// Returns the view of a frame, or none if it has fewer than the six bytes of an address.
 ///
 /// It borrows the bytes and copies none. O(1).
 pub fn view(bytes: &[u8]) -> Option<View<'_>>

@@ -31,7 +31,7 @@ impl Model for Straight {
     ghost inverse = { λ s. record { burst = s.burst; rate = s.rate } };
 }
 
-/// The lesser of what is paid for and, where that is known, of what a line brings.
+/// The lesser of what is paid for and, if that is known, of what a line brings.
 #[derive(Clone, Copy, Default)]
 pub(crate) struct Curve {
     pub(crate) paid: Straight,
@@ -49,7 +49,7 @@ impl Model for Curve {
 }
 
 impl Straight {
-    /// Its value in a window of so many nanoseconds.
+    /// Returns the line's value in a window of so many nanoseconds.
     fn at(self, window: u128) -> u128
         requires { window ≤ 2 ^ 74 }
         ensures value { result ≡ straight_at self window }
@@ -58,7 +58,7 @@ impl Straight {
         self.burst + u128::from(self.rate) * window
     }
 
-    /// The window after which two lines cross, if they do.
+    /// Returns the window after which two lines cross, if they do.
     fn crossing(self, other: Straight) -> u128
         ensures value { result ≡ abs_diff self.burst other.burst / abs_diff self.rate other.rate }
         ensures small { result ≤ 2 ^ 73 }
@@ -70,7 +70,7 @@ impl Straight {
 }
 
 impl Curve {
-    /// Its value in a window of so many nanoseconds.
+    /// Returns the curve's value in a window of so many nanoseconds.
     fn at(&self, window: u128) -> u128
         requires { window ≤ 2 ^ 74 }
         ensures value { result ≡ curve_at self.now window }
@@ -83,7 +83,7 @@ impl Curve {
         }
     }
 
-    /// The window after which it turns.
+    /// Returns the window after which the curve turns.
     fn turn(&self) -> u128
         ensures value { result ≡ turn_of self.now }
         ensures small { result ≤ 2 ^ 73 }
@@ -95,7 +95,7 @@ impl Curve {
     }
 }
 
-/// What all curves come to in a window of so many nanoseconds.
+/// Returns what all curves come to in a window of so many nanoseconds.
 fn sum_at(curves: &[Curve], window: u128) -> u128
     requires few { length curves.now ≤ 24 }
     requires small { window ≤ 2 ^ 74 }
@@ -109,7 +109,7 @@ fn sum_at(curves: &[Curve], window: u128) -> u128
     sum
 }
 
-/// By how much they are above a line of so many parts in each nanosecond.
+/// Returns by how much, in this window, the curves are above a line of so many parts in each nanosecond.
 #[tactic(auto, unfolding(crate::specs::Burst::above))]
 fn above(parts: u64, curves: &[Curve], window: u128) -> u128
     requires line { parts ≤ 2 ^ 32 }
@@ -120,7 +120,7 @@ fn above(parts: u64, curves: &[Curve], window: u128) -> u128
     sum_at(curves, window).saturating_sub(u128::from(parts) * window)
 }
 
-/// What the curves' links pay for at once.
+/// Returns what the curves' links pay for at once.
 fn paid_burst(curves: &[Curve]) -> u128
     requires few { length curves.now ≤ 24 }
     ensures paid { result ≡ paid_burst curves.now }
@@ -133,7 +133,7 @@ fn paid_burst(curves: &[Curve]) -> u128
     sum
 }
 
-/// The most by which they are above the line at the beginning or beside a turn.
+/// Returns the most by which the curves are above the line at the beginning or beside a turn.
 fn most_above(parts: u64, curves: &[Curve]) -> u128
     requires line { parts ≤ 2 ^ 32 }
     requires few { length curves.now ≤ 24 }
@@ -149,8 +149,8 @@ fn most_above(parts: u64, curves: &[Curve]) -> u128
     most
 }
 
-/// The least burst that is enough for these curves beside a line of so many parts in each nanosecond, where no more is paid for
-/// in the long run; else what is found in the same way. It is never more than what is paid for at once.
+/// Returns the least burst that is enough for these curves beside a line of so many parts in each nanosecond, if no more is
+/// paid for in the long run; else what is found in the same way. It is never more than what is paid for at once.
 ///
 /// O(c^2) for c curves.
 pub(crate) fn least_burst(parts: u64, curves: &[Curve]) -> u128

@@ -21,7 +21,7 @@ struct Asked {
     burst: u128,
     /// In each nanosecond.
     rate: u64,
-    /// The bytes of their largest frame, 0 where there are none.
+    /// The bytes of their largest frame, 0 if there are none.
     largest: u32,
 }
 
@@ -74,7 +74,7 @@ impl Model for KnownLine {
     ghost inverse = { λ l. record { speed = l.speed; rounding = l.rounding } };
 }
 
-/// Parts of a nanosecond of line time here that a nanosecond of a line there brings.
+/// Returns the parts of a nanosecond of line time here that a nanosecond of a line there brings.
 fn line_weight(here: Speed, there: Speed) -> u64
     ensures weight { result ≡ line_weight here there }
     ensures small { result ≤ 2 ^ 38 }
@@ -83,7 +83,7 @@ fn line_weight(here: Speed, there: Speed) -> u64
 }
 
 impl Asked {
-    /// Of no links.
+    /// Makes what no links ask of a line: nothing.
     fn none() -> Asked
         ensures { (here : Speed) → result ≡ asked_by here [] }
     {
@@ -94,7 +94,7 @@ impl Asked {
         }
     }
 
-    /// Of one more link.
+    /// Adds what one more link asks.
     fn with(self, here: Speed, link: &LinkRow) -> Asked
         requires burst { self.burst ≤ 4095 * 2 ^ 60 }
         requires rate { self.rate ≤ 4095 * 2 ^ 32 }
@@ -112,7 +112,7 @@ impl Asked {
         }
     }
 
-    /// Of one more link, where that is a high one.
+    /// Adds what one more link asks, if it is a high one.
     fn with_high(self, here: Speed, link: &LinkRow) -> Asked
         requires burst { self.burst ≤ 4095 * 2 ^ 60 }
         requires rate { self.rate ≤ 4095 * 2 ^ 32 }
@@ -128,8 +128,8 @@ impl Asked {
         }
     }
 
-    /// What the links are paid for, and what the line there brings of them, with so many parts beside, where it is kept to; in a
-    /// window that is longer by so many nanoseconds.
+    /// Makes the curve of what the links are paid for and, if the line there is kept to, of what it brings of them with so many
+    /// parts beside. Both count in a window that is longer by so many nanoseconds.
     fn curve(self, here: Speed, line: &Option<KnownLine>, spare: u128, scatter: u64) -> Curve
         requires spare { spare ≤ 2 ^ 72 }
         requires scatter { scatter ≤ 100000 }
@@ -156,7 +156,7 @@ impl Asked {
 }
 
 impl Group {
-    /// The group of no links.
+    /// Makes the group of no links.
     fn none() -> Group
         ensures { (here : Speed) → result ≡ group_of here [] }
     {
@@ -166,7 +166,7 @@ impl Group {
         }
     }
 
-    /// The group with one more link.
+    /// Adds one more link to the group.
     fn with(self, here: Speed, link: &LinkRow) -> Group
         requires room { IsSmall 4095 self }
         requires size { link.now.max_size ≤ greatest_size }
@@ -180,7 +180,7 @@ impl Group {
         }
     }
 
-    /// The group with a link, where that comes in at one port and leads to another.
+    /// Adds a link to the group, if it comes in at one port and leads to another.
     fn added(self, from: u8, to: &PortRow, link: &LinkRow) -> Group
         requires room { IsSmall 4095 self }
         requires size { link.now.max_size ≤ greatest_size }
@@ -195,7 +195,8 @@ impl Group {
         }
     }
 
-    /// What all its links can bring, over this line where it is kept to, if latencies differ by so many nanoseconds.
+    /// Makes the curve of what all links of the group can bring, over this line if it is kept to, with latencies that differ by
+    /// so many nanoseconds.
     pub(crate) fn all_curve(self, here: Speed, line: &Option<KnownLine>, scatter: u64) -> Curve
         requires { scatter ≤ 100000 }
         ensures { result ≡ later scatter (all_curve here line.now self) }
@@ -203,7 +204,7 @@ impl Group {
         self.all.curve(here, line, self.high.burst, scatter)
     }
 
-    /// What its high links can bring.
+    /// Makes the curve of what the high links of the group can bring, in the same way.
     pub(crate) fn high_curve(self, here: Speed, line: &Option<KnownLine>, scatter: u64) -> Curve
         requires { scatter ≤ 100000 }
         ensures { result ≡ later scatter (high_curve here line.now self) }
@@ -212,7 +213,7 @@ impl Group {
     }
 }
 
-/// The link at a place in file order.
+/// Returns the link at a place in file order.
 fn link_at(table: &Table, index: usize) -> &LinkRow
     requires { index < length table.now.links }
     ensures link { result.now ≡ slice_index_or table.now.links index result.now }
@@ -221,14 +222,14 @@ fn link_at(table: &Table, index: usize) -> &LinkRow
     table.link_at(index).unwrap()
 }
 
-/// Whether a link comes in at one port and leads to another.
+/// Returns whether a link comes in at one port and leads to another.
 fn goes_over(link: &LinkRow, from: u8, to: u8) -> bool
     ensures { result ≡ goes_over from to link.now }
 {
     link.from == from && link.to.as_slice().contains(&to)
 }
 
-/// The group of the links that come in at a port and lead to another. O(links).
+/// Makes the group of the links that come in at a port and lead to another. O(links).
 pub(crate) fn group_at(table: &Table, from: u8, to: &PortRow) -> Group
     ensures { result ≡ group_at table.now.links from to.now }
 {

@@ -29,7 +29,7 @@ struct Curves {
     high: ArrayVec<Curve, 24>,
 }
 
-/// The line at a port, where frames are known to come over it one after the other.
+/// Returns the line at a port, if frames are known to come over it one after the other.
 fn line_at(roundings: &[Option<u16>; PLACES], from: &PortRow) -> Option<KnownLine>
     requires { from.now.id < 25 }
     ensures { result ≡ line_at (rounding_in roundings.now) from.now }
@@ -41,7 +41,7 @@ fn line_at(roundings: &[Option<u16>; PLACES], from: &PortRow) -> Option<KnownLin
     })
 }
 
-/// The curves of the groups of a port, one for each port of the table, if latencies differ by so many nanoseconds.
+/// Makes the curves of the groups of a port, one for each port of the table, with latencies that differ by so many nanoseconds.
 fn group_curves(
     table: &Table,
     roundings: &[Option<u16>; PLACES],
@@ -64,11 +64,11 @@ fn group_curves(
     Curves { all, high }
 }
 
-/// Finds the least bursts of a port at which links come in over lines: enough for the groups of those that come in at one port,
-/// where `roundings` says, in the places of the ports' numbers, over which lines frames come one after the other (network calculus:
-/// grouping), and by how many nanoseconds their stamps there may be rounded down, and latencies differ by `scatter` nanoseconds, at most
-/// 100,000. Neither burst is more than the links ask for at once then. Where the links ask for more than the line, nothing is enough, and
-/// the bursts are only no more than that.
+/// Finds the least bursts of a port at which links come in over lines: those that are enough for the groups of the links that
+/// come in at one port (network calculus: grouping). `roundings` says, in the places of the ports' numbers, over which lines
+/// frames come one after the other, and by how many nanoseconds their stamps there may be rounded down. Latencies differ by
+/// `scatter` nanoseconds, at most 100,000. Neither burst is more than the links ask for at once then. If the links ask for more
+/// than the line, nothing is enough, and the bursts are only no more than that.
 ///
 /// O(p n + p^2) for p ports and n links. It takes no memory.
 pub fn lesser_bursts(
@@ -97,7 +97,7 @@ pub fn lesser_bursts(
     }
 }
 
-/// The load of a port of the loads' table.
+/// Returns the load of a port of the loads' table.
 pub(crate) fn load_at(loads: &Loads<'_>, to: &PortRow) -> Load
     requires { port_row loads.now to.now.id ≡ Some to.now }
     ensures { result ≡ load_of loads.now.latency to.now.speed to.now.id loads.now.links }
@@ -105,8 +105,8 @@ pub(crate) fn load_at(loads: &Loads<'_>, to: &PortRow) -> Load
     loads.at(to.id).unwrap()
 }
 
-/// Bounds the time that a frame may stay at each port of a table, in the order of its ports: by the bursts that [`lesser_bursts`]
-/// finds, in nanoseconds from the frame's arrival to its end on the line.
+/// Finds the bounds of the time that a frame may stay at each port of a table, in the order of its ports: by the bursts that
+/// [`lesser_bursts`] finds, in nanoseconds from the frame's arrival to its end on the line.
 ///
 /// O(p^2 n + p^3) for p ports and n links, and O(p) memory.
 pub fn lesser_bounds(

@@ -54,7 +54,7 @@ fn empty<A: Allocator + Copy>(slots: &mut Slab<Slot<'_, A>, A>, key: usize)
     slots.try_remove(key);
 }
 
-/// The key of an arrival, which was not let go.
+/// Returns the key of an arrival that was not let go.
 fn key_of<A: Allocator + Copy>(keys: &History<usize, A>, number: usize) -> usize
     requires left { keys.now.first ≤ number }
     requires within { number < length keys.now.items }
@@ -63,7 +63,7 @@ fn key_of<A: Allocator + Copy>(keys: &History<usize, A>, number: usize) -> usize
     keys.get(number).unwrap()
 }
 
-/// Whether the slot at a key holds something of an arrival.
+/// Returns whether the slot at a key holds something of an arrival.
 fn holds<A: Allocator + Copy>(slots: &Slab<Slot<'_, A>, A>, key: usize, number: usize) -> bool
     ensures { result ≡ is_some (seen_at number (get slots.now key)) }
 {
@@ -73,7 +73,7 @@ fn holds<A: Allocator + Copy>(slots: &Slab<Slot<'_, A>, A>, key: usize, number: 
     }
 }
 
-/// The first arrival from one on of which something is held; without one, how many there are.
+/// Returns the first arrival, from one on, of which something is held; if there is none, how many arrivals there are.
 fn first_held<A: Allocator + Copy>(
     slots: &Slab<Slot<'_, A>, A>,
     keys: &History<usize, A>,
@@ -93,7 +93,7 @@ fn first_held<A: Allocator + Copy>(
 }
 
 impl<'a, A: Allocator + Copy> Store<'a, A> {
-    /// A store that holds nothing. It takes no memory. O(1).
+    /// Makes a store that holds nothing. It takes no memory. O(1).
     pub fn new(alloc: A) -> Self
         ensures { result ≡ record { held = []; room = 0 } }
     {
@@ -133,14 +133,14 @@ impl<'a, A: Allocator + Copy> Store<'a, A> {
         Ok(())
     }
 
-    /// How many frames are held. O(1).
+    /// Returns how many frames are held. O(1).
     pub fn held(&self) -> usize
         ensures { result ≡ count_by is_some self.now.held }
     {
         self.slots.len()
     }
 
-    /// Adds the next arrival, of whose frame so many copies are left; with none, the frame is dropped. O(1).
+    /// Adds the next arrival, of whose frame so many copies are left; if none is, the frame is dropped. O(1).
     pub fn add(&mut self, copies: usize, frame: Record<'a, A>)
         requires { 0 < self.old.room }
         ensures { self.new.held ≡ self.old.held ++ newcomer copies frame.entry ∷ [] }
@@ -161,7 +161,7 @@ impl<'a, A: Allocator + Copy> Store<'a, A> {
         self.keys.push(0);
     }
 
-    /// Adds the next arrival, which has some copies.
+    /// Adds the next arrival, which has at least one copy.
     fn hold(&mut self, copies: usize, frame: Record<'a, A>)
         requires room { 0 < self.old.room }
         requires some { 0 < copies }
@@ -191,7 +191,7 @@ impl<'a, A: Allocator + Copy> Store<'a, A> {
         }
     }
 
-    /// The frame that is held of an arrival. O(1).
+    /// Returns the frame that is held of an arrival. O(1).
     pub fn frame(&self, number: usize) -> &Record<'a, A>
         requires { is_held self.now.held number ≡ true }
         ensures { frame_at self.now.held number ≡ Some result.now }

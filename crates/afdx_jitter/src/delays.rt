@@ -15,14 +15,15 @@ pub struct Delays {
 }
 
 impl Delays {
-    /// Before the first hop.
+    /// Makes the delays before the first hop: none.
     pub fn none() -> Delays
         ensures { result ≡ at_once }
     {
         Delays { least: 0, most: 0 }
     }
 
-    /// This part of the way and then another. Either sum is at most 2^60 ns, which is more than 36 years.
+    /// Adds the delays of another part of the way, which comes after this one. Either sum is at most 2^60 ns, which is more
+    /// than 36 years.
     pub fn join(self, next: Delays) -> Delays
         requires least { self.least + next.least ≤ 1152921504606846976 }
         requires most { self.most + next.most ≤ 1152921504606846976 }
@@ -35,8 +36,9 @@ impl Delays {
     }
 }
 
-/// From a frame's arrival at a switch to its arrival at the next one, over a port of this speed and bound: all in nanoseconds.
-/// The latency is at most 1 ms, the cable's delay less than 2^32 ns. The bound has the latency in it, and is at most 2^59 ns.
+/// Returns what a frame takes from its arrival at a switch to its arrival at the next one, over a port of this speed and bound:
+/// all in nanoseconds. The latency is at most 1 ms, the cable's delay less than 2^32 ns. The bound has the latency in it, and
+/// is at most 2^59 ns.
 pub fn hop(speed: Speed, latency: u64, bound: u64, cable: u64) -> Delays
     requires latency_limit { latency ≤ 1000000 }
     requires cable_limit { cable < 4294967296 }

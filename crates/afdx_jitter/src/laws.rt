@@ -3,38 +3,38 @@
 ghost use Rattle.afdx_jitter.specs.Laws.{LaterConform, PassedPassAgain, JitterAllowsMore, JitterEnough};
 ghost use Rattle.afdx_jitter.specs.Laws.{CrossingIsAHop, DelaysAddUp, DelaysBeginAtOnce, WaysPassAll};
 
-/// Frames that come again later conform to terms that allow for the difference of the least and the most.
+/// Proves that frames that come again later conform to terms that allow for the difference of the least and the most.
 pub fn later_conform()
     ensures { LaterConform }
 {}
 
-/// So what one account passed, a later one that allows for it passes.
+/// Proves that what one account passed, a later one that allows for it passes.
 pub fn passed_pass_again<T>()
     ensures { PassedPassAgain T }
 {}
 
-/// Terms of either kind, of one size and gap, allow more where the jitter grows by that much.
+/// Proves that terms of either kind, of one size and gap, allow more if the jitter grows by that much.
 pub fn jitter_allows_more()
     ensures { JitterAllowsMore }
 {}
 
-/// A link whose jitter is enough after a part of its way is not policed there.
+/// Proves that a link whose jitter is enough after a part of its way is not policed there.
 pub fn jitter_enough<T>()
     ensures { JitterEnough T }
 {}
 
-/// Frames of at least 64 bytes that cross a switch and a cable come later by the hop.
+/// Proves that frames of at least 64 bytes that cross a switch and a cable come later by the hop.
 pub fn crossing_is_a_hop()
     ensures { CrossingIsAHop }
 {}
 
-/// Delays of one part of a way and of the next add up; before the first hop there are none.
+/// Proves that delays of one part of a way and of the next add up, and that before the first hop there are none.
 pub fn delays_add_up()
     ensures sums { DelaysAddUp }
     ensures begin { DelaysBeginAtOnce }
 {}
 
-/// No account on a link's way polices anything that the first one passed, where each allows for the whole way to it.
+/// Proves that no account on a link's way polices anything that the first one passed, if each allows for the whole way to it.
 pub fn ways_pass_all()
     ensures { WaysPassAll }
 {}

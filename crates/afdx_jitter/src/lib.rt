@@ -2,7 +2,7 @@
 //!
 //! A switch polices a link by its size, gap and jitter (ARINC 664 Part 7). What leaves it comes to the next switch some
 //! time later: no sooner than the least frame takes, no later than the port's bound. [`Delays`] holds both; [`hop`] gives
-//! them for one switch and the cable behind it, [`need`] the jitter that the link then needs. The module `laws` says that
+//! them for one switch and the cable after it, [`need`] the jitter that the link then needs. The module `laws` says that
 //! it is enough. Every call is O(1) and takes no memory.
 //!
 //! # Example

@@ -6,8 +6,8 @@ ghost use Rattle.afdx_jitter.specs.Delay.{IsEnough, least_jitter};
 use crate::delays::Delays;
 use afdx_units::MICROSECOND;
 
-/// The least jitter, in whole microseconds, that is enough after this part of its way for a link whose jitter is so many
-/// nanoseconds, at most 10 ms, at its first switch.
+/// Returns the least jitter, in whole microseconds, that is enough after this part of its way for a link whose jitter is so
+/// many nanoseconds, at most 10 ms, at its first switch.
 pub fn need(delays: Delays, jitter: u64) -> u64
     requires jitter_limit { jitter ≤ 10000000 }
     requires most_limit { delays.most ≤ 1152921504606846976 }

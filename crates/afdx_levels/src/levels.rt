@@ -36,7 +36,7 @@ impl Model for Levels {
 }
 
 impl Levels {
-    /// What is known of a full account.
+    /// Makes the levels of a full account.
     pub fn at_rest<M: Meter>(meter: &M, tolerance: u64) -> Levels
         requires { tolerance ≤ MAX_TOLERANCE }
         ensures { result ≡ at_rest (M.terms meter.now) tolerance }
@@ -49,7 +49,7 @@ impl Levels {
         }
     }
 
-    /// What is known of an account at an instant where nothing is known of what came before.
+    /// Makes the levels of an account at an instant, if nothing is known of what came before.
     pub fn unknown<M: Meter>(meter: &M, tolerance: u64, since: Stamp) -> Levels
         requires { tolerance ≤ MAX_TOLERANCE }
         ensures { result ≡ unknown (M.terms meter.now) tolerance since }
@@ -61,7 +61,8 @@ impl Levels {
         }
     }
 
-    /// What the account may do with a frame of this size in bytes, of which it was last told at an instant that is not later.
+    /// Returns what the account may do with a frame of this size in bytes that comes at an instant. What is known of the level
+    /// dates from an instant that is not later.
     pub fn outlook<M: Meter>(&self, meter: &M, tolerance: u64, at: Stamp, size: u32) -> Outlook
         requires tolerance { tolerance ≤ MAX_TOLERANCE }
         requires in_order { self.now.since ≤ at }
@@ -108,7 +109,7 @@ impl Levels {
         }
     }
 
-    /// Units that were credited until an instant.
+    /// Returns the units that were credited until an instant.
     fn credit<M: Meter>(&self, meter: &M, at: Stamp) -> u128
         requires { self.now.since ≤ at }
         ensures credit { result ≡ (M.terms meter.now).rate * (at - self.now.since) }
@@ -118,7 +119,7 @@ impl Levels {
     }
 }
 
-/// Units that are credited within the tolerance of the stamps.
+/// Returns the units that are credited within the tolerance of the stamps.
 fn slack<M: Meter>(meter: &M, tolerance: u64) -> u128
     requires { tolerance ≤ MAX_TOLERANCE }
     ensures slack { result ≡ slack_of (M.terms meter.now) tolerance }

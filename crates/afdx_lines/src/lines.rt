@@ -5,7 +5,7 @@ ghost use Rattle.afdx_lines.specs.Lines.{number, part, line};
 
 use std::alloc::{AllocError, Allocator};
 
-/// A number, or `-` where there is none.
+/// Appends a number, or `-` if there is none.
 fn put_number<A: Allocator + Copy>(
     text: &mut String<A>,
     reported: Option<u128>,
@@ -18,7 +18,7 @@ fn put_number<A: Allocator + Copy>(
     }
 }
 
-/// A word and its number.
+/// Appends a word and its number.
 fn put_part<A: Allocator + Copy>(
     text: &mut String<A>,
     word: &str,
@@ -30,7 +30,7 @@ fn put_part<A: Allocator + Copy>(
     put_number(text, number)
 }
 
-/// Appends words with their numbers in decimal, `-` where there is none, and a line feed.
+/// Appends words with their numbers in decimal, `-` if there is none, and a line feed.
 ///
 /// An error says that memory ran out; the text is then of no use. O(line).
 pub fn put_line<A: Allocator + Copy>(

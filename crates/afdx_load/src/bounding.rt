@@ -11,7 +11,7 @@ use afdx_units::Speed;
 /// The whole of a line, in the parts in which rates are given.
 pub const PARTS: u64 = 2_048_000_000;
 
-/// What may wait and be on the line at once, in parts of a nanosecond, if the links ask for so much at once.
+/// Returns what may wait and be on the line at once, in parts of a nanosecond, if the links ask for so much at once.
 pub(crate) fn backlog(load: &Load, burst: u128) -> u128
     requires { burst ≤ 2 ^ 82 }
     ensures backlog { result ≡ backlog (record load.now { burst = burst }) }
@@ -20,8 +20,8 @@ pub(crate) fn backlog(load: &Load, burst: u128) -> u128
     burst + u128::from(PARTS) * u128::from(load.largest())
 }
 
-/// Bounds the time that a frame may stay at a port of this load, in nanoseconds from its arrival to its end on the line, if the
-/// links ask for so much at once. O(1).
+/// Returns the bounds on the time that a frame may stay at a port of this load, in nanoseconds from its arrival to its end on the
+/// line, if the links ask for so much at once. O(1).
 pub fn bounds_with(load: &Load, bursts: Bursts) -> Bounds
     requires all { bursts.all ≤ 2 ^ 82 }
     requires high { bursts.high ≤ 2 ^ 82 }
@@ -42,14 +42,14 @@ pub fn bounds_with(load: &Load, bursts: Bursts) -> Bounds
     Bounds { high, low }
 }
 
-/// The bounds of a port's frames, in nanoseconds, from a frame's arrival to its end on the line. O(1).
+/// Returns the bounds of a port's frames, in nanoseconds from a frame's arrival to its end on the line. O(1).
 pub fn bounds(load: &Load) -> Bounds
     ensures { result ≡ bounds_of load.now }
 {
     bounds_with(load, load.bursts())
 }
 
-/// The least buffer, in bytes, that holds what may wait and be on the line at once. O(1).
+/// Returns the least buffer, in bytes, that holds what may wait and be on the line at once. O(1).
 pub fn least_buffer(load: &Load, speed: Speed) -> u128
     ensures { (bytes : ℕ) → (backlog load.now ≤ byte_time speed bytes) ↔ (result ≤ bytes) }
 {

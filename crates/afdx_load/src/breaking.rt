@@ -9,7 +9,7 @@ use crate::fault::Rule;
 use crate::port_load::Load;
 use afdx_table::PortRow;
 
-/// Whether a bound is above a limit; one that is not there is not.
+/// Returns whether a bound is above a limit; a bound that is not there is not.
 fn is_above(bound: Option<u128>, limit: u64) -> bool
     ensures { result ≡ option_map_or (λ need. nat_lt limit need) bound false }
 {
@@ -19,10 +19,10 @@ fn is_above(bound: Option<u128>, limit: u64) -> bool
     }
 }
 
-/// Whether a port's load breaks a rule: whether it needs more than the port can give. O(1).
+/// Returns whether a port's load breaks a rule: whether it needs more than the port can give. O(1).
 ///
-/// A bound that is not there breaks nothing. So where the high links alone ask for the whole line or more, `Rate` is broken
-/// and `LowDelay` is not.
+/// A bound that is not there breaks nothing. So if there is a low link and the high links alone ask for the whole line or more,
+/// `Rate` is broken and `LowDelay` is not.
 pub fn breaks(row: &PortRow, load: &Load, rule: Rule) -> bool
     ensures { result ≡ is_broken row.now load.now rule }
 {

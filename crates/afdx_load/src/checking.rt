@@ -13,7 +13,7 @@ use crate::port_load::Load;
 use crate::port_loads::SLOTS;
 use afdx_table::{PortRow, Table};
 
-/// The fault of a need past its limit.
+/// Returns the fault of a need, if it is past its limit.
 fn past(port: u8, rule: Rule, limit: u128, need: u128) -> Option<LoadFault>
     ensures { result ≡ past port rule limit need }
 {
@@ -29,7 +29,7 @@ fn past(port: u8, rule: Rule, limit: u128, need: u128) -> Option<LoadFault>
     }
 }
 
-/// The same where there may be no need.
+/// Returns the fault of a need, if there is one and it is past its limit.
 fn past_bound(port: u8, rule: Rule, limit: u128, need: Option<u128>) -> Option<LoadFault>
     ensures { result ≡ past_bound port rule limit need }
 {
@@ -39,7 +39,8 @@ fn past_bound(port: u8, rule: Rule, limit: u128, need: Option<u128>) -> Option<L
     }
 }
 
-/// The first rule that a port's load breaks, in the order of [`check`], if its links ask for so much at once. O(1).
+/// Returns the fault of the first rule that a port's load breaks, in the order of [`check`], if its links ask for so much at
+/// once; none if it breaks none. O(1).
 #[tactic(auto, unfolding(crate::specs::Accepted::fault_at))]
 pub fn fault_with(row: &PortRow, load: &Load, bursts: Bursts) -> Option<LoadFault>
     requires all { bursts.all ≤ 2 ^ 82 }
@@ -56,7 +57,7 @@ pub fn fault_with(row: &PortRow, load: &Load, bursts: Bursts) -> Option<LoadFaul
         .or(past_bound(row.id, Rule::LowDelay, delay, bounds.low))
 }
 
-/// The fault of the first port that has one.
+/// Returns the fault of the first port that has one; none if no port has.
 fn first_fault_in(table: &Table, slots: &[Load; SLOTS]) -> Option<LoadFault>
     requires { AreLoads table.now.links table.now.ports slots.now }
     ensures { result ≡ first_fault table.now.latency table.now.links table.now.ports }
@@ -71,23 +72,23 @@ fn first_fault_in(table: &Table, slots: &[Load; SLOTS]) -> Option<LoadFault>
     None
 }
 
-/// The fault of a table, as [`check`] names it; none where the table is accepted. It costs as much as that.
+/// Returns the fault of a table, as [`check`] names it; none if the table is accepted. It costs as much as that.
 pub fn first_fault(table: &Table) -> Option<LoadFault>
     ensures { result ≡ first_fault table.now.latency table.now.links table.now.ports }
 {
     first_fault_in(table, &slots(table))
 }
 
-/// Accepts a table exactly where each port with links carries their load. Else the table comes back unchanged, beside
-/// the fault of the lowest port that has one, at the first rule that it breaks, in this order:
+/// Accepts a table exactly if each port with links carries their load. Else the table comes back unchanged, beside the fault of
+/// the lowest port that has one, at the first rule that it breaks, in this order:
 ///
 /// 1. `Rate`: its links ask for more than the line.
 /// 2. `Buffer`: what may wait and be on the line at once takes more line time than the buffer holds.
 /// 3. `HighDelay`: the bound of its high frames is above the greatest delay.
 /// 4. `LowDelay`: the bound of its low frames is above the greatest delay.
 ///
-/// O(p + m), where the table has p ports and its links together name m output ports: one pass over the links serves all
-/// ports. It takes no memory.
+/// O(p + m) for p ports and links that together name m output ports: one pass over the links serves all ports. It takes no
+/// memory.
 #[tactic(auto, using(crate::proofs::FaultLemmas::accepted_of, crate::proofs::FaultLemmas::refused_of))]
 pub fn check(table: Table) -> Result<Cleared, (Table, LoadFault)>
     ensures { MatchResult result

@@ -26,7 +26,7 @@ impl Model for Cleared {
 }
 
 impl Cleared {
-    /// The table. O(1).
+    /// Returns the table. O(1).
     pub fn table(&self) -> &Table
         ensures table { result.now ≡ self.now }
         ensures accepted { IsAccepted self.now }
@@ -34,7 +34,7 @@ impl Cleared {
         &self.table
     }
 
-    /// The table, which is no longer known to be accepted but by this call's contract. O(1).
+    /// Returns the table; from then on only this call's contract says that it is accepted. O(1).
     pub fn into_table(self) -> Table
         ensures table { result ≡ self }
         ensures accepted { IsAccepted self }

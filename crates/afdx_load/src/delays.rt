@@ -4,8 +4,8 @@
 /// rounded down.
 #[derive(Clone, Copy, Debug, PartialEq, Eq)]
 pub struct Bounds {
-    /// Of high frames; none where no high link leads to the port.
+    /// Of high frames; none if no high link leads to the port.
     pub high: Option<u128>,
-    /// Of low frames; none where no low link leads to the port, or the high links ask for the whole line or more.
+    /// Of low frames; none if no low link leads to the port, or if the high links ask for the whole line or more.
     pub low: Option<u128>,
 }

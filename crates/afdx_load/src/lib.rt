@@ -1,8 +1,8 @@
 //! What the links of a table may ask of each port's line, and whether the port can give it (profile).
 //!
-//! [`loads`] sums what each port's links ask for, [`bounds`] says how long a frame may then stay there, and [`check`]
-//! accepts a table exactly where each port with links keeps four rules. All is reckoned in whole numbers; where the
-//! prose says "parts", they are the 2,048,000,000th part of a line or of a nanosecond. No call takes memory.
+//! [`loads`] sums what each port's links ask for, [`bounds`] says how long a frame may then stay there, and [`check`] accepts a
+//! table exactly if each port with links keeps four rules. All is reckoned in whole numbers; "parts" in the prose are each the
+//! 2,048,000,000th part of a line or of a nanosecond. No call takes memory.
 //!
 //! # Example
 //!

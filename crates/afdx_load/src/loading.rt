@@ -12,7 +12,7 @@ use crate::port_loads::{Loads, SLOTS};
 use afdx_table::{LinkRow, PortRow, Table};
 use afdx_units::Speed;
 
-/// The link at a place in file order.
+/// Returns the link at a place in file order.
 fn link_at(table: &Table, index: usize) -> &LinkRow
     requires { index < length table.now.links }
     ensures link { result.now ≡ slice_index_or table.now.links index result.now }
@@ -22,7 +22,7 @@ fn link_at(table: &Table, index: usize) -> &LinkRow
     table.link_at(index).unwrap()
 }
 
-/// The speed of each port, in the place of its number.
+/// Returns the speed of each port, in the place of its number.
 fn speeds(ports: &[PortRow]) -> [Speed; SLOTS]
     requires numbers { AllByRecursion IsPort ports.now }
     requires order { Rises ports.now }
@@ -49,7 +49,7 @@ fn add_link(loads: &mut [Load; SLOTS], speeds: &[Speed; SLOTS], link: &LinkRow)
     }
 }
 
-/// The load of each port, in the place of its number, from one pass over the links.
+/// Returns the load of each port, in the place of its number, from one pass over the links.
 pub(crate) fn slots(table: &Table) -> [Load; SLOTS]
     ensures { AreLoads table.now.links table.now.ports result }
 {
@@ -61,9 +61,9 @@ pub(crate) fn slots(table: &Table) -> [Load; SLOTS]
     slots
 }
 
-/// The loads of all ports, from one pass over the links.
+/// Returns the loads of all ports, from one pass over the links.
 ///
-/// O(p + n + m), where the table has p ports and n links that together name m output ports. It takes no memory.
+/// O(p + n + m) for p ports and n links that together name m output ports. It takes no memory.
 pub fn loads(table: &Table) -> Loads<'_>
     ensures { result ≡ table.now }
 {
@@ -73,7 +73,7 @@ pub fn loads(table: &Table) -> Loads<'_>
     }
 }
 
-/// The load of the port of a number; none where there is no such port.
+/// Returns the load of the port of a number; none if there is no such port.
 ///
 /// It costs as much as [`loads`], which serves all ports at once.
 pub fn load(table: &Table, port: u8) -> Option<Load>

@@ -61,7 +61,7 @@ impl Model for Load {
 }
 
 impl Load {
-    /// The load of no links, at a switch without latency.
+    /// Makes the load of no links, at a switch without latency.
     #[tactic(auto, unfolding(crate::specs::Load::links_load))]
     pub(crate) fn none() -> Load
         ensures { (speed : Speed) → result ≡ links_load speed [] }
@@ -79,7 +79,7 @@ impl Load {
         }
     }
 
-    /// The load with one more link.
+    /// Returns the load with one more link.
     pub(crate) fn with(self, speed: Speed, link: &LinkRow) -> Load
         requires room { self.highs + self.lows < 4096 }
         requires size { link.now.max_size ≤ greatest_size }
@@ -116,42 +116,42 @@ impl Load {
         }
     }
 
-    /// The same load at a switch of this latency in nanoseconds.
+    /// Returns the same load at a switch of this latency in nanoseconds.
     pub(crate) fn behind(self, latency: u64) -> Load
         ensures { result ≡ behind latency self }
     {
         Load { latency, ..self }
     }
 
-    /// The number of its high links.
+    /// Returns the number of its high links.
     pub fn highs(&self) -> u32
         ensures { result ≡ self.now.highs }
     {
         self.highs
     }
 
-    /// The number of its low links.
+    /// Returns the number of its low links.
     pub fn lows(&self) -> u32
         ensures { result ≡ self.now.lows }
     {
         self.lows
     }
 
-    /// The parts of the line that all links ask for in the long run, of which it has 2,048,000,000.
+    /// Returns the parts of the line that all links ask for in the long run; the line has 2,048,000,000.
     pub fn rate(&self) -> u64
         ensures rate { result ≡ self.now.rate }
     {
         self.rate
     }
 
-    /// The parts of the line that the high links ask for in the long run.
+    /// Returns the parts of the line that the high links ask for in the long run.
     pub fn high_rate(&self) -> u64
         ensures { result ≡ self.now.high_rate }
     {
         self.high_rate
     }
 
-    /// What all links may ask for at once, in the 2,048,000,000th part of a nanosecond.
+    /// Returns what all links may ask for at once, in the 2,048,000,000th part of a nanosecond.
     pub fn burst(&self) -> u128
         ensures burst { result ≡ self.now.burst }
         ensures small { result ≤ 2 ^ 72 }
@@ -159,7 +159,7 @@ impl Load {
         self.burst
     }
 
-    /// What the high links may ask for at once, in the 2,048,000,000th part of a nanosecond.
+    /// Returns what the high links may ask for at once, in the 2,048,000,000th part of a nanosecond.
     pub fn high_burst(&self) -> u128
         ensures burst { result ≡ self.now.high_burst }
         ensures small { result ≤ 2 ^ 72 }
@@ -167,7 +167,7 @@ impl Load {
         self.high_burst
     }
 
-    /// What its links ask for at once.
+    /// Returns what its links ask for at once.
     pub fn bursts(&self) -> Bursts
         ensures all { result.all ≡ self.now.burst }
         ensures high { result.high ≡ self.now.high_burst }
@@ -180,7 +180,7 @@ impl Load {
         }
     }
 
-    /// The line time of the longest frame, in nanoseconds; 0 where there are no links.
+    /// Returns the line time of the longest frame, in nanoseconds; 0 if there are no links.
     pub fn largest(&self) -> u64
         ensures time { result ≡ self.now.largest }
         ensures small { result ≤ 2 ^ 21 }
@@ -188,7 +188,7 @@ impl Load {
         self.largest
     }
 
-    /// The line time of the longest low frame, in nanoseconds; 0 where there are no low links.
+    /// Returns the line time of the longest low frame, in nanoseconds; 0 if there are no low links.
     pub fn low_largest(&self) -> u64
         ensures time { result ≡ self.now.low_largest }
         ensures small { result ≤ 2 ^ 21 }
@@ -196,7 +196,7 @@ impl Load {
         self.low_largest
     }
 
-    /// Nanoseconds from a frame's arrival until its copies are queued.
+    /// Returns the nanoseconds from a frame's arrival until its copies are queued.
     pub fn latency(&self) -> u64
         ensures { result ≡ self.now.latency }
     {

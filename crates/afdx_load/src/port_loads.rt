@@ -32,7 +32,7 @@ impl<'a> Model for Loads<'a> {
     ghost invariant = { λ l. AreLoads l.table.now.links l.table.now.ports l.slots };
 }
 
-/// The load of the port of a number, of those in their places.
+/// Returns the load of the port of a number, of those in their places; none if there is no such port.
 #[tactic(auto, using(crate::proofs::SlotLemmas::slot_found))]
 fn load_in(table: &Table, slots: &[Load; SLOTS], port: u8) -> Option<Load>
     requires { AreLoads table.now.links table.now.ports slots.now }
@@ -43,9 +43,9 @@ fn load_in(table: &Table, slots: &[Load; SLOTS], port: u8) -> Option<Load>
 }
 
 impl<'a> Loads<'a> {
-    /// The load of the port of a number; none where there is no such port.
+    /// Returns the load of the port of a number; none if there is no such port.
     ///
-    /// O(1) beside the search for the port, which looks at each of the at most 24.
+    /// O(1) beside the search for the port, which looks at each of the ports, at most 24.
     pub fn at(&self, port: u8) -> Option<Load>
         ensures { result ≡ port_load self.now port }
     {

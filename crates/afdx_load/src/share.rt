@@ -19,7 +19,8 @@ pub struct Share {
     pub time: u64,
 }
 
-/// What a link asks of a line of this speed: its account's credit and its greatest level, by what a unit is worth. O(1).
+/// Returns what a link asks of a line of this speed: its account's credit and its greatest level, each times what a unit is
+/// worth. O(1).
 pub fn share_of(speed: Speed, link: &LinkRow) -> Share
     requires size { link.now.max_size ≤ greatest_size }
     requires jitter { link.now.jitter ≤ 10000000 }

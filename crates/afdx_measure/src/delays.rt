@@ -13,7 +13,7 @@ pub struct Range {
     pub greatest: u64,
 }
 
-/// How many copies of a link a port sent, and their delays; no range where it sent none.
+/// How many copies of a link a port sent, and their delays; no range if it sent none.
 #[derive(Clone, Copy, Debug, PartialEq, Eq)]
 pub struct Delays {
     pub count: usize,
@@ -63,7 +63,7 @@ impl Delays {
         }
     }
 
-    /// Adds a copy, which had this delay.
+    /// Adds a copy that had this delay.
     ///
     /// An error says that there would be more than 2^64 - 1.
     pub fn with(self, delay: u64) -> Result<Delays, AllocError>
@@ -85,7 +85,7 @@ impl Delays {
         })
     }
 
-    /// Adds a copy, which was sent as this.
+    /// Adds a copy that was sent as this.
     pub(crate) fn with_sent(self, sent: &Sent) -> Result<Delays, AllocError>
         ensures { (ns : List ℕ) → self ≡ summary_of ns → IfOk result (λ d. d ≡ summary_of (ns ++ delay_of sent.now ∷ [])) }
     {
@@ -93,7 +93,7 @@ impl Delays {
     }
 }
 
-/// Takes the delay of a copy: from the stamp of its frame to the instant from which the line is free again.
+/// Returns the delay of a copy in nanoseconds: from the stamp of its frame to the instant from which the line is free again.
 fn delay_of(sent: &Sent) -> u64
     ensures { result ≡ delay_of sent.now }
 {

@@ -13,7 +13,7 @@ pub struct Filling {
     pub at: Stamp,
 }
 
-/// The fuller one, and of equal ones the first.
+/// Returns the fuller one, and of equal ones the first.
 pub(crate) fn fuller(peak: Option<Filling>, next: Filling) -> Filling
     ensures { (all : List Full) → peak ≡ peak_of all → Some result ≡ peak_of (all ++ next ∷ []) }
 {

@@ -23,9 +23,9 @@ use std::alloc::{AllocError, Allocator};
 /// What is noted at one port.
 #[derive(Drop)]
 pub(crate) struct AtPort<A: Allocator> {
-    /// Of the copies that it handed out, by the places of the links in the table.
+    /// The delays of the copies that it handed out, by the places of the links in the table.
     delays: Vec<Delays, A>,
-    /// Of all that it admitted.
+    /// The peak over all that it admitted.
     pub(crate) peak: Option<Filling>,
 }
 
@@ -37,7 +37,7 @@ pub(crate) struct Gauges<A: Allocator> {
 }
 
 impl<A: Allocator + Copy> AtPort<A> {
-    /// A port that has admitted and handed out nothing, of a table with so many links.
+    /// Makes what is noted at a port that has admitted and handed out nothing, of a table with so many links.
     fn new(alloc: A, links: usize) -> Result<AtPort<A>, AllocError>
         ensures { IfOk result (IsFresh links) }
     {
@@ -47,7 +47,7 @@ impl<A: Allocator + Copy> AtPort<A> {
         })
     }
 
-    /// The delays of the copies of the link at a place; those of none where there is no such link.
+    /// Returns the delays of the copies of the link at a place; those of no copies if there is no such link.
     pub(crate) fn delays_of(&self, link: usize) -> Delays
         ensures { result ≡ slice_index_or self.now.delays.items link (summary_of []) }
     {
@@ -81,7 +81,7 @@ impl<A: Allocator + Copy> AtPort<A> {
     }
 }
 
-/// The ports of a table, each with nothing.
+/// Makes what is noted at the ports of a table, with nothing at each.
 fn ports_of<A: Allocator + Copy>(alloc: A, table: &Table) -> Result<Vec<AtPort<A>, A>, AllocError>
     ensures { IfOk result (λ ports. AreFresh table.now ports.items) }
 {
@@ -92,7 +92,7 @@ fn ports_of<A: Allocator + Copy>(alloc: A, table: &Table) -> Result<Vec<AtPort<A
     Ok(ports)
 }
 
-/// Notes at the port of a place that its buffer held so much once a frame had been admitted.
+/// Notes that the buffer of the port at a place held so much once a frame had been admitted.
 fn note_filling_at<A: Allocator + Copy>(ports: &mut [AtPort<A>], place: usize, filling: Filling)
     ensures { IsFilledAt place filling ports.old ports.new }
 {
@@ -101,7 +101,7 @@ fn note_filling_at<A: Allocator + Copy>(ports: &mut [AtPort<A>], place: usize, f
     }
 }
 
-/// Notes at the port of a place a copy that was handed out, of the link at a place.
+/// Notes that a port handed out a copy of a link; both are given by their places.
 fn note_sent_at<A: Allocator + Copy>(
     ports: &mut [AtPort<A>],
     place: usize,
@@ -158,7 +158,7 @@ fn note_fillings<A: Allocator + Copy>(
 }
 
 impl<A: Allocator + Copy> Gauges<A> {
-    /// Of a run that has taken nothing.
+    /// Makes what is noted of a run that has taken nothing.
     ///
     /// An error says that memory ran out. O(links + ports), and 32 bytes for each link and port.
     pub(crate) fn new(alloc: A, table: &Table) -> Result<Gauges<A>, AllocError>
@@ -168,7 +168,7 @@ impl<A: Allocator + Copy> Gauges<A> {
         Ok(Gauges { ports })
     }
 
-    /// What is noted at the port of a place. O(1).
+    /// Lends what is noted at the port at a place. O(1).
     pub(crate) fn at(&self, place: usize) -> Option<&AtPort<A>>
         ensures { option_copied result ≡ slice_get self.now.ports.items place }
     {
@@ -185,7 +185,7 @@ impl<A: Allocator + Copy> Gauges<A> {
         note_fillings(&mut self.ports, relay, at, step.offers.as_slice());
     }
 
-    /// Notes that the port of a place hands out its next copy, which was sent as this. O(1).
+    /// Notes that the port at a place hands out its next copy, which was sent as this. O(1).
     ///
     /// An error says that a count would pass 2^64 - 1; what was noted is of no use then.
     pub(crate) fn note_sent(

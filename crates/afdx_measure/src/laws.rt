@@ -9,25 +9,25 @@ use afdx_core::laws::{
 };
 use afdx_port::laws::admitted_fit_in_order;
 
-/// The least and the greatest delay are among the delays, and none is below or above them.
+/// Proves that the least and the greatest delay are among the delays, and that none is below or above them.
 pub fn range_is_of_delays()
     ensures { RangeIsOfDelays }
 {}
 
-/// The peak is the greatest filling, at the first admission that reached it.
+/// Proves that the peak is the greatest filling, at the first admission that reached it.
 pub fn peak_is_the_first_greatest()
     ensures { PeakIsTheFirstGreatest }
 {}
 
-/// A port's buffer never held more than it has.
+/// Proves that a port's buffer never held more bytes than it has.
 pub fn peak_is_within_the_buffer()
     ensures { PeakIsWithinTheBuffer }
 {
     admitted_fit_in_order();
 }
 
-/// Over an accepted table no delay of a link at a port is greater than the port's bound for its priority, and no port's
-/// buffer ever held more than the least one that its load asks for.
+/// Proves that, over an accepted table, no delay of a link at a port is greater than the port's bound for its priority, and no
+/// port's buffer ever held more than the least one that its load asks for.
 pub fn accepted_tables_stay_within_the_load()
     ensures { AcceptedTablesStayWithinTheLoad }
 {

@@ -8,7 +8,7 @@ use crate::filling::Filling;
 use afdx_lines::put_line;
 use std::alloc::{AllocError, Allocator};
 
-/// Appends the line of a link at a port, whose bound for the link's priority is this, where one is promised.
+/// Appends the line of a link at a port, with the port's bound for the link's priority, if one is promised.
 ///
 /// An error says that memory ran out; the text is then of no use. O(line).
 pub fn put_link_line<A: Allocator + Copy>(

@@ -50,10 +50,11 @@ pub enum Wanted {
     Lists,
 }
 
-/// A [`Relay`] that notes, where this is wanted, the delays of what it hands out, how full the buffers of its ports were, and when links
+/// A [`Relay`] that notes, if this is wanted, the delays of what it hands out, how full the buffers of its ports were, and when links
 /// were policed.
 ///
-/// Contracts see the same state as of a relay. Where memory runs out for what is noted, all of it is let go, and the run goes on.
+/// Contracts see the same state as of a relay. If memory runs out for what is noted, it is let go, and the run goes on: delays and buffers
+/// together, or policing.
 #[derive(Drop)]
 pub struct Measuring<'a, A: Allocator> {
     relay: Relay<'a, A>,
@@ -114,7 +115,7 @@ impl<'a, A: Allocator> Model for Measures<'a, A> {
     ghost invariant = { λ m. AreGauged m.relayed.run m.gauges × AllHandedOut m.relayed.run };
 }
 
-/// The same, and when links were policed. Contracts see the state of the switch.
+/// [`Measures`], and when links were policed. Contracts see the state of the switch.
 #[derive(Drop)]
 pub struct Survey<'a, A: Allocator> {
     pub(crate) measures: Measures<'a, A>,
@@ -132,7 +133,7 @@ impl<'a, A: Allocator> Model for Survey<'a, A> {
     ghost invariant = { λ s. IsPoliced s.measures.run s.policing };
 }
 
-/// Whether all lists are wanted.
+/// Returns whether all lists are wanted.
 fn keeps_lists(wanted: Wanted) -> bool
     ensures { result ≡ keeps_lists wanted }
 {
@@ -142,7 +143,7 @@ fn keeps_lists(wanted: Wanted) -> bool
     }
 }
 
-/// The gauges of a table, where they are wanted; none where memory ran out.
+/// Makes the gauges of a table, if they are wanted; none if memory ran out.
 fn gauges_of<A: Allocator + Copy>(alloc: A, table: &Table, wanted: Wanted) -> Option<Gauges<A>>
     ensures { AgreesWith (fresh_run table.now) result }
 {
@@ -155,7 +156,7 @@ fn gauges_of<A: Allocator + Copy>(alloc: A, table: &Table, wanted: Wanted) -> Op
     }
 }
 
-/// What is to be noted of the policing of a table's links, where it is wanted; none where memory ran out.
+/// Makes what is to be noted of the policing of a table's links, if it is wanted; none if memory ran out.
 fn policing_of<A: Allocator + Copy>(alloc: A, table: &Table, wanted: Wanted) -> Option<Policing<A>>
     ensures { KnowsPolicing (fresh_run table.now) result }
 {
@@ -168,7 +169,7 @@ fn policing_of<A: Allocator + Copy>(alloc: A, table: &Table, wanted: Wanted) -> 
     }
 }
 
-/// Whether each port has handed out all that it sent. O(ports).
+/// Returns whether each port has handed out all that it sent. O(ports).
 fn all_handed_out<A: Allocator + Copy>(relayed: &Relayed<'_, A>) -> bool
     ensures { IsTrue result → AllHandedOut relayed.now.run }
 {
@@ -181,7 +182,7 @@ fn all_handed_out<A: Allocator + Copy>(relayed: &Relayed<'_, A>) -> bool
     true
 }
 
-/// What was noted at the ports, if anything was, and all was handed out.
+/// Returns what was noted at the ports, if anything was, and if all was handed out.
 fn measures_of<'a, A: Allocator + Copy>(
     relayed: Relayed<'a, A>,
     gauges: Option<Gauges<A>>,
@@ -233,7 +234,7 @@ fn note_policing<A: Allocator + Copy>(
     }
 }
 
-/// Notes that the port of a place hands out its next copy, which was sent as this.
+/// Notes that the port at a place hands out its next copy, which was sent as this.
 fn note_sent<A: Allocator + Copy>(
     gauges: &mut Option<Gauges<A>>,
     table: &Table,
@@ -321,28 +322,28 @@ impl<'a, A: Allocator + Copy> Measuring<'a, A> {
         self.relay.advance(to)
     }
 
-    /// How many different frames are held. O(1).
+    /// Returns how many different frames are held. O(1).
     pub fn held(&self) -> usize
         ensures { result ≡ held_count self.now.run }
     {
         self.relay.held()
     }
 
-    /// The switch's table. O(1).
+    /// Lends the switch's table. O(1).
     pub fn table(&self) -> &Table
         ensures { result.now ≡ self.now.run.table }
     {
         self.relay.table()
     }
 
-    /// The instant of the first start or discard that was not carried out, as [`Relay::next_event`] says it.
+    /// Returns the instant of the first start or discard that was not carried out, as [`Relay::next_event`] does.
     pub fn next_event(&self) -> Option<Stamp>
         ensures { IsNextEvent self.now.run result }
     {
         self.relay.next_event()
     }
 
-    /// What the port's next frame that was not handed out was sent as, as [`Relay::next_sent`] says it.
+    /// Returns what the port's next frame that was not handed out was sent as, as [`Relay::next_sent`] does.
     pub fn next_sent(&self, port: u8) -> Option<(usize, Sent)>
         ensures { IsNextOf self.now.run port result }
     {
@@ -408,7 +409,7 @@ impl<'a, A: Allocator + Copy> Measuring<'a, A> {
 }
 
 impl<'a, A: Allocator + Copy> Measured<'a, A> {
-    /// The relay. O(1).
+    /// Lends the relay. O(1).
     pub fn relayed(&self) -> &Relayed<'a, A>
         ensures { result.now ≡ self.now }
     {
@@ -436,7 +437,7 @@ impl<'a, A: Allocator + Copy> Measured<'a, A> {
         Ok(some)
     }
 
-    /// Lends all its lists, if they were kept. O(1).
+    /// Turns it into a finished switch with all its lists, which have to be kept. O(1).
     pub fn into_done(self) -> Done<'a, A>
         requires { self.keeps ≡ true }
         ensures { result ≡ self.entry }
@@ -444,8 +445,8 @@ impl<'a, A: Allocator + Copy> Measured<'a, A> {
         self.relayed.into_done()
     }
 
-    /// Returns what was noted at the ports; none where it was not wanted, where memory ran out for it, and where a port has not handed out
-    /// all that it sent. O(ports).
+    /// Returns what was noted at the ports; none if it was not wanted, if memory ran out for it, or if a port has not handed out all that
+    /// it sent. O(ports).
     pub fn into_measures(self) -> Option<Measures<'a, A>>
         ensures { IfSome result (λ measures. measures ≡ self.entry) }
     {
@@ -472,7 +473,7 @@ impl<'a, A: Allocator + Copy> Measured<'a, A> {
 }
 
 impl<'a, A: Allocator + Copy> Measures<'a, A> {
-    /// The switch's table. O(1).
+    /// Lends the switch's table. O(1).
     pub fn table(&self) -> &Table
         ensures { result.now ≡ self.now.run.table }
     {
@@ -490,7 +491,7 @@ impl<'a, A: Allocator + Copy> Measures<'a, A> {
         }
     }
 
-    /// Returns the delays of the copies of the link at a place of the table that a port sent; those of none where there is no such port or
+    /// Returns the delays of the copies that a port sent for the link at a place of the table; those of no copies if there is no such port or
     /// link. O(1).
     pub fn delays_at(&self, link: usize, port: u8) -> Delays
         ensures { (l : Link) → slice_get self.now.run.table.links link ≡ Some l
@@ -503,7 +504,7 @@ impl<'a, A: Allocator + Copy> Measures<'a, A> {
     }
 
     /// Returns the greatest number of bytes that the buffer of a port held when a frame had been admitted, at the first admission that
-    /// reached it; none where none was admitted, or there is no such port. O(1).
+    /// reached it; none if no frame was admitted, or if there is no such port. O(1).
     pub fn peak_at(&self, port: u8) -> Option<Filling>
         ensures { (p : PortRow) → port_row self.now.run.table port ≡ Some p → result ≡ peak_at self.now.run p }
     {
@@ -540,7 +541,7 @@ impl<'a, A: Allocator + Copy> Survey<'a, A> {
         self.policing.span().first()
     }
 
-    /// Returns that of the last. O(1).
+    /// Returns the stamp of the last of them, if there is one. O(1).
     pub fn last(&self) -> Option<Stamp>
         ensures { result ≡ stamp_at (length self.now.run.rows - 1) self.now.run.rows }
     {

@@ -18,7 +18,7 @@ use afdx_table::laws::{links_are_at_their_places, links_are_found};
 use afdx_units::Stamp;
 use std::alloc::{AllocError, Allocator};
 
-/// How many frames came, and the stamps of the first and of the last; no stamps where none came.
+/// How many frames came, and the stamps of the first and of the last; no stamps if none came.
 #[derive(Clone, Copy, Debug, PartialEq, Eq)]
 pub(crate) struct Span {
     count: usize,
@@ -33,7 +33,7 @@ impl Span {
         self.count
     }
 
-    /// Returns the stamp of the first.
+    /// Returns the stamp of the first, if one came.
     pub(crate) fn first(self) -> Option<Stamp>
         ensures { (r : Run) → EndsAre self.ends r → result ≡ stamp_at 0 r.rows }
     {
@@ -43,7 +43,7 @@ impl Span {
         }
     }
 
-    /// Returns the stamp of the last.
+    /// Returns the stamp of the last, if one came.
     pub(crate) fn last(self) -> Option<Stamp>
         ensures { (r : Run) → EndsAre self.ends r → result ≡ stamp_at (length r.rows - 1) r.rows }
     {
@@ -81,7 +81,7 @@ pub(crate) struct Policing<A: Allocator> {
     span: Span,
 }
 
-/// Makes lists for the spells of a table's links, in its order, none of which has any so far.
+/// Makes a list of no spells for each link of a table, in its order.
 fn fresh_spells<A: Allocator + Copy>(
     alloc: A,
     table: &Table,
@@ -112,7 +112,7 @@ fn note_at<A: Allocator + Copy>(
 }
 
 impl<A: Allocator + Copy> Policing<A> {
-    /// Makes that of a run that has taken nothing.
+    /// Makes what is noted of a run that has taken nothing.
     ///
     /// An error says that memory ran out. O(links).
     pub(crate) fn new(alloc: A, table: &Table) -> Result<Policing<A>, AllocError>

@@ -14,7 +14,7 @@ use afdx_table::{LinkRow, PortRow};
 use afdx_units::Priority;
 use std::alloc::{AllocError, Allocator};
 
-/// The port's bound for a priority, where bounds are promised.
+/// Returns the port's bound for a priority, if bounds are promised.
 fn bound_at(promised: bool, loads: &Loads<'_>, port: u8, priority: Priority) -> Option<u128>
     ensures { result ≡ bound_at promised loads.now port priority }
 {
@@ -100,8 +100,8 @@ fn put_ports<A: Allocator + Copy>(
     Ok(())
 }
 
-/// What is reported of a finished switch: a line for each link and each of its output ports, then a line for each port.
-/// Bounds are reported where they are promised: where the table was checked, and accepted.
+/// Writes what is reported of a finished switch: a line for each link and each of its output ports, then a line for each port.
+/// Bounds are reported if they are promised: if the table was checked and accepted.
 ///
 /// An error says that memory ran out. O(ports) for each line.
 pub fn report<A: Allocator + Copy>(
@@ -117,7 +117,7 @@ pub fn report<A: Allocator + Copy>(
     Ok(text)
 }
 
-/// How full the buffers of a finished switch were: the lines of the ports of [`report`].
+/// Writes how full the buffers of a finished switch were: the lines of the ports of [`report`].
 ///
 /// An error says that memory ran out. O(ports) for each line.
 pub fn peak_lines<A: Allocator + Copy>(
@@ -142,7 +142,7 @@ fn put_policing<A: Allocator + Copy>(
     put_span_line(text, survey.policing.span())
 }
 
-/// When the links of a finished switch were policed, and when frames came: what comes last in [`survey`].
+/// Writes when the links of a finished switch were policed, and when frames came: what comes last in [`survey`].
 ///
 /// An error says that memory ran out. O(1) for each line.
 pub fn policing_lines<A: Allocator + Copy>(
@@ -156,8 +156,8 @@ pub fn policing_lines<A: Allocator + Copy>(
     Ok(text)
 }
 
-/// What a survey says of a finished switch beside its counts: what [`report`] says, then a line for each spell in which a link was policed,
-/// then when frames came.
+/// Writes what a survey says of a finished switch beside its counts: what [`report`] says, then a line for each spell in which a link was
+/// policed, then when frames came.
 ///
 /// An error says that memory ran out. O(ports) for each line.
 pub fn survey<A: Allocator + Copy>(

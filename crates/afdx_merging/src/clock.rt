@@ -17,7 +17,7 @@ pub struct Clock {
 }
 
 impl Clock {
-    /// A stamp by the clock; the first or the last one that there is, where it would lie outside of these.
+    /// Returns a stamp by the clock; the first or the last one that there is, if it would lie outside of these.
     pub fn moved(&self, stamp: Stamp) -> Stamp
         ensures { result ≡ moved self.now stamp }
     {
@@ -25,7 +25,7 @@ impl Clock {
         Stamp::from_ns_saturating(later.saturating_sub(u128::from(self.sooner)))
     }
 
-    /// The instant by which a record of this stamp by the clock is in order with those of other captures.
+    /// Returns the instant by which a record of this stamp by the clock is in order with those of other captures.
     pub(crate) fn due_at(&self, stamp: Stamp) -> u128
         ensures { result ≡ due_at self.now stamp }
     {

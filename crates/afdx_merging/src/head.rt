@@ -26,14 +26,14 @@ impl<A: Allocator> Model for Head<A> {
 }
 
 impl<A: Allocator + Copy> Head<A> {
-    /// Its instant. O(1).
+    /// Returns its instant. O(1).
     pub fn stamp(&self) -> Stamp
         ensures { result ≡ self.now.frame.stamp }
     {
         self.stamp
     }
 
-    /// Its number and its instant. O(1).
+    /// Returns its number and its instant. O(1).
     pub fn mark(&self) -> Mark
         ensures { result ≡ mark_of self.now }
     {
@@ -43,14 +43,14 @@ impl<A: Allocator + Copy> Head<A> {
         }
     }
 
-    /// The record as its capture has it. O(1).
+    /// Returns the record as its capture has it. O(1).
     pub fn frame(&self) -> &Record<'static, A>
         ensures { record result.now { stamp = self.now.frame.stamp } ≡ self.now.frame }
     {
         &self.frame
     }
 
-    /// The record, at its instant. Its bytes are copied where its capture has another stamp. An error is out of memory.
+    /// Returns the record, at its instant. Its bytes are copied if its capture has another stamp. An error is out of memory.
     pub fn into_frame(self, alloc: A) -> Result<Record<'static, A>, AllocError>
         ensures { IfOk result (λ frame. frame ≡ self.frame) }
     {
@@ -65,7 +65,7 @@ impl<A: Allocator + Copy> Head<A> {
         }
     }
 
-    /// The same record, that several may share. An error is out of memory. O(1).
+    /// Returns the same record, which several may share. An error is out of memory. O(1).
     pub fn shared(self, alloc: A) -> Result<Numbered<'static, A>, AllocError>
         ensures { IfOk result (λ n. n ≡ self) }
     {

@@ -34,7 +34,7 @@ pub(crate) struct Lane<A: Allocator> {
 }
 
 impl<A: Allocator + Copy> Lane<A> {
-    /// A capture of which nothing was read. It takes no memory.
+    /// Makes a capture of which nothing was read. It takes no memory.
     pub(crate) fn new(alloc: A, clock: Clock) -> Lane<A>
         ensures { result ≡ fresh_lane clock }
     {
@@ -46,7 +46,7 @@ impl<A: Allocator + Copy> Lane<A> {
         }
     }
 
-    /// The instant of the next record; none at the end. O(1).
+    /// Returns the instant of the next record; none at the end. O(1).
     pub(crate) fn stamp(&self) -> Option<Stamp>
         ensures { result ≡ option_map (λ n. n.frame.stamp) self.now.head }
     {
@@ -56,7 +56,7 @@ impl<A: Allocator + Copy> Lane<A> {
         }
     }
 
-    /// The instant by which the next record is in order with those of other captures; none at the end. O(1).
+    /// Returns the instant by which the next record is in order with those of other captures; none at the end. O(1).
     pub(crate) fn due(&self) -> Option<u128>
         ensures { result ≡ option_map (λ n. due_at self.now.clock n.frame.stamp) self.now.head }
     {
@@ -66,7 +66,7 @@ impl<A: Allocator + Copy> Lane<A> {
         }
     }
 
-    /// Takes the next whole record of what was read; whether there is one, or none to come.
+    /// Takes the next whole record of what was read. Returns whether there is one, or none to come.
     pub(crate) fn draw(&mut self) -> Result<bool, LaneFault>
         requires no_fault { self.old.reader.fault ≡ None }
         requires none { self.old.head ≡ None }
@@ -95,7 +95,7 @@ impl<A: Allocator + Copy> Lane<A> {
         }
     }
 
-    /// One more read.
+    /// Reads once more.
     fn read<R: Read>(&mut self, reader: &mut R, piece: &mut [u8]) -> Result<(), LaneFault>
         requires room { 0 < length piece.old }
         requires no_fault { self.old.reader.fault ≡ None }

@@ -46,7 +46,7 @@ pub struct Merging<A: Allocator> {
     pub(crate) piece: Vec<u8, A>,
 }
 
-/// A lane for each clock.
+/// Makes a lane for each clock.
 fn lanes_of<A: Allocator + Copy>(alloc: A, clocks: &[Clock]) -> Result<Vec<Lane<A>, A>, AllocError>
     ensures { IfOk result (λ lanes. lanes.items ≡ map fresh_lane clocks.now) }
 {
@@ -57,7 +57,7 @@ fn lanes_of<A: Allocator + Copy>(alloc: A, clocks: &[Clock]) -> Result<Vec<Lane<
     Ok(lanes)
 }
 
-/// Of two places with their instants the sooner, and of equal ones the former; this one may have none.
+/// Returns the sooner of a place that was found, if any, and this one, if it has an instant; of equal ones the former.
 fn sooner(found: Option<(usize, u128)>, place: usize, due: Option<u128>) -> Option<(usize, u128)>
     ensures { result ≡ sooner found place due }
 {
@@ -74,7 +74,7 @@ fn sooner(found: Option<(usize, u128)>, place: usize, due: Option<u128>) -> Opti
     }
 }
 
-/// The place of the lane whose next record is the first of all by its instant, and of equal ones the first by place, with that instant.
+/// Returns the place of the lane whose next record is the first of all by its instant, and of equal ones the first by place, with that instant.
 fn first_of<A: Allocator + Copy>(lanes: &[Lane<A>]) -> Option<(usize, u128)>
     ensures { IsFirstIn (dues_of lanes.now) (length lanes.now) result }
 {
@@ -85,7 +85,7 @@ fn first_of<A: Allocator + Copy>(lanes: &[Lane<A>]) -> Option<(usize, u128)>
     first
 }
 
-/// Takes the first record of all that are at hand; none at the end of all. O(captures).
+/// Takes the first record of all that are at hand, with its place and the instant by which it is in order; none at the end of all. O(captures).
 fn take_first<A: Allocator + Copy>(lanes: &mut [Lane<A>]) -> Option<(usize, u128, Head<A>)>
     ensures some { IfSome result (λ a. Takes lanes.old lanes.new (record { place = a.0; due = a.1; head = a.2 })) }
     ensures none { IfNone result (IsFirstIn (dues_of lanes.old) (length lanes.old) None) }
@@ -141,7 +141,7 @@ fn read_first<A: Allocator + Copy, R: Read>(
     Ok(())
 }
 
-/// The lesser of two instants, if there are any.
+/// Returns the lesser of two instants, if there are any.
 fn lesser(one: Option<Stamp>, other: Option<Stamp>) -> Option<Stamp>
     ensures { result ≡ lesser one other }
 {
@@ -152,7 +152,7 @@ fn lesser(one: Option<Stamp>, other: Option<Stamp>) -> Option<Stamp>
     }
 }
 
-/// The least instant of the records that are at hand, if there are any.
+/// Returns the least instant of the records that are at hand, if there are any.
 fn least_of<A: Allocator + Copy>(lanes: &[Lane<A>]) -> Option<Stamp>
     ensures { result ≡ least_of lanes.now }
 {
@@ -164,7 +164,7 @@ fn least_of<A: Allocator + Copy>(lanes: &[Lane<A>]) -> Option<Stamp>
 }
 
 impl<A: Allocator + Copy> Merging<A> {
-    /// The captures that these readers give, by these clocks, of which the first records are read.
+    /// Opens the captures that these readers give, by these clocks, and reads their first records.
     ///
     /// # Errors
     ///
@@ -185,18 +185,18 @@ impl<A: Allocator + Copy> Merging<A> {
         Ok(Merging { lanes, piece })
     }
 
-    /// The least instant of the records that are at hand, if there are any. O(captures).
+    /// Returns the least instant of the records that are at hand, if there are any. O(captures).
     pub fn least(&self) -> Option<Stamp>
         ensures { result ≡ least_of self.now.lanes.items }
     {
         least_of(&self.lanes)
     }
 
-    /// The next record of all captures; none at the end of all. O(captures), beside what is read.
+    /// Returns the next record of all captures; none at the end of all. O(captures), beside what is read.
     ///
     /// # Errors
     ///
-    /// `Memory` where memory ran out. Else all readers are read to their ends, and it is `Read` with the place of the first one that fails; else
+    /// `Memory` if memory ran out. Else all readers are read to their ends, and it is `Read` with the place of the first one that fails; else
     /// `Capture` with the first one that gives no capture, and its first fault.
     pub fn next<R: Read>(&mut self, readers: &mut [R]) -> Result<Option<Arrival<A>>, MergeFault>
         requires { (clocks : List By) × (first : List R) × (came : List Came) × HasMerged R.remaining clocks first readers.old self.old came }

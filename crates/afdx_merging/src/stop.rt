@@ -1,4 +1,4 @@
-//! Which failure is answered where captures are not read on.
+//! Which failure is answered if captures are not read on.
 
 ghost use Rattle.std.specs.Prelude.{◌≡◌, ◌<◌, ◌≤◌, ◌+◌, ℕ, None, List, length, slice_get, IfOk, IfErr, OnOk};
 ghost use Rattle.std.specs.Io.KnownBytes.{IsAtEnd};
@@ -56,7 +56,7 @@ fn read_all_out<R: Read>(
     Ok(())
 }
 
-/// Reads a capture on to its end: its first fault, if it has one. O(what is left of it).
+/// Reads a capture on to its end. Returns its first fault, if it has one. O(what is left of it).
 fn read_through<A: Allocator + Copy, R: Read>(
     place: usize,
     lane: &mut Lane<A>,
@@ -91,7 +91,7 @@ fn read_through<A: Allocator + Copy, R: Read>(
     Err(MergeFault::Read(place))
 }
 
-/// The first of two faults, the second of which may be this one at a place.
+/// Returns the fault that was found before, if any; else this one at a place, if any.
 fn first_found(
     found: Option<(usize, PcapFault)>,
     place: usize,
@@ -105,7 +105,7 @@ fn first_found(
     }
 }
 
-/// The place and the fault of the first capture before a place that has one: each is read on to its end.
+/// Reads each capture before a place on to its end. Returns the place and the fault of the first one that has a fault.
 fn fault_before<A: Allocator + Copy, R: Read>(
     lanes: &mut [Lane<A>],
     readers: &mut [R],
@@ -130,7 +130,7 @@ fn fault_before<A: Allocator + Copy, R: Read>(
     Ok(found)
 }
 
-/// The first fault of all captures, where that at a place has this one: those before it are read on to their ends, and of those
+/// Returns the first fault of all captures, given that the one at a place has this fault. Those before it are read on to their ends, and of those
 /// after it the rest is read.
 fn fault_of_all<A: Allocator + Copy, R: Read>(
     lanes: &mut [Lane<A>],
@@ -153,7 +153,7 @@ fn fault_of_all<A: Allocator + Copy, R: Read>(
     Ok(found.unwrap_or((place, why)))
 }
 
-/// Which failure is answered where the capture at a place was not read on: the first one that cannot be read; else the first that has a
+/// Returns the failure that is answered if the capture at a place was not read on: the first one that cannot be read; else the first that has a
 /// fault, and its first one.
 ///
 /// So each capture is read on to its end, by rising place, and none is read again. O(what is left of them).

@@ -6,7 +6,7 @@ ghost use Rattle.afdx_messages.specs.Lines.{fault_text, part, text_of, capture_t
 use afdx_pcap::PcapFault;
 use std::alloc::{AllocError, Global};
 
-/// What a fault is called, with the link type that it names.
+/// Returns what a fault is called, with the link type if it names one.
 fn fault_text(alloc: Global, fault: PcapFault) -> Result<String, AllocError>
     ensures { IfOk result (λ text. string_bytes text ≡ fault_text fault) }
 {
@@ -26,7 +26,7 @@ fn fault_text(alloc: Global, fault: PcapFault) -> Result<String, AllocError>
     String::from_str(alloc, name)
 }
 
-/// The record that a fault lies in, counted from 1.
+/// Returns the record that a fault lies in, counted from 1, if it lies in one.
 fn record_of(fault: PcapFault) -> Option<usize>
     ensures { result ≡ record_of fault }
 {
@@ -41,7 +41,7 @@ fn record_of(fault: PcapFault) -> Option<usize>
     }
 }
 
-/// Appends a further part, where there is one.
+/// Appends a further part, if there is one.
 fn push_part(line: &mut String, name: &str, number: Option<usize>) -> Result<(), AllocError>
     ensures { OnOk result (string_bytes line.new ≡ string_bytes line.old ++ part name.now number) }
 {
@@ -52,7 +52,7 @@ fn push_part(line: &mut String, name: &str, number: Option<usize>) -> Result<(),
     Ok(())
 }
 
-/// What is reported of a fault of a capture, without its line feed; this names the port, if it is one's.
+/// Returns what is reported of a fault of a capture, without its line feed. `name` stands before the number of the port, if it is one's.
 fn text_of(
     alloc: Global,
     name: &str,
@@ -69,7 +69,7 @@ fn text_of(
     Ok(text)
 }
 
-/// What is reported of a fault of a capture, which is a port's or not, without its line feed.
+/// Returns what is reported of a fault of a capture, which is a port's or not, without its line feed.
 pub(crate) fn capture_text(
     alloc: Global,
     port: Option<u8>,
@@ -80,7 +80,7 @@ pub(crate) fn capture_text(
     text_of(alloc, ", port ", port, fault)
 }
 
-/// The line of a fault of a capture, which is a port's or not.
+/// Returns the line of a fault of a capture, which is a port's or not.
 ///
 /// An error says that memory ran out. O(line).
 pub fn capture_line(alloc: Global, port: Option<u8>, fault: PcapFault) -> Result<String, AllocError>
@@ -91,7 +91,7 @@ pub fn capture_line(alloc: Global, port: Option<u8>, fault: PcapFault) -> Result
     Ok(line)
 }
 
-/// The line of a fault of the capture of what left at a port.
+/// Returns the line of a fault of the capture of what left at a port.
 ///
 /// An error says that memory ran out. O(line).
 pub fn output_line(alloc: Global, port: u8, fault: PcapFault) -> Result<String, AllocError>

@@ -11,7 +11,7 @@ use afdx_remedies::entry_of;
 use afdx_table::TableFault;
 use afdx_wiring::NetworkFault;
 
-/// The code of a table's refusal.
+/// Returns the code of a table's refusal.
 fn table_code(refusal: TableFault) -> &'static str
     ensures { result.now ≡ table_code refusal }
 {
@@ -33,7 +33,7 @@ fn table_code(refusal: TableFault) -> &'static str
     }
 }
 
-/// The code of a capture's fault.
+/// Returns the code of a capture's fault.
 fn capture_code(fault: PcapFault) -> &'static str
     ensures { result.now ≡ capture_code fault }
 {
@@ -52,7 +52,7 @@ fn capture_code(fault: PcapFault) -> &'static str
     }
 }
 
-/// The code of a load's rule.
+/// Returns the code of a load's rule.
 fn rule_code(rule: Rule) -> &'static str
     ensures { result.now ≡ rule_code rule }
 {
@@ -64,7 +64,7 @@ fn rule_code(rule: Rule) -> &'static str
     }
 }
 
-/// The code of a network's refusal.
+/// Returns the code of a network's refusal.
 fn fault_code(fault: NetworkFault) -> &'static str
     ensures { result.now ≡ fault_code fault }
 {
@@ -94,7 +94,7 @@ fn fault_code(fault: NetworkFault) -> &'static str
     }
 }
 
-/// The code of what only commands of networks refuse.
+/// Returns the code of what only commands of networks refuse.
 fn network_code(failure: &NetworkFailure) -> &'static str
     ensures { result.now ≡ network_code failure.now }
 {
@@ -108,7 +108,7 @@ fn network_code(failure: &NetworkFailure) -> &'static str
     }
 }
 
-/// The code of any failure that has a line.
+/// Returns the code of a failure, if it has a line.
 fn code_of(failure: &Failure) -> Option<&'static str>
     ensures { option_map (λ code. code.now) result ≡ code_of failure.now }
 {
@@ -130,7 +130,7 @@ fn code_of(failure: &Failure) -> Option<&'static str>
     Some(code)
 }
 
-/// What follows the line of a failure: where failures are explained, the entry of its code.
+/// Returns what follows the line of a failure: the entry of its code, if failures are explained.
 pub(crate) fn more_of(failure: &Failure, is_explained: bool) -> &'static str
     ensures { result.now ≡ more_of failure.now is_explained }
 {

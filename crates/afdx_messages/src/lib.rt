@@ -1,7 +1,7 @@
 //! Why a command ends with another status than 0, and the line that is written then.
 //!
-//! The lines are those of `specs/Lines.antt`; each ends with a line feed. [`report`] writes that of a [`Failure`] and gives its status,
-//! and whether the line went out whole; where failures are explained, what MESSAGES says of the line's code follows it.
+//! The lines are those of `specs/Lines.antt`; each ends with a line feed. [`report`] writes that of a [`Failure`] and returns its status,
+//! and whether the line went out whole; if failures are explained, what MESSAGES says of the line's code follows it.
 //!
 //! # Example
 //!

@@ -6,7 +6,7 @@ ghost use Rattle.afdx_messages.specs.Lines.{rule_text, load_fault_text, load_lin
 use afdx_load::{LoadFault, Rule};
 use std::alloc::{AllocError, Global};
 
-/// What a rule is called.
+/// Returns what a rule is called.
 fn rule_text(rule: Rule) -> &'static str
     ensures { result.now ≡ rule_text rule }
 {
@@ -18,7 +18,7 @@ fn rule_text(rule: Rule) -> &'static str
     }
 }
 
-/// What is reported of a rule that is broken, without its line feed.
+/// Returns what is reported of a rule that is broken, without its line feed.
 pub(crate) fn load_fault_text(alloc: Global, fault: LoadFault) -> Result<String, AllocError>
     ensures { IfOk result (λ text. string_bytes text ≡ load_fault_text fault) }
 {
@@ -30,7 +30,7 @@ pub(crate) fn load_fault_text(alloc: Global, fault: LoadFault) -> Result<String,
     Ok(text)
 }
 
-/// The line of a rule that is broken.
+/// Returns the line of a rule that is broken.
 ///
 /// An error says that memory ran out. O(line).
 pub fn load_line(alloc: Global, fault: LoadFault) -> Result<String, AllocError>

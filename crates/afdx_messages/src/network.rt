@@ -18,7 +18,7 @@ use std::alloc::{AllocError, Global};
 /// The most rows that have a line each.
 const MOST_ROWS: usize = 100;
 
-/// Appends the switch of this name, where there is one.
+/// Appends the switch of this name, if there is one.
 fn put_switch(text: &mut String, name: Option<&str>) -> Result<(), AllocError>
     ensures { OnOk result (string_bytes text.new ≡ string_bytes text.old ++ switch_part (option_map (λ n. n.now) name.entry)) }
 {
@@ -29,7 +29,7 @@ fn put_switch(text: &mut String, name: Option<&str>) -> Result<(), AllocError>
     Ok(())
 }
 
-/// What a rule is called.
+/// Returns what a rule is called, as the beginning of its line.
 fn rule_text(alloc: Global, rule: &str) -> Result<String, AllocError>
     ensures { IfOk result (λ text. string_bytes text ≡ network_rule rule.now) }
 {
@@ -38,7 +38,7 @@ fn rule_text(alloc: Global, rule: &str) -> Result<String, AllocError>
     Ok(text)
 }
 
-/// A refusal at a place of the file.
+/// Returns the text of a refusal at a place of the file.
 fn at_place(alloc: Global, rule: &str, at: At) -> Result<String, AllocError>
     ensures { IfOk result (λ text. string_bytes text ≡ network_rule rule.now ++ codes ", " ++ place_text at) }
 {
@@ -47,7 +47,7 @@ fn at_place(alloc: Global, rule: &str, at: At) -> Result<String, AllocError>
     Ok(text)
 }
 
-/// A refusal of the value of a key.
+/// Returns the text of a refusal of the value of a key.
 fn at_key(alloc: Global, rule: &str, at: At, key: Key) -> Result<String, AllocError>
     ensures { IfOk result (λ text. string_bytes text ≡ network_rule rule.now ++ codes ", " ++ place_text at ++ codes ", " ++ key_text key) }
 {
@@ -57,7 +57,7 @@ fn at_key(alloc: Global, rule: &str, at: At, key: Key) -> Result<String, AllocEr
     Ok(text)
 }
 
-/// A refusal of a link at a wire.
+/// Returns the text of a refusal of a link at a wire.
 fn at_link(alloc: Global, rule: &str, at: At, link: u16) -> Result<String, AllocError>
     ensures { IfOk result (λ text. string_bytes text ≡ network_rule rule.now ++ codes ", " ++ place_text at ++ link_part link) }
 {
@@ -67,7 +67,7 @@ fn at_link(alloc: Global, rule: &str, at: At, link: u16) -> Result<String, Alloc
     Ok(text)
 }
 
-/// A refusal of a switch.
+/// Returns the text of a refusal of a switch.
 fn at_switch(alloc: Global, rule: &str, name: Option<&str>) -> Result<String, AllocError>
     ensures { IfOk result (λ text. string_bytes text ≡ network_rule rule.now ++ switch_part (option_map (λ n. n.now) name.entry)) }
 {
@@ -76,7 +76,7 @@ fn at_switch(alloc: Global, rule: &str, name: Option<&str>) -> Result<String, Al
     Ok(text)
 }
 
-/// A refusal of a link's row in the table of a switch.
+/// Returns the text of a refusal of a link's row in the table of a switch.
 fn at_row(alloc: Global, rule: &str, name: Option<&str>, link: u16) -> Result<String, AllocError>
     ensures { IfOk result (λ text. string_bytes text ≡ network_rule rule.now ++ switch_part (option_map (λ n. n.now) name.entry) ++ link_part link) }
 {
@@ -85,7 +85,7 @@ fn at_row(alloc: Global, rule: &str, name: Option<&str>, link: u16) -> Result<St
     Ok(text)
 }
 
-/// A refusal of a row's jitter, with what it needs.
+/// Returns the text of a refusal of a row's jitter, with what it needs.
 fn short_text(
     alloc: Global,
     rule: &str,
@@ -99,7 +99,7 @@ fn short_text(
     Ok(text)
 }
 
-/// A refusal of the load of a switch.
+/// Returns the text of a refusal of the load of a switch.
 fn load_text(alloc: Global, fault: LoadFault, name: Option<&str>) -> Result<String, AllocError>
     ensures { IfOk result (λ text. string_bytes text ≡ load_fault_text fault ++ switch_part (option_map (λ n. n.now) name.entry)) }
 {
@@ -108,7 +108,7 @@ fn load_text(alloc: Global, fault: LoadFault, name: Option<&str>) -> Result<Stri
     Ok(text)
 }
 
-/// A refusal of a network, of the switch of this name where it is of one.
+/// Returns the text of a refusal of a network, of the switch of this name if it is of one.
 fn network_text(
     alloc: Global,
     fault: NetworkFault,
@@ -149,7 +149,7 @@ fn network_text(
     }
 }
 
-/// The refusal of a row.
+/// Returns the refusal of a row by a rule of jitters.
 fn row_fault(rule: JitterRule, short: Short) -> NetworkFault
     ensures { result ≡ row_fault rule short }
 {
@@ -159,7 +159,7 @@ fn row_fault(rule: JitterRule, short: Short) -> NetworkFault
     }
 }
 
-/// What a rule of jitters is called, as the beginning of its line.
+/// Returns what a rule of jitters is called, as the beginning of its line.
 fn jitter_text(rule: JitterRule) -> &'static str
     ensures { result.now ≡ network_rule (jitter_rule rule) }
 {
@@ -169,7 +169,7 @@ fn jitter_text(rule: JitterRule) -> &'static str
     }
 }
 
-/// Ends a line.
+/// Makes a line of a text: appends its line feed.
 fn lined(text: String) -> Result<String, AllocError>
     ensures { IfOk result (λ line. string_bytes line ≡ as_line (string_bytes text)) }
 {
@@ -178,14 +178,14 @@ fn lined(text: String) -> Result<String, AllocError>
     Ok(line)
 }
 
-/// The name of a switch.
+/// Returns the name of a switch, if there is one at this place.
 fn name_at(names: &[String], switch: usize) -> Option<&String>
     ensures { option_copied result ≡ slice_get names.now switch }
 {
     names.get(switch)
 }
 
-/// The line of a row, where the switches have these names.
+/// Returns the line of a row that a rule refuses, in a network whose switches have these names.
 fn row_line(
     alloc: Global,
     rule: JitterRule,
@@ -238,7 +238,7 @@ fn push_rest(lines: &mut String, rule: JitterRule, rest: usize) -> Result<(), Al
     Ok(())
 }
 
-/// The lines of the rows that a rule refuses.
+/// Returns the lines of the rows that a rule refuses.
 fn rows_lines(
     alloc: Global,
     rule: JitterRule,
@@ -254,7 +254,7 @@ fn rows_lines(
     Ok(lines)
 }
 
-/// The message of a record that came too soon for the line of its port.
+/// Returns the message of a record that came too soon for the line of its port.
 fn line_line(alloc: Global, port: u8, number: u64, name: &str) -> Result<String, AllocError>
     ensures { IfOk result (λ line. string_bytes line ≡ line_line port number name.now) }
 {
@@ -264,8 +264,8 @@ fn line_line(alloc: Global, port: u8, number: u64, name: &str) -> Result<String,
     lined(text)
 }
 
-/// The line of a failure, with the name of its switch where it is of one; of rows one line each, for at most 100, and then how many
-/// more there are.
+/// Returns the line of a failure, with the name of its switch if it is of one. If it is of rows, each of the first 100 has a line, and
+/// another line says how many more there are, if there are more.
 ///
 /// An error says that memory ran out. O(line).
 pub fn network_failure_line(alloc: Global, failure: &NetworkFailure) -> Result<String, AllocError>
@@ -291,8 +291,8 @@ pub fn network_failure_line(alloc: Global, failure: &NetworkFailure) -> Result<S
     }
 }
 
-/// The status of a failure: 4 where what the network asks for cannot be given, 5 for memory, and 3 for texts that are refused.
-/// O(1).
+/// Returns the status of a failure: 4 if what the network asks for cannot be given or a record came too soon for a line, 5 for memory,
+/// and 3 for texts that are refused. O(1).
 pub fn network_status(failure: &NetworkFailure) -> u8
     ensures { result ≡ network_status failure.now }
 {

@@ -16,7 +16,7 @@ pub enum JitterRule {
 /// Why a command of networks was not served, beside what can befall any command. A switch is named by its name.
 #[derive(Debug, Drop)]
 pub enum NetworkFailure {
-    /// The network is refused, and this is the first refusal, with the name of the switch that it is of, where it is of one.
+    /// The network is refused, and this is the first refusal, with the name of the switch that it is of, if it is of one.
     Refused(NetworkFault, Option<String>),
     /// The file of the table of this switch holds none, and this is its first refusal.
     Table(TableFault, String),

@@ -18,14 +18,14 @@ use afdx_folder::{WriteFault, write_bytes};
 use std::alloc::{AllocError, Global};
 use std::io::Write;
 
-/// How the program ends: its status, and whether the line of its failure went out whole, if it has one, and what follows it.
+/// How the program ends: its status, and whether the line of its failure, if it has one, and what follows it went out whole.
 #[derive(Clone, Copy, Debug, PartialEq, Eq)]
 pub struct Ending {
     pub status: u8,
     pub is_told: bool,
 }
 
-/// Writes a line and what follows it; where it fails, a prefix of them was written.
+/// Writes a line and what follows it. If that fails, a prefix of them was written.
 fn write_both<E: Write>(err: &mut E, line: &str, more: &str) -> Result<(), WriteFault>
     ensures all { OnOk result (Appends (E.contents err.old) (E.contents err.new) (line.now ++ more.now)) }
     ensures prefix { AppendsPrefix (E.contents err.old) (E.contents err.new) (line.now ++ more.now) }
@@ -35,7 +35,7 @@ fn write_both<E: Write>(err: &mut E, line: &str, more: &str) -> Result<(), Write
     Ok(())
 }
 
-/// Writes a line and what follows it, as far as the writer takes them, and gives the status.
+/// Writes a line and what follows it, as far as the writer takes them, and returns the ending with this status.
 fn write_line<E: Write>(err: &mut E, line: &str, more: &str, status: u8) -> Ending
     ensures status { result.status ≡ status }
     ensures line { IsTold result.is_told (E.contents err.old) (E.contents err.new) (line.now ++ more.now) }
@@ -44,7 +44,7 @@ fn write_line<E: Write>(err: &mut E, line: &str, more: &str, status: u8) -> Endi
     Ending { status, is_told }
 }
 
-/// Writes a line that was made and what follows it, and gives the status; where memory ran out for it, those of memory.
+/// Writes a line that was made and what follows it, and returns the ending with this status; if memory ran out for it, those of memory.
 fn write_made<E: Write>(
     err: &mut E,
     line: Result<String, AllocError>,
@@ -62,7 +62,7 @@ fn write_made<E: Write>(
     }
 }
 
-/// The line that a folder's failure has.
+/// Returns the line of a folder's failure.
 fn device_line(alloc: Global, call: &str, name: &str) -> Result<String, AllocError>
     ensures { IfOk result (λ line. string_bytes line ≡ as_line (codes "afdx: device " ++ call.now ++ codes " " ++ name.now)) }
 {
@@ -74,12 +74,12 @@ fn device_line(alloc: Global, call: &str, name: &str) -> Result<String, AllocErr
     Ok(line)
 }
 
-/// Writes the line of a failure, or its lines, and where failures are explained what MESSAGES says of their code, as far as the writer
-/// takes them, and gives the failure's status: 1, without a line, where there was one of what a run is to fail on, or something speaks
-/// against a switch that was recorded, 2 for refused arguments, 3 for a refused table, network or capture, 4 for a refused load or
-/// refused jitters, 5 for a device or memory. It also says whether the writer took all of it.
+/// Writes the line of a failure, or its lines, and if failures are explained what MESSAGES says of their code, as far as the writer
+/// takes them, and returns the failure's status: 1, without a line, if there was one of what a run is to fail on, or something speaks
+/// against a switch that was recorded, 2 for refused arguments, 3 for a refused table, network or capture, 4 for a refused load,
+/// refused jitters or a record that came too soon for a line, 5 for a device or memory. It also returns whether the writer took all of it.
 ///
-/// Only a line with a number or a name takes memory. Where that is refused, memory is the failure. O(line).
+/// Only a line with a number or a name takes memory. If that is refused, memory is the failure. O(line).
 pub fn report<E: Write>(alloc: Global, failure: &Failure, is_explained: bool, err: &mut E) -> Ending
     ensures reported { (reported : Failing) × ReportsAs failure.now reported × (result.status ≡ status_of reported)
         × IsTold result.is_told (E.contents err.old) (E.contents err.new) (line_of reported ++ more_of reported is_explained) }

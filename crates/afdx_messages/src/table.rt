@@ -7,7 +7,7 @@ ghost use Rattle.afdx_messages.specs.Lines.{table_text, table_line};
 use afdx_table::{At, Key, TableFault};
 use std::alloc::{AllocError, Global};
 
-/// A refusal that lies at a place.
+/// Returns the text of a refusal that lies at a place.
 fn at_place(alloc: Global, refusal: &str, at: At) -> Result<String, AllocError>
     ensures { IfOk result (λ text. string_bytes text ≡ codes "afdx: table " ++ refusal.now ++ codes ", " ++ place_text at) }
 {
@@ -17,7 +17,7 @@ fn at_place(alloc: Global, refusal: &str, at: At) -> Result<String, AllocError>
     Ok(text)
 }
 
-/// A refusal that lies in the value of a key.
+/// Returns the text of a refusal that lies in the value of a key.
 fn at_key(alloc: Global, refusal: &str, at: At, key: Key) -> Result<String, AllocError>
     ensures { IfOk result (λ text. string_bytes text
         ≡ codes "afdx: table " ++ refusal.now ++ codes ", " ++ place_text at ++ codes ", " ++ key_text key) }
@@ -29,7 +29,7 @@ fn at_key(alloc: Global, refusal: &str, at: At, key: Key) -> Result<String, Allo
     Ok(text)
 }
 
-/// What is reported of a refusal, without its line feed.
+/// Returns what is reported of a refusal, without its line feed.
 pub(crate) fn table_text(alloc: Global, refusal: TableFault) -> Result<String, AllocError>
     ensures { IfOk result (λ text. string_bytes text ≡ table_text refusal) }
 {
@@ -51,7 +51,7 @@ pub(crate) fn table_text(alloc: Global, refusal: TableFault) -> Result<String, A
     }
 }
 
-/// The line of a table's refusal.
+/// Returns the line of a table's refusal.
 ///
 /// An error says that memory ran out. O(line).
 pub fn table_line(alloc: Global, refusal: TableFault) -> Result<String, AllocError>

@@ -12,7 +12,7 @@ use afdx_table::Table;
 use afdx_wiring::{End, Wire};
 use std::alloc::{AllocError, Global};
 
-/// Tells whether no wire goes to this port of the switch at this place, so that its capture is one of those that are given. O(wires).
+/// Returns whether no wire goes to this port of the switch at this place, so that its capture is one of those that are given. O(wires).
 pub(crate) fn is_open(network: &Network, switch: usize, port: u8) -> bool
     ensures { result ≡ is_open network.now switch port }
 {
@@ -74,7 +74,7 @@ pub fn all_ends(alloc: Global, network: &Network) -> Result<Vec<End>, AllocError
     Ok(ends)
 }
 
-/// Tells whether this is the first wire that goes to its port. O(wires).
+/// Returns whether this is the first wire that goes to its port. O(wires).
 fn is_first(network: &Network, wire: &Wire) -> bool
     ensures { IsTrue result ↔ (wire_to network.now wire.now.to ≡ Some wire.now) }
 {
@@ -84,7 +84,7 @@ fn is_first(network: &Network, wire: &Wire) -> bool
     }
 }
 
-/// `WrongWires` where a wire goes to a port to which another one goes that is before it. O(wires^2).
+/// Fails with `WrongWires` if a wire goes to a port to which another one goes that is before it. O(wires^2).
 pub(crate) fn check_wires(network: &Network) -> Result<(), NetworkRunFault>
     ensures ok { OnOk result (All (λ w. wire_to network.now w.to ≡ Some w) network.now.layout.wires) }
     ensures err { IfErr result (λ fault. (fault ≡ WrongWires) × (NoneShareAPort network.now → ⊥)) }

@@ -18,8 +18,8 @@ use afdx_wiring::End;
 use std::alloc::{AllocError, Global};
 use std::io::Read;
 
-/// The captures that are given, of each of which the next record is at hand; the port of each, and its line where the network file says
-/// that end systems have one.
+/// The captures that are given, of each of which the next record is at hand; the port of each, and its line if the network file says that end
+/// systems have one.
 #[derive(Drop)]
 pub(crate) struct Intake {
     pub(crate) ends: Vec<End>,
@@ -93,12 +93,12 @@ impl Intake {
         self.merging.least()
     }
 
-    /// Reads the next record of all captures, by stamp, and says at which port it comes in. O(captures), beside what is read.
+    /// Reads the next record of all captures, by stamp, and returns it with the port at which it comes in. O(captures), beside what is read.
     ///
     /// # Errors
     ///
-    /// `Memory` where memory ran out. Else all readers are read to their ends, and it is `Read` with the place of the first one that
-    /// fails; else `Capture` with the port of the first one that gives no capture, and its first fault.
+    /// `Memory` if memory ran out. Else all readers are read to their ends, and it is `Read` with the place of the first one that fails; else
+    /// `Capture` with the port of the first one that gives no capture, and its first fault.
     pub(crate) fn next<R: Read>(
         &mut self,
         alloc: Global,
@@ -124,7 +124,8 @@ impl Intake {
         }
     }
 
-    /// `Line` with the first port to which records came too soon for its line, and the first one that did. O(captures).
+    /// Fails with `Line` if records came too soon for their line: with the first port of such records, and the first one there that did.
+    /// O(captures).
     fn check_lines(&self) -> Result<(), NetworkRunFault>
         requires { (net : Net) × (came : List Came) × (self.now.ends.items ≡ open_ends net) × AreMet net self.now.lines.items came }
         ensures ok { OnOk result ((net : Net) (came : List Came) → AreMet net self.now.lines.items came → AreOverLines net came) }
@@ -143,8 +144,8 @@ impl Intake {
     ///
     /// # Errors
     ///
-    /// Those of [`Intake::next`]; where all are captures, `Line` where the network file says that end systems have one line each, with the
-    /// first port whose records did not come over one, and the first record there that came too soon.
+    /// Those of [`Intake::next`]. If all are captures, it is `Line` if the network file says that end systems have one line each and the
+    /// records of a port did not come over one: with the first such port, and the first record there that came too soon.
     ///
     /// O(what is left of them), and O(captures) for each record.
     pub(crate) fn end<R: Read>(mut self, readers: &mut [R]) -> Result<(), NetworkRunFault>

@@ -34,7 +34,7 @@ fn push_lines(
     Ok(())
 }
 
-/// Lists the lines of the ports to which no wire goes, in the order of `open_ends`, where the network file says that end systems have one
+/// Lists the lines of the ports to which no wire goes, in the order of `open_ends`, if the network file says that end systems have one
 /// each; else none. O(ports * wires).
 pub(crate) fn given_lines(alloc: Global, network: &Network) -> Result<Vec<Line>, AllocError>
     ensures { IfOk result (λ lines. AreMet network.now lines.items []) }

@@ -17,7 +17,7 @@ struct Silence {
     read: usize,
 }
 
-/// What comes in at a port to which no wire goes: what its reader gives, or a capture of no frames where its switch is down.
+/// What comes in at a port to which no wire goes: what its reader gives, or a capture of no frames if its switch is down.
 #[derive(Drop)]
 pub struct Incoming<R: Drop> {
     reader: R,

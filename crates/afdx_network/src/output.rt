@@ -34,7 +34,7 @@ impl Model for Output {
 }
 
 impl Output {
-    /// That of a port that nothing left.
+    /// Makes the capture of a port that nothing left.
     pub(crate) fn new(alloc: Global, port: u8) -> Result<Output, AllocError>
         ensures { IfOk result (λ o. o ≡ record { port = port; gone = []; text = capture_text [] }) }
     {
@@ -55,12 +55,12 @@ impl Output {
         self.port
     }
 
-    /// Counts its records. O(1).
+    /// Returns how many records it has. O(1).
     pub(crate) fn count(&self) -> usize {
         self.count
     }
 
-    /// Tells whether there is a part that may go to the file. O(1).
+    /// Returns whether there is a part that may go to the file. O(1).
     pub(crate) fn is_full(&self) -> bool {
         self.text.len() >= PART
     }

@@ -28,7 +28,7 @@ use afdx_session::laws::outcomes_isolate;
 use std::alloc::Global;
 use std::io::Read;
 
-/// The switches of a network, over what is given, go on until nothing is left.
+/// Runs the switches of a network, over what is given, until nothing is left.
 fn go_on<R: Read, F: NewFile>(
     alloc: Global,
     network: &Network,
@@ -53,7 +53,7 @@ fn go_on<R: Read, F: NewFile>(
 }
 
 /// Runs all switches of a network, over all that these readers give, until nothing is left; what leaves goes to the files, in parts, of which the
-/// last stays at the switches. What is wanted of each is noted, and so is what its ports send, where anything is noted.
+/// last stays at the switches. What is wanted of each is noted, and so is what its ports send, if there are origins to note it.
 ///
 /// The errors are those of [`run_unchecked`], in its order; so is the cost.
 pub(crate) fn run_through<R: Read, F: NewFile>(
@@ -89,7 +89,7 @@ pub(crate) fn run_through<R: Read, F: NewFile>(
     }
 }
 
-/// Runs each switch of a network over captures that agree with the wires, whatever the loads, and answers what each counts, in file order.
+/// Runs each switch of a network over captures that agree with the wires, whatever the loads, and returns what each counts, in file order.
 ///
 /// The readers give the captures of the ports to which no wire goes, by switch and then by rising number. What leaves each port of each
 /// switch goes to its file, in parts, in the same order. All switches run together, by time: in windows that are no longer than the least
@@ -102,20 +102,20 @@ pub(crate) fn run_through<R: Read, F: NewFile>(
 ///
 /// - `Read` with the place of the first reader that fails.
 /// - `Capture` of the first text that is given and is no capture, by switch and then by port, with its first fault.
-/// - `Line` where the network file says that end systems have one line each: of the first port, by switch and then by port, whose records
-///   did not come one after the other, by stamps that may be rounded down, with the number of the first one that came too soon.
-/// - `Capture` of the first record, in the order in which they are carried, that comes over a wire in the last second that pcap can hold.
-///   That cannot be where the loads are accepted, the wires have an order, each takes at most a millisecond, and no given frame came in the
-///   last 64 seconds that a stamp can hold.
-/// - `WrongWires` where two wires go to one port; a file with such wires is not read.
+/// - `Line` if the network file says that end systems have one line each: of the first port, by switch and then by port, whose records did not
+///   come one after the other, by stamps that may be rounded down, with the number of the first one that came too soon.
+/// - `Capture` of the first record, in the order in which they are carried, that comes over a wire in the last second that pcap can hold. That
+///   cannot be if the loads are accepted, the wires have an order, each takes at most a millisecond, and no given frame came in the last 64
+///   seconds that a stamp can hold.
+/// - `WrongWires` if two wires go to one port; a file with such wires is not read.
 ///
-/// So that this is the first, all captures are read on to their ends then; none is read twice. `Memory` where memory ran out, at any time.
-/// Nothing is said then of what the files have, of which some may have parts of an output. A file that fails is no error here: it answers
-/// when it is settled.
+/// So that this is the first, all captures are read on to their ends then; none is read twice. `Memory` if memory ran out, at any time. Nothing
+/// is said then of what the files have, of which some may have parts of an output. A file that fails is no error here: it answers when it is
+/// settled.
 ///
 /// O(records + starts) visits of switches at most, O(switches + captures) for each window, O(captures) for each record that is given, and
-/// O(bytes) of what the wires bring and of what leaves, beside the switches' own work. Of each capture no more is kept than a piece and
-/// those that records which wait came in, and of what leaves a port no more than a part and a window's.
+/// O(bytes) of what the wires bring and of what leaves, beside the switches' own work. Of each capture no more is kept than a piece and the
+/// pieces that records which wait came in, and of what leaves a port no more than a part and a window's.
 pub fn run_unchecked<R: Read, F: NewFile>(
     alloc: Global,
     network: &Network,

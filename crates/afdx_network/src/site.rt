@@ -55,7 +55,7 @@ fn silence(alloc: Global, ports: &[PortRow]) -> Result<Vec<Output>, AllocError>
     Ok(outputs)
 }
 
-/// Why a record was not taken in.
+/// Returns the fault of a run in which a record was not taken in.
 fn of_put(why: PacedFault) -> NetworkRunFault
     ensures { not_of_memory why ≡ None → result ≡ fault.Memory }
 {

@@ -39,7 +39,7 @@ impl NewFile for Nowhere {
     }
 }
 
-/// Makes one for each of so many ports.
+/// Makes a file that keeps nothing for each of so many ports.
 fn to_nowhere(alloc: Global, count: usize) -> Result<Vec<Nowhere>, AllocError>
     ensures { IfOk result (λ files. length files.items ≡ count) }
 {

@@ -51,10 +51,10 @@ use afdx_wiring::{End, Wire};
 use std::alloc::{AllocError, Global};
 use std::io::Read;
 
-/// How long a window is where there are no wires: any length is right then.
+/// How long a window is if there are no wires, in nanoseconds: any length is right then. It is no longer than that if there are some.
 const ALONE: u64 = 1_000_000;
 
-/// Tells whether two ends are one port.
+/// Returns whether two ends are one port.
 fn is_end(one: End, other: End) -> bool
     ensures { result ≡ is_end one other }
 {
@@ -73,7 +73,7 @@ fn least_of(network: &Network, from: End, delay: u32) -> Option<u64>
     Some(table.latency() + cost(row.speed, LEAST_SIZE) + u64::from(delay))
 }
 
-/// Returns the least of these times over all wires. O(wires).
+/// Returns the least of these times over all wires, or `ALONE` if that is less. O(wires).
 fn look_of(network: &Network) -> u64
     ensures { IsLook network.now result }
 {
@@ -108,7 +108,7 @@ pub(crate) fn sites_of(
     Ok(sites)
 }
 
-/// Copies a record that came over a wire; none if it comes in the last second that pcap can hold.
+/// Returns a copy of a record that came over a wire; none if it comes in the last second that pcap can hold.
 fn brought(
     alloc: Global,
     frame: &Record<'_, Global>,
@@ -158,7 +158,7 @@ fn first_to(wires: &[Wire], to: End) -> Option<usize>
     wires.iter().position(|wire| is_end(wire.to, to))
 }
 
-/// Tells whether no wire before the one at this place goes to the same port. O(wires).
+/// Returns whether no wire before the one at this place goes to the same port. O(wires).
 fn is_first(wires: &[Wire], index: usize) -> bool
     requires { index < length wires.now }
     ensures { (w : Cable) → slice_get wires.now index ≡ Some w → (IsTrue result ↔ (wire_place wires.now w ≡ index)) }
@@ -169,8 +169,8 @@ fn is_first(wires: &[Wire], index: usize) -> bool
     }
 }
 
-/// Tells whether what leaves a port goes over the wire at a place: it begins there, no wire before it goes to the same port, and it is
-/// not down. O(wires).
+/// Returns whether what leaves a port goes over the wire at a place: it begins there, no wire before it goes to the same port, and it is not
+/// down. O(wires).
 fn goes_over(wires: &[Wire], index: usize, from: End) -> bool
     requires { index < length wires.now }
     ensures { (w : Cable) → slice_get wires.now index ≡ Some w → (IsTrue result ↔ GoesOver wires.now index from w) }
@@ -178,7 +178,7 @@ fn goes_over(wires: &[Wire], index: usize, from: End) -> bool
     is_end(wires[index].from, from) && is_first(wires, index) && !wires[index].down
 }
 
-/// Notes what a port sent, where anything is noted; where memory runs out for that, all that was noted is let go.
+/// Notes what a port sent, if there are origins to note it; if that fails, all that was noted is let go.
 fn note_sent(origins: &mut Option<Origins<'_>>, from: End, sent: Option<Sent>)
     ensures { IsNotedOnce from sent origins.old origins.new }
 {
@@ -193,7 +193,7 @@ fn note_sent(origins: &mut Option<Origins<'_>>, from: End, sent: Option<Sent>)
     }
 }
 
-/// Carries the next record that left a port to the port's capture and over its wires that are not down, and tells whether there was one.
+/// Carries the next record that left a port to the port's capture and over its wires that are not down. Returns whether there was one.
 fn carry(
     alloc: Global,
     network: &Network,
@@ -317,7 +317,7 @@ fn first_of(sites: &[Site]) -> Option<Stamp>
     first
 }
 
-/// Tells whether something can happen at a switch before an instant.
+/// Returns whether something can happen at a switch before an instant.
 fn acts_before(site: &Site, end: Stamp) -> bool
     ensures { result ≡ acts_before end site.now.next }
 {
@@ -370,7 +370,7 @@ fn end_of(last: Stamp, first: Stamp, look: u64) -> Stamp
     }
 }
 
-/// Tells whether there is an instant that lies before another one.
+/// Returns whether there is an instant that lies before another one.
 fn is_before(instant: Option<Stamp>, end: Stamp) -> bool
     ensures { result ≡ acts_before end instant }
 {
@@ -458,7 +458,7 @@ fn hand_over<F: NewFile>(sites: &mut [Site], files: &mut [F]) -> Result<(), Allo
     Ok(())
 }
 
-/// All switches go on until nothing is left.
+/// Lets all switches go on until nothing is left.
 ///
 /// A window begins at the first instant at which anything can happen at any switch or a record is given. What is given before its end comes
 /// in first; then each switch at which something can happen before its end comes to it, and what leaves goes over the wires.
@@ -504,7 +504,7 @@ pub(crate) fn go_through<R: Read, F: NewFile>(
     Ok(())
 }
 
-/// What each switch has counted, once all that left it has gone to the files.
+/// Writes all that left the switches to the files, and returns what each switch has counted.
 pub(crate) fn counts_of<F: NewFile>(
     alloc: Global,
     sites: Vec<Site>,

@@ -17,7 +17,8 @@ use afdx_units::MICROSECOND;
 use afdx_wiring::{NetworkFault, Short};
 use std::alloc::{AllocError, Global};
 
-/// A row, where its jitter is not enough after a way of these delays from a source of this jitter.
+/// Returns what a row has and needs, if its jitter is not enough after a way of these delays from a source of this jitter;
+/// `NoSource` if there is no way.
 fn short_after(row: Row<'_>, far: Option<(u64, Delays)>) -> Result<Option<Short>, NetworkFault>
     requires { IfSome far (λ f. (f.0 ≤ 10000000) × (f.1.most ≤ 1152921504606846976)) }
     ensures { result ≡ short_after (row_of row.entry) far }
@@ -39,7 +40,7 @@ fn short_after(row: Row<'_>, far: Option<(u64, Delays)>) -> Result<Option<Short>
     }))
 }
 
-/// Adds a row, where there is one.
+/// Adds a row, if there is one.
 fn push_short(shorts: &mut Vec<Short>, short: Option<Short>) -> Result<(), AllocError>
     ensures { OnOk result (shorts.new.items ≡ shorts.old.items ++ option_to_list short) }
 {
@@ -49,7 +50,7 @@ fn push_short(shorts: &mut Vec<Short>, short: Option<Short>) -> Result<(), Alloc
     Ok(())
 }
 
-/// The refusal of the first of these rows, where there is one.
+/// Refuses the first of these rows, if there is one.
 fn first_short(shorts: &[Short]) -> Result<(), NetworkFault>
     ensures { result ≡ first_short shorts.now }
 {
@@ -60,7 +61,8 @@ fn first_short(shorts: &[Short]) -> Result<(), NetworkFault>
 }
 
 impl<'a> Hops<'a> {
-    /// The jitter of a row's source and the delays from there to the row, over at most so many rows; these come after.
+    /// Returns the jitter of a row's source and the delays from there to the row, joined with these, which come after. The way
+    /// has at most so many rows.
     #[tactic(auto, using(crate::proofs::WalkLemmas::way_step))]
     pub(crate) fn way_within(
         &self,
@@ -83,7 +85,7 @@ impl<'a> Hops<'a> {
         self.way_within(fewer, before, hop.join(after))
     }
 
-    /// A row, where its jitter is not enough for the whole way to it.
+    /// Returns what a row has and needs, if its jitter is not enough for the whole way to it.
     fn short_at(&self, row: Row<'_>) -> Result<Option<Short>, NetworkFault>
         ensures { result ≡ short_at self.now (row_of row.entry) }
     {
@@ -107,7 +109,7 @@ impl<'a> Hops<'a> {
         Ok(())
     }
 
-    /// All rows whose jitter is not enough.
+    /// Returns all rows whose jitter is not enough.
     fn shorts(&self, alloc: Global) -> Result<Vec<Short>, NetworkFault>
         ensures { Gives (λ shorts. shorts.items) result (shorts_in self.now (rows_of self.now)) }
     {
@@ -120,9 +122,9 @@ impl<'a> Hops<'a> {
 }
 
 impl ClearedNetwork {
-    /// All rows whose jitter is not enough for the whole way to them, by switch and in the order of its table; where there is
-    /// none, the jitters are enough. Else `Memory`. It is asked of a network that fits: of another one `NoSource`, where a row
-    /// has no way back.
+    /// Returns all rows whose jitter is not enough for the whole way to them, by switch and in the order of its table. If there
+    /// is none, the jitters are enough. It is asked of a network that fits: it refuses another one with `NoSource` if a row has
+    /// no way back. The other refusal is `Memory`.
     ///
     /// O(r s w) for r rows, at most s switches on a way, and w wires; O(s) memory, and what the rows take.
     #[tactic(auto, unfolding(crate::specs::Order::shortages))]
@@ -134,8 +136,8 @@ impl ClearedNetwork {
         hops.shorts(alloc)
     }
 
-    /// Whether the jitter of each row is enough for the whole way to it. Else `Jitter` of the first row of `shortages`, or its
-    /// refusal. It costs as much.
+    /// Checks that the jitter of each row is enough for the whole way to it. Else it refuses with `Jitter` of the first row of
+    /// `shortages`, or as `shortages` does. It costs as much.
     #[tactic(auto, unfolding(crate::specs::Order::shortage))]
     pub fn check(&self, alloc: Global) -> Result<(), NetworkFault>
         ensures first { Gives (λ u. u) result (shortage self.now) }

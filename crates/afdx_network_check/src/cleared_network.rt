@@ -13,7 +13,7 @@ use afdx_grouping::laws::{
 use afdx_wiring::NetworkFault;
 use std::marker::Model;
 
-/// A network each of whose tables is accepted by the check of its load, where its latencies may differ as the network says.
+/// A network each of whose tables is accepted by the check of its load, with latencies that may differ as the network says.
 ///
 /// Contracts see it as the network.
 #[derive(Drop)]
@@ -35,7 +35,7 @@ impl Model for ClearedNetwork {
 }
 
 impl Network {
-    /// The loads of the tables, by switch.
+    /// Checks the loads of the tables, by switch.
     fn tables_fit(&self) -> Result<(), NetworkFault>
         ensures { result ≡ tables_fit self.now 0 self.now.tables }
     {
@@ -48,7 +48,7 @@ impl Network {
         Ok(())
     }
 
-    /// What the network file says of latencies, and then the loads of the tables.
+    /// Checks what the network file says of latencies, and then the loads of the tables.
     #[tactic(auto, unfolding(crate::specs::Order::loads_fit))]
     fn loads_fit(&self) -> Result<(), NetworkFault>
         ensures { result ≡ loads_fit self.now }
@@ -57,9 +57,9 @@ impl Network {
         self.tables_fit()
     }
 
-    /// Accepts the load of each table where the switch's latencies may differ by its table's less the least that the network file
-    /// states. Else the first refusal: `Latency`, by switch; then `Load` of the first switch whose load is not accepted, with the
-    /// first fault of its table. It costs as much as the check of each table.
+    /// Accepts the load of each table, with latencies that may differ by the table's latency less the least that the network
+    /// file states of its switch. Else the first refusal: `Latency`, by switch; then `Load` of the first switch whose load is
+    /// not accepted, with the first fault of its table. It costs as much as the check of each table.
     #[tactic(auto, using(crate::proofs::LoadLemmas::all_accepted, crate::proofs::LoadLemmas::all_fit))]
     pub fn clear(self) -> Result<ClearedNetwork, NetworkFault>
         ensures { MatchResult result
@@ -75,7 +75,7 @@ impl Network {
 }
 
 impl ClearedNetwork {
-    /// The network. O(1).
+    /// Returns the network. O(1).
     pub fn network(&self) -> &Network
         ensures network { result.now ≡ self.now }
         ensures accepted { All IsAccepted self.now.tables }

@@ -25,7 +25,7 @@ pub struct Exit {
 }
 
 impl Exit {
-    /// The port.
+    /// Returns the port.
     pub fn end(self) -> End
         ensures { result ≡ end_of self }
     {
@@ -37,7 +37,7 @@ impl Exit {
 }
 
 impl Network {
-    /// The wire that comes from a port.
+    /// Returns the wire that comes from a port, if one does.
     fn wire_from(&self, end: End) -> Option<&Wire>
         ensures { option_copied result ≡ wire_from self.now end }
     {
@@ -47,7 +47,7 @@ impl Network {
             .find(|wire| is_end(wire.from, end))
     }
 
-    /// Whether no wire comes from the port.
+    /// Returns whether no wire comes from the port.
     fn leads_out(&self, exit: Exit) -> bool
         ensures { result ≡ leads_out self.now exit }
     {
@@ -72,7 +72,7 @@ impl Network {
         Ok(())
     }
 
-    /// Adds those of a switch's rows.
+    /// Adds the exits of a switch's rows.
     fn add_exits_in(
         &self,
         exits: &mut Vec<Exit>,
@@ -88,7 +88,7 @@ impl Network {
         Ok(())
     }
 
-    /// Those of all rows, by switch and in the order of its table.
+    /// Returns the exits of all rows, by switch and in the order of its table.
     fn all_exits(&self, alloc: Global) -> Result<Vec<Exit>, AllocError>
         ensures { IfOk result (λ exits. exits.items ≡ exits_of self.now) }
     {
@@ -99,7 +99,7 @@ impl Network {
         Ok(exits)
     }
 
-    /// The exits of all links, in their order. O(e w) for e ends of rows and w wires, and their sorting.
+    /// Returns the exits of all links, in their order. O(e w) for e ends of rows and w wires, and their sorting.
     ///
     /// An error says that memory ran out.
     pub fn exits(&self, alloc: Global) -> Result<Vec<Exit>, AllocError>

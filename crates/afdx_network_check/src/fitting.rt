@@ -11,11 +11,11 @@ use afdx_wiring::NetworkFault;
 use std::alloc::Global;
 
 impl Network {
-    /// Whether the tables fit together: both ends of a wire agree, each link goes on behind the wires that it is sent on,
+    /// Checks that the tables fit together: both ends of a wire agree, each link goes on after the wires that it is sent on,
     /// and each row is fed by one end system's port at last.
     ///
     /// The first refusal in this order is given, rule by rule; within one rule by wire and by the row that leads to it, or by
-    /// switch and row; and `Memory` where memory ran out:
+    /// switch and row; and `Memory` if memory ran out:
     ///
     /// 1. By wire: `Constant`, `Speed`.
     /// 2. By wire and row: `NoRow`.

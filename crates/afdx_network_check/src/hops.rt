@@ -28,7 +28,7 @@ const MAX_BOUND: u128 = 1_000_000_000_000;
 #[derive(Drop)]
 pub(crate) struct Hops<'a> {
     network: &'a Network,
-    /// Those of each switch's ports, in the order of its table.
+    /// The bounds of each switch's ports, in the order of its table.
     bounds: Vec<Vec<Bounds>>,
 }
 
@@ -44,7 +44,7 @@ impl<'a> Model for Hops<'a> {
     ghost invariant = { λ h. map (λ bounds. bounds.items) h.bounds.items ≡ bounds_from h.network.now 0 h.network.now.tables };
 }
 
-/// The bound of a priority.
+/// Returns the bound of a priority, if there is one.
 fn bound_in(bounds: Bounds, priority: Priority) -> Option<u128>
     ensures { result ≡ bound_in bounds priority }
 {
@@ -54,7 +54,7 @@ fn bound_in(bounds: Bounds, priority: Priority) -> Option<u128>
     }
 }
 
-/// A bound that a table may have.
+/// Returns the bound, if a table may have it.
 fn within_reason(bound: u128) -> Option<u64>
     ensures bound { result ≡ within_reason bound }
     ensures limit { IfSome result (λ b. b ≤ 1000000000000) }
@@ -66,7 +66,7 @@ fn within_reason(bound: u128) -> Option<u64>
     }
 }
 
-/// The bounds of the port of a number, of those of a table's ports in their order.
+/// Returns the bounds of the port of a number, from those of a table's ports in their order.
 fn bounds_in(table: &Table, bounds: &[Bounds], port: u8) -> Option<Bounds>
     ensures { result ≡ option_and_then (slice_get bounds.now) (position (λ p. p.id == port) table.now.ports) }
 {
@@ -74,14 +74,14 @@ fn bounds_in(table: &Table, bounds: &[Bounds], port: u8) -> Option<Bounds>
     bounds.get(place).copied()
 }
 
-/// The bounds that are kept of a switch.
+/// Returns the bounds that are kept of a switch.
 fn kept_at(bounds: &[Vec<Bounds>], switch: usize) -> Option<&Vec<Bounds>>
     ensures { option_copied result ≡ slice_get bounds.now switch }
 {
     bounds.get(switch)
 }
 
-/// The bounds of a switch's ports.
+/// Finds the bounds of a switch's ports.
 fn switch_bounds(
     alloc: Global,
     network: &Network,
@@ -96,7 +96,7 @@ fn switch_bounds(
 }
 
 impl<'a> Hops<'a> {
-    /// The bounds of each switch.
+    /// Finds the bounds of each switch's ports.
     pub(crate) fn new(alloc: Global, network: &'a Network) -> Result<Hops<'a>, AllocError>
         ensures { IfOk result (λ h. h ≡ network.now) }
     {
@@ -116,7 +116,7 @@ impl<'a> Hops<'a> {
         self.network
     }
 
-    /// The bounds of a port of a switch.
+    /// Returns the bounds of a port of a switch.
     fn bounds_at(&self, switch: usize, port: u8) -> Option<Bounds>
         ensures { result ≡ option_and_then (λ t. option_map (λ p. bounds_of (load_at self.now switch t p)) (port_row t port)) (slice_get self.now.tables switch) }
     {
@@ -124,7 +124,7 @@ impl<'a> Hops<'a> {
         bounds_in(table, kept_at(&self.bounds, switch)?, port)
     }
 
-    /// What a frame of a row's link takes from its arrival at the row's switch over a cable from a port.
+    /// Returns what a frame of a row's link takes from its arrival at the row's switch over a port and the cable from there.
     pub(crate) fn hop_on(&self, row: Row<'_>, port: u8, cable: u32) -> Option<Delays>
         ensures hop { result ≡ hop_on self.now (row_of row.entry) port cable }
         ensures limits { IfSome result (λ d. (d.least ≤ 2199023255552) × (d.most ≤ 2199023255552)) }

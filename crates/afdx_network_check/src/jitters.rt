@@ -22,7 +22,7 @@ use afdx_units::{MAX_JITTER, MICROSECOND};
 use afdx_wiring::{NetworkFault, Short};
 use std::alloc::{AllocError, Global};
 
-/// What a row needs to which no way within reason leads: a thousand seconds, in microseconds.
+/// What a row needs if no way within reason leads to it: a thousand seconds, in microseconds.
 const NO_WAY: u64 = 1_000_000_000;
 
 /// The jitter that a row has, and the one that it needs.
@@ -47,7 +47,7 @@ pub struct Needs {
     pub past: Option<Short>,
 }
 
-/// A row, and what it needs.
+/// Puts what a row has beside what it needs.
 fn row_with_need(row: Row<'_>, need: u64) -> RowNeed
     ensures { result ≡ row_with_need (row_of row.entry) need }
 {
@@ -60,7 +60,7 @@ fn row_with_need(row: Row<'_>, need: u64) -> RowNeed
     }
 }
 
-/// What a row needs to begin with: the jitter of its source.
+/// Returns what a row needs to begin with: the jitter of its source.
 fn first_needed(source: Option<Row<'_>>) -> u64
     ensures { result ≡ first_needed (option_map row_of source.entry) }
 {
@@ -73,7 +73,7 @@ fn first_needed(source: Option<Row<'_>>) -> u64
     }
 }
 
-/// What a row needs after a way of these delays from a source of this jitter.
+/// Returns what a row needs after a way of these delays from a source of this jitter.
 fn needed(far: Option<(u64, Delays)>) -> u64
     requires { IfSome far (λ f. (f.0 ≤ 10000000) × (f.1.most ≤ 1152921504606846976)) }
     ensures { result ≡ needed far }
@@ -85,7 +85,7 @@ fn needed(far: Option<(u64, Delays)>) -> u64
 }
 
 impl<'a> Hops<'a> {
-    /// What a row has, and what it needs: to begin with, or after the whole way to it.
+    /// Returns what a row has, and what it needs: to begin with, or after the whole way to it.
     fn need_in(&self, start: bool, row: Row<'_>) -> RowNeed
         ensures { result ≡ need_in start self.now (row_of row.entry) }
     {
@@ -115,7 +115,7 @@ impl<'a> Hops<'a> {
         Ok(())
     }
 
-    /// What all rows need.
+    /// Returns what all rows need.
     fn needs(&self, alloc: Global, start: bool) -> Result<Vec<RowNeed>, AllocError>
         ensures rows { IfOk result (λ v. v.items ≡ map (need_in start self.now) (rows_of self.now)) }
         ensures well_formed { IfOk result (λ _. All IsWellFormed self.now.tables) }
@@ -129,7 +129,7 @@ impl<'a> Hops<'a> {
 }
 
 impl Network {
-    /// What all rows need where they have the jitters that they have.
+    /// Returns what all rows need with the jitters that they have.
     fn needs(&self, alloc: Global, start: bool) -> Result<Vec<RowNeed>, AllocError>
         ensures rows { IfOk result (λ v. v.items ≡ map (need_in start self.now) (rows_of self.now)) }
         ensures well_formed { IfOk result (λ _. All IsWellFormed self.now.tables) }
@@ -138,7 +138,7 @@ impl Network {
         hops.needs(alloc, start)
     }
 
-    /// The network with these jitters, as far as a table can have them.
+    /// Returns the network with these jitters, as far as a table can have them.
     fn with_jitters(self, needs: &[RowNeed]) -> Result<Network, NetworkFault>
         ensures { IfOk result (λ net. net ≡ record self { tables = given_all needs.now self.tables }) }
     {
@@ -149,11 +149,11 @@ impl Network {
         Network::new(layout, tables)
     }
 
-    /// Finds the least jitters that are enough, with the sources' own: all rows begin with the jitter of their source, and each
-    /// turn gives them what they need then, until each row has what it needs or one needs more than a table can have; then no
-    /// jitters are enough. It is asked of a network that fits, whose links ask for no more than their lines: of another one
-    /// nothing is said of least jitters, and a row to which no way with bounds of at most a thousand seconds leads needs a
-    /// thousand seconds. `Memory` is the one refusal.
+    /// Finds the least jitters that are enough, with the sources' own. All rows begin with the jitter of their source, and each
+    /// turn gives them what they need then, until each row has what it needs or one needs more than a table can have; in the
+    /// latter case no jitters are enough. It is asked of a network that fits, whose links ask for no more than their lines. Of
+    /// another one nothing is said of least jitters, and a row needs a thousand seconds if no way with bounds of at most a
+    /// thousand seconds leads to it. `Memory` is the one refusal.
     ///
     /// O(r s w) for each turn, for r rows, at most s switches on a way, and w wires.
     pub fn jitters(self, alloc: Global) -> Result<Needs, NetworkFault>
@@ -179,7 +179,7 @@ impl Network {
     }
 }
 
-/// Gives a row the jitter that it needs, where a table can have it.
+/// Gives a row the jitter that it needs, if a table can have it.
 fn set_jitter(tables: &mut Vec<Table>, row: &RowNeed)
     ensures { tables.new.items ≡ given row.now tables.old.items }
 {
@@ -194,7 +194,7 @@ fn set_jitter(tables: &mut Vec<Table>, row: &RowNeed)
     }
 }
 
-/// A row that needs more than a table can have.
+/// Returns a row that needs more than a table can have, with the most that a table can have as what it has.
 fn past_short(row: &RowNeed) -> Short
     ensures { result ≡ past_short row.now }
 {
@@ -206,7 +206,7 @@ fn past_short(row: &RowNeed) -> Short
     }
 }
 
-/// The first such row.
+/// Returns the first row that needs more than a table can have, if there is one.
 fn first_past(needs: &[RowNeed]) -> Option<Short>
     ensures { result ≡ past_of needs.now }
 {
@@ -214,7 +214,8 @@ fn first_past(needs: &[RowNeed]) -> Option<Short>
     Some(past_short(row))
 }
 
-/// All rows that need more than a table can have, in their order; `Needs::past` is the first. An error says that memory ran out.
+/// Returns all rows that need more than a table can have, in their order; `Needs::past` is the first. An error says that memory
+/// ran out.
 ///
 /// O(rows).
 pub fn all_past(alloc: Global, needs: &[RowNeed]) -> Result<Vec<Short>, AllocError>
@@ -229,14 +230,14 @@ pub fn all_past(alloc: Global, needs: &[RowNeed]) -> Result<Vec<Short>, AllocErr
     Ok(shorts)
 }
 
-/// Whether each row has what it needs.
+/// Returns whether each row has what it needs.
 fn are_met(needs: &[RowNeed]) -> bool
     ensures { result ≡ list_all is_met needs.now }
 {
     needs.iter().all(|row| row.need <= MAX_JITTER && row.has == row.need * MICROSECOND)
 }
 
-/// Whether no turn comes after this one.
+/// Returns whether no turn comes after this one.
 fn is_last(past: Option<Short>, needs: &[RowNeed]) -> bool
     ensures { result ≡ (is_some past || list_all is_met needs.now) }
 {

@@ -10,14 +10,14 @@ use afdx_table::{LinkRow, PortRow, Table};
 use afdx_units::Speed;
 use afdx_wiring::{At, NetworkFault, Wire};
 
-/// Whether two speeds are one.
+/// Returns whether two speeds are the same.
 fn same_rate(one: Speed, other: Speed) -> bool
     ensures { result ≡ same_rate one other }
 {
     one == other
 }
 
-/// The constant fields at both ends of a wire.
+/// Refuses the tables at both ends of a wire if their constant fields differ.
 fn same_constant(at: At, here: Option<&Table>, there: Option<&Table>) -> Result<(), NetworkFault>
     ensures { result ≡ same_constant at (option_copied here.entry) (option_copied there.entry) }
 {
@@ -28,7 +28,7 @@ fn same_constant(at: At, here: Option<&Table>, there: Option<&Table>) -> Result<
     }
 }
 
-/// The speeds of both ends of a wire.
+/// Refuses the ports at both ends of a wire if their speeds differ.
 fn same_speed(at: At, start: Option<&PortRow>, goal: Option<&PortRow>) -> Result<(), NetworkFault>
     ensures { result ≡ same_speed at (option_copied start.entry) (option_copied goal.entry) }
 {
@@ -39,7 +39,7 @@ fn same_speed(at: At, start: Option<&PortRow>, goal: Option<&PortRow>) -> Result
     }
 }
 
-/// The link at a place in file order.
+/// Returns the link at a place in file order.
 pub(crate) fn link_at(table: &Table, index: usize) -> &LinkRow
     requires { index < length table.now.links }
     ensures link { result.now ≡ slice_index_or table.now.links index result.now }
@@ -48,7 +48,7 @@ pub(crate) fn link_at(table: &Table, index: usize) -> &LinkRow
     table.link_at(index).unwrap()
 }
 
-/// A row of the first table of a wire, beside the row of that link in the second one.
+/// Compares a row of the first table of a wire, if it leads to the wire, with the row of that link in the second one.
 fn goes_on(
     what: Shared,
     at: At,
@@ -65,7 +65,7 @@ fn goes_on(
     agrees(what, at, wire, link, next)
 }
 
-/// The rows of the first table of a wire, beside those of the second one.
+/// Compares the rows of the first table of a wire with those of the second one.
 fn links_go_on(
     what: Shared,
     at: At,
@@ -82,7 +82,7 @@ fn links_go_on(
 }
 
 impl Network {
-    /// The tables and the ports at both ends of a wire.
+    /// Compares the tables and the ports at both ends of a wire.
     fn joined_at(&self, at: At, wire: &Wire) -> Result<(), NetworkFault>
         ensures { result ≡ joined_at self.now at wire.now }
     {
@@ -90,7 +90,7 @@ impl Network {
         same_speed(at, self.port_at(wire.from), self.port_at(wire.to))
     }
 
-    /// The rows at both ends of a wire.
+    /// Compares the rows at both ends of a wire.
     fn shares(&self, what: Shared, at: At, wire: &Wire) -> Result<(), NetworkFault>
         ensures { result ≡ shares self.now what at wire.now }
     {
@@ -100,7 +100,7 @@ impl Network {
         }
     }
 
-    /// The tables and the ports at both ends of each wire.
+    /// Compares the tables and the ports at both ends of each wire.
     pub(crate) fn all_joined(&self) -> Result<(), NetworkFault>
         ensures { result ≡ by_wires (joined_at self.now) 0 self.now.layout.wires }
     {
@@ -110,7 +110,7 @@ impl Network {
         Ok(())
     }
 
-    /// The rows at both ends of each wire.
+    /// Compares the rows at both ends of each wire.
     pub(crate) fn all_share(&self, what: Shared) -> Result<(), NetworkFault>
         ensures { result ≡ by_wires (shares self.now what) 0 self.now.layout.wires }
     {

@@ -6,21 +6,22 @@ ghost use Rattle.afdx_network_check.specs.Outage.{OutagesChangeNoWay};
 
 use afdx_grouping::laws::bounds_are_no_more;
 
-/// Each row of a network is of the table at its switch's place.
+/// Proves that each row of a network is of the table at its switch's place.
 pub fn rows_are_of_tables()
     ensures { RowsAreOfTables }
 {}
 
-/// Jitters that are enough for the bounds of the ports' whole loads, as they are printed of a table by itself where
-/// its latency does not vary, are enough: a
-/// network stays accepted that was accepted where a bound counted all that a port's links may send at once.
+/// Proves that jitters are enough if they are enough for the bounds of the ports' whole loads. Such a bound counts all that a
+/// port's links may send at once; if a switch's latency does not vary, it is the one that is printed of its table by itself. So
+/// a network that was accepted by these bounds stays accepted.
 pub fn whole_jitters_are_enough()
     ensures { WholeJittersAreEnough }
 {
     bounds_are_no_more();
 }
 
-/// An outage changes no way: those that use nothing that is down are as they were, with the same delays and jitters.
+/// Proves that an outage changes no way: those that use nothing that is down are as they were, with the same delays and
+/// jitters.
 pub fn outages_change_no_way()
     ensures { OutagesChangeNoWay }
 {}

@@ -36,7 +36,7 @@ impl Model for Network {
     ghost invariant = { λ n. lost_port n.tables.items n.layout.wires ≡ Ok tt };
 }
 
-/// Whether an end of a wire is a port, by the tables of the switches.
+/// Returns whether an end of a wire is a port by the tables of the switches.
 fn is_port(tables: &[Table], end: End) -> bool
     ensures { result ≡ is_port tables.now end }
 {
@@ -60,7 +60,7 @@ fn check_ports(tables: &[Table], wires: &[Wire]) -> Result<(), NetworkFault>
 }
 
 impl<'a> Row<'a> {
-    /// The port at which the link comes in.
+    /// Returns the port at which the link comes in.
     pub(crate) fn ingress(&self) -> End
         ensures { result ≡ ingress (row_of self.now) }
     {
@@ -72,7 +72,7 @@ impl<'a> Row<'a> {
     }
 }
 
-/// The row, where it leads to the port.
+/// Returns the row, if it leads to the port.
 fn leading(port: u8, row: Row<'_>) -> Option<Row<'_>>
     ensures { option_map row_of result ≡ leading port (row_of row.entry) }
 {
@@ -85,10 +85,10 @@ fn leading(port: u8, row: Row<'_>) -> Option<Row<'_>>
 }
 
 impl Network {
-    /// The network of a layout and of the tables of its switches, in the order of the switches. Where an end of a wire is no
-    /// port of its switch's table, `NoSuchPort` of the first such wire.
+    /// Makes the network of a layout and of the tables of its switches, in the order of the switches. Refuses the first wire of
+    /// which an end is no port of its switch's table: `NoSuchPort`.
     ///
-    /// O(w), w wires; each port is looked for among the at most 24 of its table.
+    /// O(w) for w wires; each port is looked for among the at most 24 of its table.
     pub fn new(layout: Layout, tables: Vec<Table>) -> Result<Network, NetworkFault>
         ensures { MatchResult result
             (λ net. (net ≡ record { layout = layout; tables = tables.items }) × (lost_port tables.items layout.wires ≡ Ok tt))
@@ -98,7 +98,7 @@ impl Network {
         Ok(Network { layout, tables })
     }
 
-    /// Refuses the first switch that is said to take at least more than its table's latency: `Latency`. O(s), s switches.
+    /// Refuses the first switch whose least latency is said to be above its table's latency: `Latency`. O(s) for s switches.
     pub fn check_latencies(&self) -> Result<(), NetworkFault>
         ensures { result ≡ lost_latency self.now 0 self.now.tables }
     {
@@ -110,7 +110,7 @@ impl Network {
         Ok(())
     }
 
-    /// The least that the switch at a place is said to take, in nanoseconds; 0 where it is not known.
+    /// Returns the least that the switch at a place is said to take, in nanoseconds; 0 if it is not known.
     fn stated_least(&self, switch: usize) -> u64
         ensures { result ≡ stated_least self.now switch }
     {
@@ -120,7 +120,7 @@ impl Network {
         }
     }
 
-    /// The least that the switch at a place, which has this table, takes for a frame, in nanoseconds. O(1).
+    /// Returns the least that the switch at a place, which has this table, takes for a frame, in nanoseconds. O(1).
     pub(crate) fn least_at(&self, switch: usize, table: &Table) -> u64
         ensures least { result ≡ least_at self.now switch table.now }
         ensures most { result ≤ table.now.latency }
@@ -129,7 +129,7 @@ impl Network {
         self.stated_least(switch).min(table.latency())
     }
 
-    /// By how many nanoseconds its latencies may differ. O(1).
+    /// Returns by how many nanoseconds the latencies of the switch at a place, which has this table, may differ. O(1).
     pub(crate) fn scatter_at(&self, switch: usize, table: &Table) -> u64
         ensures scatter { result ≡ scatter_at self.now switch table.now }
         ensures small { result ≤ 100000 }
@@ -137,7 +137,7 @@ impl Network {
         table.latency() - self.least_at(switch, table)
     }
 
-    /// What the network file says. O(1).
+    /// Returns what the network file says. O(1).
     pub fn layout(&self) -> &Layout
         ensures layout { result.now ≡ self.now.layout }
         ensures ports { lost_port self.now.tables self.now.layout.wires ≡ Ok tt }
@@ -145,7 +145,7 @@ impl Network {
         &self.layout
     }
 
-    /// The tables, in the order of the switches. O(1).
+    /// Returns the tables, in the order of the switches. O(1).
     pub fn tables(&self) -> &[Table]
         ensures tables { result.now ≡ self.now.tables }
         ensures ports { lost_port self.now.tables self.now.layout.wires ≡ Ok tt }
@@ -153,7 +153,7 @@ impl Network {
         &self.tables
     }
 
-    /// The layout and the tables, apart. O(1).
+    /// Takes the network apart into its layout and its tables. O(1).
     pub(crate) fn into_parts(self) -> (Layout, Vec<Table>)
         ensures parts { (result.0 ≡ self.layout) × (result.1.items ≡ self.tables) }
         ensures ports { lost_port self.tables self.layout.wires ≡ Ok tt }
@@ -161,21 +161,21 @@ impl Network {
         (self.layout, self.tables)
     }
 
-    /// The table of the switch at a place, from 0. O(1).
+    /// Returns the table of the switch at a place, from 0, if there is one. O(1).
     pub fn table(&self, switch: usize) -> Option<&Table>
         ensures { option_copied result ≡ slice_get self.now.tables switch }
     {
         self.tables.get(switch)
     }
 
-    /// The port at an end of a wire.
+    /// Returns the port at an end of a wire.
     pub(crate) fn port_at(&self, end: End) -> Option<&PortRow>
         ensures { option_copied result ≡ port_at self.now end }
     {
         self.table(end.switch)?.port(end.port)
     }
 
-    /// The row of a link in a switch's table. O(1).
+    /// Returns the row of a link in a switch's table, if there is one. O(1).
     pub fn row_at(&self, switch: usize, id: u16) -> Option<Row<'_>>
         ensures { option_map row_of result ≡ row_at self.now switch id }
     {
@@ -183,14 +183,14 @@ impl Network {
         Some(Row { switch, link })
     }
 
-    /// The wire that goes to a port. O(wires).
+    /// Returns the wire that goes to a port, if one does. O(wires).
     pub fn wire_to(&self, end: End) -> Option<&Wire>
         ensures { option_copied result ≡ wire_to self.now end }
     {
         self.layout.wires.iter().find(|wire| is_end(wire.to, end))
     }
 
-    /// To within how many nanoseconds frames come one after the other at a port, where that is known. O(wires).
+    /// Returns to within how many nanoseconds frames come one after the other at a port, if that is known. O(wires).
     fn rounding_at(&self, end: End) -> Option<u16>
         ensures { result ≡ rounding_at self.now end.switch end.port }
     {
@@ -203,7 +203,8 @@ impl Network {
         }
     }
 
-    /// The same of the ports of a switch, in the places of their numbers. O(wires), for each place.
+    /// Returns to within how many nanoseconds frames come one after the other at each port of a switch, if that is known: in
+    /// the place of the port's number. O(wires) for each place.
     pub(crate) fn roundings(&self, switch: usize) -> [Option<u16>; PLACES]
         ensures { (port : ℕ) → port < 25 → rounding_in result port ≡ rounding_at self.now switch port }
     {
@@ -218,7 +219,7 @@ impl Network {
         roundings
     }
 
-    /// The row that sends a link on a wire, where there is one.
+    /// Returns the row that sends a link on a wire, if there is one.
     pub(crate) fn row_before(&self, id: u16, wire: &Wire) -> Option<Row<'_>>
         ensures { option_map row_of result ≡ row_before self.now id wire.now }
     {

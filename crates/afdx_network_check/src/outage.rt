@@ -9,21 +9,21 @@ use crate::ways::Way;
 use afdx_wiring::{End, Layout, Wire, is_end};
 use std::alloc::{AllocError, Global};
 
-/// Whether a wire that comes from this port is down.
+/// Returns whether a wire that comes from this port is down.
 fn is_wire_down(wires: &[Wire], end: End) -> bool
     ensures { result ≡ list_any (λ w. is_end w.from end && w.down) wires.now }
 {
     wires.iter().any(|wire| is_end(wire.from, end) && wire.down)
 }
 
-/// Whether a link's frames go no further at an output port.
+/// Returns whether a link's frames go no further at an output port.
 fn is_cut(layout: &Layout, end: End) -> bool
     ensures { result ≡ is_cut layout.now end }
 {
     layout.is_down(end.switch) || is_wire_down(&layout.wires, end)
 }
 
-/// Whether a way uses something that is down.
+/// Returns whether a way uses something that is down.
 fn is_lost(layout: &Layout, way: &Way) -> bool
     ensures { result ≡ is_lost layout.now way.now }
 {
@@ -39,7 +39,7 @@ pub struct OutageWays {
     pub lost: Vec<Way>,
 }
 
-/// Which of these ways use nothing that is down by what the network file says, and which do.
+/// Divides these ways into those that use nothing that is down by what the network file says, and those that do.
 ///
 /// An error says that memory ran out. O(p w) for p ports of the ways and w wires.
 pub fn part_ways(alloc: Global, layout: &Layout, ways: Vec<Way>) -> Result<OutageWays, AllocError>

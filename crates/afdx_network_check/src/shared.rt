@@ -18,14 +18,14 @@ pub(crate) enum Shared {
     Terms,
 }
 
-/// Whether two kinds of policing are one.
+/// Returns whether two kinds of policing are the same.
 fn same_police(one: Police, other: Police) -> bool
     ensures { result ≡ same_police one other }
 {
     one == other
 }
 
-/// The terms of two rows of a link.
+/// Compares the terms of two rows of a link: the size, then the gap, then the kind of policing.
 #[tactic(auto, unfolding(crate::specs::Order::same_terms))]
 fn same_terms(at: At, link: &LinkRow, next: &LinkRow) -> Result<(), NetworkFault>
     ensures { result ≡ same_terms at link.now next.now }
@@ -42,7 +42,7 @@ fn same_terms(at: At, link: &LinkRow, next: &LinkRow) -> Result<(), NetworkFault
     Ok(())
 }
 
-/// A row that leads to a wire, and the row of that link at its end.
+/// Compares a row that leads to a wire with the row of that link at the wire's end.
 pub(crate) fn agrees(
     what: Shared,
     at: At,

@@ -17,7 +17,7 @@ use std::alloc::Global;
 pub(crate) const MOST_ROWS: usize = 64;
 
 impl Network {
-    /// The source of a row: the one at which the way back from it ends, over at most so many rows.
+    /// Returns the source of a row: the one at which the way back from it ends, over at most so many rows.
     #[tactic(auto, using(crate::proofs::WalkLemmas::source_step))]
     pub(crate) fn source_within<'a>(&'a self, rows: usize, row: Row<'a>) -> Option<Row<'a>>
         ensures { option_map row_of result ≡ source_within rows self.now (row_of row.entry) }
@@ -31,8 +31,8 @@ impl Network {
         self.source_within(fewer, before)
     }
 
-    /// The port at which the frames of a row come in to the network; none where the tables do not lead a way back to one. O(rows of the way),
-    /// and O(wires) for each.
+    /// Returns the port at which the frames of a row come in to the network, if the tables lead a way back to one. O(rows of
+    /// the way), and O(wires) for each.
     pub fn source_of(&self, row: Row<'_>) -> Option<End>
         ensures { result ≡ option_map ingress (source_within most_rows self.now (row_of row.entry)) }
     {
@@ -42,7 +42,7 @@ impl Network {
         }
     }
 
-    /// A row's way back.
+    /// Refuses a row that has no way back to a source.
     fn has_source(&self, row: Row<'_>) -> Result<(), NetworkFault>
         ensures { result ≡ has_source self.now (row_of row.entry) }
     {
@@ -53,7 +53,7 @@ impl Network {
         }
     }
 
-    /// The ways back of a switch's rows.
+    /// Refuses the first row of a switch that has no way back to a source.
     fn have_sources(&self, switch: usize, table: &Table) -> Result<(), NetworkFault>
         ensures { result ≡ first_of (has_source self.now) (rows_in switch table.now.links) }
     {
@@ -64,7 +64,7 @@ impl Network {
         Ok(())
     }
 
-    /// The ways back of all rows.
+    /// Refuses the first of all rows that has no way back to a source.
     pub(crate) fn all_have_sources(&self) -> Result<(), NetworkFault>
         ensures { result ≡ first_of (has_source self.now) (rows_of self.now) }
     {
@@ -74,14 +74,14 @@ impl Network {
         Ok(())
     }
 
-    /// Whether an end system's port feeds a row.
+    /// Returns whether an end system's port feeds a row.
     fn is_fed(&self, row: Row<'_>) -> bool
         ensures { result ≡ is_fed self.now (row_of row.entry) }
     {
         self.wire_to(row.ingress()).is_none()
     }
 
-    /// Keeps the number of a row that an end system's port feeds.
+    /// Keeps the number of a row that an end system's port feeds; refuses a number that is kept already.
     fn meet_source(&self, met: &mut IndexSet<u16>, row: Row<'_>) -> Result<(), NetworkFault>
         ensures first { Gives (λ u. u) result (each_once met.old.keys (fed_numbers self.now (row_of row.entry ∷ []))) }
         ensures met { OnOk result (met.new.keys ≡ met.old.keys ++ fed_numbers self.now (row_of row.entry ∷ [])) }
@@ -97,7 +97,7 @@ impl Network {
         }
     }
 
-    /// Keeps those of a switch.
+    /// Keeps the numbers of the rows of a switch that end systems' ports feed; refuses the first that is kept already.
     fn meet_sources(
         &self,
         met: &mut IndexSet<u16>,

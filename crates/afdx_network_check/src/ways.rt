@@ -33,7 +33,7 @@ pub struct Way {
 }
 
 impl<'a> Hops<'a> {
-    /// The way from a row that an end system's port feeds, over no line as yet.
+    /// Makes the way from a row that an end system's port feeds, over no line as yet.
     fn begin(&self, alloc: Global, row: Row<'_>) -> Way
         ensures way { IsWayOver self.now (row_of row.entry) [] result }
         ensures limits { (result.jitter ≤ 10000000) × (result.delays.least ≡ 0) × (result.delays.most ≡ 0) }
@@ -49,7 +49,7 @@ impl<'a> Hops<'a> {
         }
     }
 
-    /// A way to a row, and the line on which that sends the link; `NoSource` where the port has no bound.
+    /// Lengthens a way to a row by the line on which that row sends the link; `NoSource` if the port has no bound.
     fn lengthen(&self, way: Way, row: Row<'_>, line: &Wire) -> Result<Way, NetworkFault>
         requires jitter { way.jitter ≤ 10000000 }
         requires least { way.delays.least ≤ 140737488355328 }
@@ -71,7 +71,7 @@ impl<'a> Hops<'a> {
         Ok(longer)
     }
 
-    /// The way of a link from its source to the end of a line, over at most so many rows; `NoSource` where there is none.
+    /// Finds the way of a link from its source to the end of a line, over at most so many rows; `NoSource` if there is none.
     fn way_along(
         &self,
         alloc: Global,
@@ -94,7 +94,7 @@ impl<'a> Hops<'a> {
         self.lengthen(way, row, line)
     }
 
-    /// The way to an exit.
+    /// Finds the way to an exit.
     fn way_out(&self, alloc: Global, exit: Exit) -> Result<Way, NetworkFault>
         ensures { IfOk result (λ w. IsWayOut self.now exit w) }
     {
@@ -108,7 +108,7 @@ impl<'a> Hops<'a> {
         self.way_along(alloc, MOST_ROWS, exit.link, &line)
     }
 
-    /// The ways to exits.
+    /// Finds the ways to exits.
     fn ways_out(&self, alloc: Global, exits: &[Exit]) -> Result<Vec<Way>, NetworkFault>
         ensures { IfOk result (λ ways. AllZip (IsWayOut self.now) exits.now ways.items) }
     {
@@ -121,9 +121,9 @@ impl<'a> Hops<'a> {
 }
 
 impl ClearedNetwork {
-    /// The ways of the links, one for each port that leads out of the network: by link, then by the switch and the port at
-    /// which it ends. It is asked of a network that fits: of another one `NoSource`, where the tables do not lead a way back to
-    /// a source; or `Memory`.
+    /// Finds the ways of the links, one for each port that leads out of the network: by link, then by the switch and the port
+    /// at which it ends. It is asked of a network that fits: it refuses another one with `NoSource` if the tables do not lead a
+    /// way back to a source. The other refusal is `Memory`.
     ///
     /// O(r w + e s w) for r rows, e ends, at most s switches on a way and w wires, beside their sorting.
     pub fn ways(&self, alloc: Global) -> Result<Vec<Way>, NetworkFault>

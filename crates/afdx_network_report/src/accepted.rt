@@ -19,7 +19,7 @@ fn put_numbers(text: &mut String, numbers: &[u64]) -> Result<(), AllocError>
     Ok(())
 }
 
-/// The port at which a way leads out of the network.
+/// Returns the port at which a way leads out of the network.
 pub(crate) fn last_end(way: &Way) -> End
     ensures { result ≡ last_end way.now }
 {
@@ -99,7 +99,7 @@ fn put_premise(text: &mut String, one_line: bool) -> Result<(), AllocError>
     Ok(())
 }
 
-/// The most that any of the ways may take.
+/// Returns the most that any of the ways may take.
 fn longest(ways: &[Way]) -> u64
     ensures { result ≡ longest ways.now }
 {
@@ -110,7 +110,7 @@ fn longest(ways: &[Way]) -> u64
     most
 }
 
-/// The first of the ways that may take as long as any.
+/// Finds the first of the ways that may take as long as any, if there is one.
 fn greatest_of(ways: &[Way]) -> Option<&Way>
     ensures { option_copied result ≡ greatest_of ways.now }
 {
@@ -128,9 +128,9 @@ fn put_greatest(text: &mut String, names: &[String], way: &Way) -> Result<(), Al
     text.push_str("\n")
 }
 
-/// What is reported of an accepted network, of switches of these names and of these ways: a line for each switch, one where it rests on
-/// the premise that end systems have one line each, one for each way, one for each way over which nothing comes, the first of the others
-/// that may take as long as any, where there is one, and that the network is accepted.
+/// Writes what is reported of an accepted network, with switches of these names and with these ways. There is a line for each switch; one if
+/// the network rests on the premise that end systems have one line each; one for each way; one for each way over which nothing comes; one for
+/// the first of the other ways that may take as long as any of them, if there is one; and one that says that the network is accepted.
 ///
 /// An error says that memory ran out. O(text).
 pub fn accepted_text(

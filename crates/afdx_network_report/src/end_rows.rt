@@ -10,7 +10,7 @@ use afdx_measure::Delays;
 use afdx_wiring::End;
 use std::alloc::{AllocError, Global};
 
-/// Returns the least that is promised, where something is.
+/// Returns the least that is promised, if something is.
 fn least_bound(end: &LinkEnd) -> Option<u64>
     ensures { result ≡ least_bound end.now }
 {
@@ -20,7 +20,7 @@ fn least_bound(end: &LinkEnd) -> Option<u64>
     }
 }
 
-/// Returns the most that is promised.
+/// Returns the most that is promised, if something is.
 fn bound_of(end: &LinkEnd) -> Option<u128>
     ensures { result ≡ bound_of end.now }
 {
@@ -30,7 +30,7 @@ fn bound_of(end: &LinkEnd) -> Option<u128>
     }
 }
 
-/// Writes the port at which a link comes in; nothing where there is none.
+/// Writes the port at which a link comes in; nothing if there is none.
 fn come_in_field(alloc: Global, names: &[String], from: Option<End>) -> Result<String, AllocError>
     ensures { IfOk result (λ text. string_bytes text ≡ come_in_field (map string_bytes names.now) from) }
 {
@@ -74,7 +74,7 @@ fn put_fields<'x>(
 }
 
 /// Appends, under these columns, the row of a link at a port at which it leads out of the network: where its frames come in, how many left,
-/// what they took in nanoseconds beside what they may take, and how much of the most the greatest left.
+/// what they took in nanoseconds beside what they may take, and how much the greatest delay left of the most that they may take.
 ///
 /// An error says that memory ran out; the text is then of no use. O(row).
 pub fn put_link_end_row(

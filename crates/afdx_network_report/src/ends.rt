@@ -6,7 +6,7 @@ ghost use Rattle.afdx_network_report.specs.Lines.{name_of, end_text, ends_text};
 use afdx_wiring::End;
 use std::alloc::AllocError;
 
-/// The name at a place, from 0; the empty name where there is none. O(1).
+/// Returns the name at a place, from 0; the empty name if there is none. O(1).
 pub fn name_of(names: &[String], switch: usize) -> &str
     ensures { result.now ≡ name_of (map string_bytes names.now) switch }
 {

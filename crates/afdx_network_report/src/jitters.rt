@@ -17,7 +17,7 @@ fn put_need(text: &mut String, names: &[String], row: &RowNeed) -> Result<(), Al
     write!(text, " jitter_us {}\n", row.need)
 }
 
-/// A line for each row, with the jitter in microseconds that it needs, of switches of these names.
+/// Writes a line for each row, with the jitter in microseconds that it needs. The switches have these names.
 ///
 /// An error says that memory ran out. O(text).
 pub fn jitter_text(alloc: Global, names: &[String], rows: &[RowNeed]) -> Result<String, AllocError>

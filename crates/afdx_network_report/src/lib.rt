@@ -1,7 +1,7 @@
 //! What is reported of a network: the ways of its links, the jitters of its rows, the reports of its switches.
 //!
-//! A switch is named by the name at its place among these names; the lines are those of `specs/Lines.antt`, the comma-separated values
-//! those of `specs/Rows.antt`.
+//! A switch is named by the name at its place among those that are given. The lines are those of `specs/Lines.antt`, the comma-separated
+//! values those of `specs/Rows.antt`.
 //!
 //! # Example
 //!

@@ -17,15 +17,15 @@ use std::alloc::AllocError;
 pub struct LinkEnd {
     /// The number of the link.
     pub link: u16,
-    /// The port at which its frames come in to the network; none where no port does so.
+    /// The port at which its frames come in to the network; none if there is no such port.
     pub from: Option<End>,
     pub to: End,
-    /// What a frame may take from the one to the other, in nanoseconds, where that is promised.
+    /// What a frame may take from the one to the other, in nanoseconds, if that is promised.
     pub bounds: Option<Bounds>,
 }
 
 impl LinkEnd {
-    /// The end of a way.
+    /// Makes the end of a way.
     pub fn of_way(way: &Way) -> LinkEnd
         ensures { result ≡ link_end_of way.now }
     {
@@ -38,7 +38,7 @@ impl LinkEnd {
     }
 }
 
-/// Appends what comes before a number, and the number, or `-` where there is none.
+/// Appends what comes before a number, and the number, or `-` if there is none.
 fn put_number(text: &mut String, before: &str, number: Option<u64>) -> Result<(), AllocError>
     ensures { OnOk result (string_bytes text.new ≡ string_bytes text.old ++ before.now ++ number_text number) }
 {
@@ -49,7 +49,7 @@ fn put_number(text: &mut String, before: &str, number: Option<u64>) -> Result<()
     }
 }
 
-/// Appends the port at which a link comes in, or `-` where there is none.
+/// Appends the port at which a link comes in, or `-` if there is none.
 fn put_from(text: &mut String, names: &[String], from: Option<End>) -> Result<(), AllocError>
     ensures { OnOk result (string_bytes text.new ≡ string_bytes text.old ++ come_in_text (map string_bytes names.now) from) }
 {
@@ -67,7 +67,7 @@ fn put_delays(text: &mut String, delays: &Delays) -> Result<(), AllocError>
     put_number(text, " greatest ", delays.greatest())
 }
 
-/// Appends what is promised of them.
+/// Appends what is promised of delays.
 fn put_bounds(text: &mut String, bounds: Option<Bounds>) -> Result<(), AllocError>
     ensures { OnOk result (string_bytes text.new ≡ string_bytes text.old ++ bounds_text bounds) }
 {

@@ -1,4 +1,4 @@
-//! The same as comma-separated values.
+//! The ways of a network's links and the jitters of its rows, as comma-separated values.
 
 ghost use Rattle.std.specs.Prelude.{◌≡◌, ◌++◌, codes, decimal, map, flat_map, string_bytes, IfOk, OnOk};
 ghost use Rattle.afdx_network_report.specs.Lines.{end_text};
@@ -17,7 +17,7 @@ const WAYS: &[&str] = &["link", "from", "to", "ways", "least", "most", "jitter"]
 /// The columns of `network jitter`.
 const JITTERS: &[&str] = &["switch", "link", "jitter_us"];
 
-/// A port: the name of its switch, a dot and its number.
+/// Writes a port: the name of its switch, a dot and its number.
 pub(crate) fn end_field(alloc: Global, names: &[String], end: End) -> Result<String, AllocError>
     ensures { IfOk result (λ text. string_bytes text ≡ end_text (map string_bytes names.now) end) }
 {
@@ -26,7 +26,7 @@ pub(crate) fn end_field(alloc: Global, names: &[String], end: End) -> Result<Str
     Ok(text)
 }
 
-/// Ports, with semicolons between them.
+/// Writes ports, with semicolons between them.
 fn ends_field(alloc: Global, names: &[String], ends: &[End]) -> Result<String, AllocError>
     ensures { IfOk result (λ text. string_bytes text ≡ joined (map (end_text (map string_bytes names.now)) ends.now)) }
 {
@@ -42,7 +42,7 @@ fn ends_field(alloc: Global, names: &[String], ends: &[End]) -> Result<String, A
     Ok(text)
 }
 
-/// Numbers, with semicolons between them.
+/// Writes numbers, with semicolons between them.
 fn numbers_field(alloc: Global, numbers: &[u64]) -> Result<String, AllocError>
     ensures { IfOk result (λ text. string_bytes text ≡ joined (map decimal numbers.now)) }
 {
@@ -140,8 +140,8 @@ fn put_all_lost(
     Ok(())
 }
 
-/// What is reported of an accepted network, of switches of these names and of these ways, as comma-separated values: a row for each
-/// way, and then one for each way over which nothing comes.
+/// Writes what is reported of an accepted network, with switches of these names and with these ways, as comma-separated values: a row
+/// for each way, and then one for each way over which nothing comes.
 ///
 /// An error says that memory ran out. O(text).
 pub fn ways_rows(
@@ -184,7 +184,7 @@ fn put_needs(text: &mut String, names: &[String], rows: &[RowNeed]) -> Result<()
     Ok(())
 }
 
-/// The jitters in microseconds that the rows of tables need, of switches of these names, as comma-separated values.
+/// Writes the jitters in microseconds that the rows of tables need, as comma-separated values. The switches have these names.
 ///
 /// An error says that memory ran out. O(text).
 pub fn needs_rows(alloc: Global, names: &[String], rows: &[RowNeed]) -> Result<String, AllocError>

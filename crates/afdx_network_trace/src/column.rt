@@ -1,11 +1,11 @@
-//! The column of these numbers in the text of a switch's arrivals.
+//! The column of the numbers that frames had at their first switches, in the text of a switch's arrivals.
 
 ghost use Rattle.std.specs.Prelude.{◌≡◌, ◌++◌, ◌∷◌, ◌+◌, [], codes, string_bytes, option_and_then, slice_get, if◌then◌else◌, IfOk, OnOk, ◌==◌};
 ghost use Rattle.afdx_network_trace.specs.Column.{number_or_none, field_of, with_column};
 
 use std::alloc::{AllocError, Global};
 
-/// The field of a number, with the comma before it.
+/// Writes the field of a number, with the comma before it.
 fn number_field(alloc: Global, number: Option<usize>) -> Result<String, AllocError>
     ensures { IfOk result (λ field. string_bytes field ≡ codes "," ++ number_or_none number) }
 {
@@ -17,7 +17,7 @@ fn number_field(alloc: Global, number: Option<usize>) -> Result<String, AllocErr
     Ok(field)
 }
 
-/// The number at a place; none where there is no such place.
+/// Returns the number at a place; none if there is no such place.
 fn number_at(firsts: &[Option<usize>], place: usize) -> Option<usize>
     ensures { result ≡ option_and_then (λ first. first) (slice_get firsts.now place) }
 {
@@ -27,7 +27,7 @@ fn number_at(firsts: &[Option<usize>], place: usize) -> Option<usize>
     }
 }
 
-/// Appends the field of a line, of which the first is the heading.
+/// Appends the field of a line; the first line is the heading.
 fn put_field(
     alloc: Global,
     text: &mut Vec<u8>,
@@ -45,8 +45,8 @@ fn put_field(
     }
 }
 
-/// The text of a switch's arrivals, a heading and a line for each, with one more column, `origin`: the number that the frame of the
-/// arrival had at its first switch, empty where this is that one.
+/// Adds a column, `origin`, to the text of a switch's arrivals, which is a heading and a line for each: the number that the frame of the
+/// arrival had at its first switch, empty if this is that one.
 ///
 /// An error says that memory ran out. O(text).
 pub fn with_first_numbers(

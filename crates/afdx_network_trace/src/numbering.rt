@@ -11,7 +11,7 @@ use std::alloc::{AllocError, Global};
 /// A way has each switch at most once, and there are at most so many.
 const MOST_SWITCHES: usize = 64;
 
-/// The places of arrivals among those of their ports, each counted from 0. O(arrivals).
+/// Returns the places of arrivals among those of their ports, each counted from 0. O(arrivals).
 fn places_of(alloc: Global, rows: &[Row]) -> Result<Vec<usize>, AllocError>
     ensures { IfOk result (λ places. places.items ≡ places_of rows.now) }
 {
@@ -26,7 +26,7 @@ fn places_of(alloc: Global, rows: &[Row]) -> Result<Vec<usize>, AllocError>
     Ok(places)
 }
 
-/// Those of all switches.
+/// Returns these places of the arrivals at each switch.
 fn all_places(alloc: Global, dones: &[Done<'_, Global>]) -> Result<Vec<Vec<usize>>, AllocError>
     ensures { IfOk result (λ all. map (λ places. places.items) all.items ≡ map (λ s. places_of s.run.rows) dones.now) }
 {
@@ -37,7 +37,7 @@ fn all_places(alloc: Global, dones: &[Done<'_, Global>]) -> Result<Vec<Vec<usize
     Ok(all)
 }
 
-/// What is looked through for where a frame came from.
+/// What is looked through to find where a frame came from.
 #[derive(Drop)]
 struct Search<'s, 'a> {
     network: &'s Network,
@@ -47,7 +47,7 @@ struct Search<'s, 'a> {
 }
 
 impl<'s, 'a> Search<'s, 'a> {
-    /// The place of the arrival of a number at a switch among those of its port. O(1).
+    /// Returns the place of the arrival with a number at a switch, among those of its port. O(1).
     fn place_at(&self, switch: usize, number: usize) -> Option<usize>
         ensures { result ≡ place_at self.now.dones.now switch number }
     {
@@ -56,7 +56,7 @@ impl<'s, 'a> Search<'s, 'a> {
         Some(*place)
     }
 
-    /// The row of an arrival. O(1).
+    /// Returns the row of an arrival. O(1).
     fn row_at(&self, switch: usize, number: usize) -> Option<&Row>
         ensures { option_copied result ≡ row_at self.now.dones.now switch number }
     {
@@ -64,7 +64,7 @@ impl<'s, 'a> Search<'s, 'a> {
         done.rows().get(number)
     }
 
-    /// The wire over which it came. O(wires).
+    /// Finds the wire over which an arrival came, if it came over one. O(wires).
     fn wire_of(&self, switch: usize, number: usize) -> Option<&Wire>
         ensures { option_copied result ≡ wire_of self.now.network.now self.now.dones.now switch number }
     {
@@ -73,7 +73,7 @@ impl<'s, 'a> Search<'s, 'a> {
         self.network.wire_to(End { switch, port })
     }
 
-    /// The number of the frame of the copy at a place of what a port sent. O(ports).
+    /// Returns the number of the frame of the copy at a place of what a port sent. O(ports).
     fn number_at(&self, from: End, place: usize) -> Option<usize>
         ensures { result ≡ option_map (λ x. x.item.number) (copy_at self.now.dones.now from place) }
     {
@@ -82,7 +82,7 @@ impl<'s, 'a> Search<'s, 'a> {
         Some(copy.item.number)
     }
 
-    /// The number that the frame of an arrival that came over a wire had at the switch where the wire begins. O(ports).
+    /// Returns the number that the frame of an arrival that came over a wire had at the switch where the wire begins. O(ports).
     fn number_before(&self, wire: &Wire, switch: usize, number: usize) -> Option<usize>
         ensures { result ≡ number_before self.now.dones.now wire.now switch number }
     {
@@ -90,8 +90,8 @@ impl<'s, 'a> Search<'s, 'a> {
         self.number_at(wire.from, place)
     }
 
-    /// The number that the frame of an arrival had at its first switch, over at most so many switches; none where this is its first
-    /// switch. O(wires) for each switch of the way.
+    /// Returns the number that the frame of an arrival had at its first switch, over at most so many switches; none if this is its first
+    /// switch. O(wires + ports) for each switch of the way.
     #[tactic(auto, using(crate::proofs::Walking::first_step))]
     fn first_within(&self, switches: usize, switch: usize, number: usize) -> Option<usize>
         ensures { result ≡ first_within switches self.now.network.now self.now.dones.now switch number }
@@ -105,14 +105,14 @@ impl<'s, 'a> Search<'s, 'a> {
         }
     }
 
-    /// The same over all switches of its way. O(wires) for each.
+    /// Returns the same number over all switches of its way. O(wires + ports) for each.
     fn first_number(&self, switch: usize, number: usize) -> Option<usize>
         ensures { result ≡ first_number self.now.network.now self.now.dones.now switch number }
     {
         self.first_within(MOST_SWITCHES, switch, number)
     }
 
-    /// Those of all arrivals at a switch.
+    /// Returns the numbers that the frames of all arrivals at a switch had at their first switches.
     fn at_switch(
         &self,
         alloc: Global,
@@ -128,7 +128,7 @@ impl<'s, 'a> Search<'s, 'a> {
         Ok(firsts)
     }
 
-    /// Those at all switches.
+    /// Returns these numbers for the arrivals at each switch.
     fn at_all(&self, alloc: Global) -> Result<Vec<Vec<Option<usize>>>, AllocError>
         ensures { IfOk result (λ all. HaveFirstNumbers self.now.network.now self.now.dones.now (map (λ firsts. firsts.items) all.items)) }
     {
@@ -142,10 +142,10 @@ impl<'s, 'a> Search<'s, 'a> {
     }
 }
 
-/// Of each arrival at each switch of a network the number that its frame had among the arrivals at its first switch; none where this is its
-/// first switch. The switches are finished, and kept their lists.
+/// Returns, for each arrival at each switch of a network, the number that its frame had among the arrivals at its first switch; none if this
+/// is its first switch. The switches are finished, and kept their lists.
 ///
-/// An error says that memory ran out. O(arrivals), and O(wires) for each of them and each switch of its way.
+/// An error says that memory ran out. O(arrivals), and O(wires + ports) for each of them and each switch of its way.
 pub fn first_numbers(
     alloc: Global,
     network: &Network,

@@ -29,13 +29,13 @@ pub(crate) struct AtLink {
     delays: Vec<Delays>,
 }
 
-/// Whether so much time has gone from an instant to another one that no copy of a frame that came then can leave.
+/// Returns whether so much time has gone from an instant to another one that no copy of a frame that came at the former can leave any more.
 fn is_past(at: Stamp, now: Stamp) -> bool {
     at.ns().saturating_add(KEPT) < now.ns()
 }
 
-/// When the one of these frames that came at an instant had come to its first switch. They are looked through from the last one back, since
-/// copies do not wait for long. O(frames that came later).
+/// Returns when the one of these frames that came at an instant had come to its first switch, if there is one. They are looked through from
+/// the last one back, since copies do not wait for long. O(frames that came later).
 fn first_in(frames: &[Coming], at: Stamp) -> Option<Stamp>
     ensures { IfSome result (λ first. Contains frames.now (record { at = at; first = first })) }
 {
@@ -51,7 +51,7 @@ fn first_in(frames: &[Coming], at: Stamp) -> Option<Stamp>
 }
 
 impl AtLink {
-    /// A link of which nothing is known, with so many output ports.
+    /// Makes a link of which nothing is known, with so many output ports.
     ///
     /// An error says that memory ran out. O(ports), 32 bytes for each.
     pub(crate) fn new(alloc: Global, ports: usize) -> Result<AtLink, AllocError>
@@ -63,7 +63,8 @@ impl AtLink {
         })
     }
 
-    /// When the frame that came at an instant had come to its first switch; none where no such frame is known. O(frames that came later).
+    /// Returns when the frame that came at an instant had come to its first switch; none if no such frame is known. O(frames that came
+    /// later).
     pub(crate) fn first_of(&self, at: Stamp) -> Option<Stamp>
         ensures { IfSome result (λ first. Contains self.now.coming.items (record { at = at; first = first })) }
     {
@@ -74,7 +75,7 @@ impl AtLink {
         }
     }
 
-    /// Forgets the first frame, where no copy of it can leave after an instant. Whether it did.
+    /// Forgets the first frame, if no copy of it can leave after an instant. Returns whether it did.
     fn forget_one(&mut self, now: Stamp) -> bool
         ensures delays { self.new.delays ≡ self.old.delays }
         ensures some { IsTrue result → (gone : Seen) × (self.old.coming.items ≡ gone ∷ self.new.coming.items) }
@@ -98,7 +99,7 @@ impl AtLink {
         while self.forget_one(now) {}
     }
 
-    /// Knows one frame more.
+    /// Adds one frame that came over a wire.
     ///
     /// An error says that memory ran out. O(1), over all calls.
     pub(crate) fn add(&mut self, coming: Coming) -> Result<(), AllocError>
@@ -125,7 +126,7 @@ impl AtLink {
         Ok(())
     }
 
-    /// The delays at the port of a place; those of no copies where there is no such port. O(1).
+    /// Returns the delays at the port at a place; those of no copies if there is no such port. O(1).
     pub(crate) fn delays_at(&self, place: usize) -> Delays
         ensures { result ≡ slice_index_or self.now.delays.items place (summary_of []) }
     {

@@ -18,7 +18,7 @@ pub(crate) struct AtSwitch {
 }
 
 impl AtSwitch {
-    /// A switch with this table, at which nothing is known.
+    /// Makes a switch with this table, at which nothing is known.
     ///
     /// An error says that memory ran out. O(links), and 32 bytes for each of their ports.
     pub(crate) fn new(alloc: Global, table: &Table) -> Result<AtSwitch, AllocError>
@@ -32,14 +32,15 @@ impl AtSwitch {
         Ok(AtSwitch { links })
     }
 
-    /// When the frame of the link at a place that came at an instant had come to its first switch; none where no such frame is known.
+    /// Returns when the frame of the link at a place that came at an instant had come to its first switch; none if no such frame is
+    /// known.
     pub(crate) fn first_of(&self, place: usize, at: Stamp) -> Option<Stamp>
         ensures { (a : Seen) → IfSome result (λ first. Contains (slice_index_or self.now.links.items place a).coming.items (record { at = at; first = first })) }
     {
         self.links.get(place)?.first_of(at)
     }
 
-    /// Knows one frame more of the link at a place.
+    /// Adds one frame of the link at a place, which came over a wire.
     ///
     /// An error says that memory ran out, or that there is no such link.
     pub(crate) fn add(&mut self, place: usize, coming: Coming) -> Result<(), AllocError>
@@ -63,7 +64,8 @@ impl AtSwitch {
         self.links[place].note(port, delay)
     }
 
-    /// The delays of the link at a place, at the port at a place of its row; those of no copies where there is no such link or port.
+    /// Returns the delays of the link at a place, at the port at a place of its row; those of no copies if there is no such link or
+    /// port.
     pub(crate) fn delays_at(&self, place: usize, port: usize) -> Delays
         ensures { (a : Seen) → place < length self.now.links.items → result ≡ slice_index_or (slice_index_or self.now.links.items place a).delays.items port (summary_of []) }
     {

@@ -47,21 +47,21 @@ impl<'n> Model for Origins<'n> {
     ghost invariant = { λ o. AreKnown o.network.now o.sent.items o.switches.items };
 }
 
-/// The place of a port among those of a link's row. O(ports).
+/// Returns the place of a port among those of a link's row, if it is one of them. O(ports).
 fn place_in(link: &LinkRow, port: u8) -> Option<usize>
     ensures { result ≡ position (λ to. to == port) link.now.to }
 {
     link.to.as_slice().iter().position(|to| *to == port)
 }
 
-/// Whether two ends are one port.
+/// Returns whether two ends are one port.
 fn is_end(one: End, other: End) -> bool
     ensures { result ≡ is_end one other }
 {
     one.switch == other.switch && one.port == other.port
 }
 
-/// The row of a link in the table of a switch, and its place there. O(1).
+/// Returns the row of a link in the table of a switch, and its place there, if there is one. O(1).
 fn row_at(network: &Network, switch: usize, link: u16) -> Option<(usize, &LinkRow)>
     ensures { IfSome result (λ at. IsRowAt network.now switch link at.0 at.1.now) }
 {
@@ -73,8 +73,8 @@ fn row_at(network: &Network, switch: usize, link: u16) -> Option<(usize, &LinkRo
     Some((place, row))
 }
 
-/// When the frame of a copy that a switch sent had come to its first switch: where no wire goes to the port of the link's row, when it
-/// came to this one; none where it is not known.
+/// Returns when the frame of a copy that a switch sent had come to its first switch: when it came to this one, if no wire goes to the port
+/// of the link's row. None if it is not known.
 fn first_of(
     network: &Network,
     switches: &[AtSwitch],
@@ -97,8 +97,8 @@ fn first_of(
     }
 }
 
-/// The frame of a copy that ended at an instant is on its way over a wire, where the switch at its end has a row of the link that the
-/// wire feeds. `first` is when it had come to its first switch.
+/// Notes that the frame of a copy that ended at an instant is on its way over a wire, if the switch at the wire's end has a row of the link
+/// that the wire feeds. `first` is when the frame had come to its first switch.
 fn bring(
     network: &Network,
     switches: &mut [AtSwitch],
@@ -123,7 +123,7 @@ fn bring(
     switches[wire.to.switch].add(place, Coming { at, first })
 }
 
-/// Whether a wire is the first that goes to its port. O(wires).
+/// Returns whether a wire is the first that goes to its port. O(wires).
 fn is_first(network: &Network, wire: &Wire) -> bool
     ensures { IsTrue result ↔ (wire_to network.now wire.now.to ≡ Some wire.now) }
 {
@@ -133,7 +133,8 @@ fn is_first(network: &Network, wire: &Wire) -> bool
     }
 }
 
-/// So it is over a wire, where it begins at a port and is the first that goes to its end. O(wires).
+/// Notes as `bring` does that a frame is on its way over a wire, if the wire begins at a port and is the first that goes to its end.
+/// O(wires).
 fn bring_from(
     network: &Network,
     switches: &mut [AtSwitch],
@@ -155,7 +156,7 @@ fn bring_from(
     bring(network, switches, wire, link, end, first)
 }
 
-/// So it is over all wires that begin at a port. O(wires) for each of them.
+/// Notes as `bring` does that a frame is on its way over all wires that begin at a port. O(wires) for each of them.
 fn carry(
     network: &Network,
     switches: &mut [AtSwitch],
@@ -189,7 +190,7 @@ fn note_delay(
     switches[switch].note(place, port, delay)
 }
 
-/// A switch at which nothing is known for each of a network's. O(links) of all tables.
+/// Makes a switch at which nothing is known for each switch of a network. O(links) of all tables.
 fn nothing_known(alloc: Global, network: &Network) -> Result<Vec<AtSwitch>, AllocError>
     ensures { IfOk result (λ switches. AreKnown network.now [] switches.items) }
 {
@@ -201,7 +202,7 @@ fn nothing_known(alloc: Global, network: &Network) -> Result<Vec<AtSwitch>, Allo
 }
 
 impl<'n> Origins<'n> {
-    /// Of a network of which nothing was sent.
+    /// Makes the delays of a network of which nothing was sent.
     ///
     /// An error says that memory ran out. O(links) of all tables, and 32 bytes for each of their ports.
     pub fn new(alloc: Global, network: &'n Network) -> Result<Origins<'n>, AllocError>
@@ -248,7 +249,7 @@ impl<'n> Origins<'n> {
         })
     }
 
-    /// The delays of the copies of a link that a port sent; none where the switch has no row of the link that leads there. O(ports).
+    /// Returns the delays of the copies of a link that a port sent; none if the switch has no row of the link that leads there. O(ports).
     pub fn delays_at(&self, link: u16, from: End) -> Option<Delays>
         ensures { IfSome result (IsSummary self.now.net self.now.sent link from) }
     {

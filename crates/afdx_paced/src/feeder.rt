@@ -35,7 +35,7 @@ pub(crate) struct Feeder<'a, A: Allocator> {
     pub(crate) lanes: Vec<Lane<'a, A>, A>,
 }
 
-/// The fault that an arrival is refused for where its port is the table's and its stamp does not go back.
+/// Returns the fault of an arrival that was refused, though its port is the table's and its stamp does not go back: memory ran out.
 fn out_of_memory(fault: CoreFault) -> AllocError
     requires { not_of_memory fault ≡ None }
 {
@@ -45,7 +45,7 @@ fn out_of_memory(fault: CoreFault) -> AllocError
     }
 }
 
-/// The instant so many nanoseconds before another one, or 0.
+/// Returns the instant so many nanoseconds before another one, or 0.
 fn sooner(instant: Stamp, by: u64) -> Stamp
     ensures { (result ≡ 0) ⊎ (result + by ≤ instant) }
 {
@@ -55,7 +55,7 @@ fn sooner(instant: Stamp, by: u64) -> Stamp
     }
 }
 
-/// A lane for each port. O(ports).
+/// Makes a lane for each port. O(ports).
 fn lanes_of<'a, A: Allocator + Copy>(
     alloc: A,
     ports: &[PortRow],
@@ -69,7 +69,7 @@ fn lanes_of<'a, A: Allocator + Copy>(
     Ok(lanes)
 }
 
-/// The stamps of the first records that wait, by the lanes' places. O(lanes).
+/// Returns the stamps of the first records that wait, by the lanes' places. O(lanes).
 fn heads_of<A: Allocator + Copy>(lanes: &[Lane<'_, A>]) -> Instants
     requires { length lanes.now ≤ 24 }
     ensures { result ≡ heads_of lanes.now }
@@ -81,7 +81,7 @@ fn heads_of<A: Allocator + Copy>(lanes: &[Lane<'_, A>]) -> Instants
     heads
 }
 
-/// The place of the first of these instants, where it lies before another one. O(1).
+/// Returns the place of the first of these instants, if it lies before another one. O(1).
 fn first_before(heads: &Instants, until: Stamp) -> Option<usize>
     ensures { MatchOption result (NoneBefore until heads.now) (IsFirstBefore until heads.now) }
 {
@@ -94,7 +94,7 @@ fn first_before(heads: &Instants, until: Stamp) -> Option<usize>
     }
 }
 
-/// The place of a port's lane. O(ports).
+/// Returns the place of a port's lane, if there is one. O(ports).
 pub(crate) fn place_of<A: Allocator + Copy>(lanes: &[Lane<'_, A>], port: u8) -> Option<usize>
     ensures { result ≡ position (λ l. l.port == port) lanes.now }
 {
@@ -102,7 +102,7 @@ pub(crate) fn place_of<A: Allocator + Copy>(lanes: &[Lane<'_, A>], port: u8) -> 
 }
 
 impl<'a, A: Allocator + Copy> Feeder<'a, A> {
-    /// A switch over a table that took nothing, which notes what is wanted of its run.
+    /// Makes a switch over a table, which took nothing and notes what is wanted of its run.
     pub(crate) fn new(alloc: A, table: Table, wanted: Wanted) -> Result<Feeder<'a, A>, AllocError>
         ensures { IfOk result (λ f. IsOfTable f × (f.switch ≡ fresh_state false (keeps_lists wanted) table) × IsGoing 0 f × (f.lanes.items ≡ map (λ p. fresh_parts p.id) table.ports)) }
     {
@@ -117,7 +117,7 @@ impl<'a, A: Allocator + Copy> Feeder<'a, A> {
         })
     }
 
-    /// A record goes to the switch, and is counted.
+    /// Gives a record to the switch, and counts it.
     fn give(&mut self, port: u8, frame: Record<'a, A>) -> Result<(), AllocError>
         requires early { frame.stamp < last_second }
         requires none_else { refusal_of self.old.switch.run port frame.stamp ≡ None }
@@ -135,7 +135,7 @@ impl<'a, A: Allocator + Copy> Feeder<'a, A> {
         Ok(())
     }
 
-    /// The first of all records that wait goes to the switch, where it comes before the instant. Whether it did. O(1).
+    /// Gives the switch the first of all records that wait, if it comes before the instant. Returns whether it did. O(1).
     fn give_next(&mut self, heads: &mut Instants, until: Stamp) -> Result<bool, AllocError>
         requires of { IsOfTable self.old }
         requires passing { IsPassing until self.old }
@@ -163,7 +163,7 @@ impl<'a, A: Allocator + Copy> Feeder<'a, A> {
         }
     }
 
-    /// All records that wait before an instant go to the switch, by stamp and then by port. O(ports), and O(1) for each record that
+    /// Gives the switch all records that wait before an instant, by stamp and then by port. O(ports), and O(1) for each record that
     /// goes, beside the switch's own work.
     fn give_before(&mut self, until: Stamp) -> Result<(), AllocError>
         requires of { IsOfTable self.old }
@@ -177,7 +177,7 @@ impl<'a, A: Allocator + Copy> Feeder<'a, A> {
         Ok(())
     }
 
-    /// All records that wait before an instant go to the switch, which comes to it.
+    /// Gives the switch all records that wait before an instant, and lets it come to that instant.
     pub(crate) fn come_to(&mut self, since: Stamp, until: Stamp) -> Result<(), AllocError>
         requires of { IsOfTable self.old }
         requires going { IsGoing since self.old }
@@ -196,7 +196,7 @@ impl<'a, A: Allocator + Copy> Feeder<'a, A> {
         Ok(())
     }
 
-    /// The stamp of the first record that waits. O(ports).
+    /// Returns the stamp of the first record that waits, if there is one. O(ports).
     pub(crate) fn next_arrival(&self) -> Option<Stamp>
         requires of { IsOfTable self.now }
         requires sorted { AllByRecursion IsSorted self.now.lanes.items }
@@ -207,7 +207,7 @@ impl<'a, A: Allocator + Copy> Feeder<'a, A> {
         Some(first.1)
     }
 
-    /// An instant from which the switch comes to the first start that it has not carried out. O(1).
+    /// Returns an instant from which the switch comes to the first start that it has not carried out, if there is one. O(1).
     pub(crate) fn next_start(&self) -> Option<Stamp>
         ensures { IsNextStart self.now.switch.run result }
     {

@@ -17,7 +17,7 @@ pub(crate) struct Lane<'a, A: Allocator> {
     port: u8,
     gone: Gone<Record<'a, A>>,
     waiting: VecDeque<Record<'a, A>, A>,
-    /// The stamp of the last record that came in, 0 where there is none.
+    /// The stamp of the last record that came in, 0 if there is none.
     last: Stamp,
     left: Gone<Record<'a, A>>,
 }
@@ -31,7 +31,7 @@ impl<'a, A: Allocator> Model for Lane<'a, A> {
 }
 
 impl<'a, A: Allocator + Copy> Lane<'a, A> {
-    /// A port at which nothing came in. It takes no memory. O(1).
+    /// Makes the lane of a port at which nothing came in. It takes no memory. O(1).
     pub(crate) fn new(alloc: A, port: u8) -> Lane<'a, A>
         ensures { result ≡ fresh_parts port }
     {
@@ -44,21 +44,21 @@ impl<'a, A: Allocator + Copy> Lane<'a, A> {
         }
     }
 
-    /// The number of the port. O(1).
+    /// Returns the number of the port. O(1).
     pub(crate) fn port(&self) -> u8
         ensures { result ≡ self.now.port }
     {
         self.port
     }
 
-    /// The stamp of the last record that came in, 0 where there is none. O(1).
+    /// Returns the stamp of the last record that came in, 0 if there is none. O(1).
     pub(crate) fn last(&self) -> Stamp
         ensures { result ≡ self.now.last }
     {
         self.last
     }
 
-    /// The stamp of the first record that waits. O(1).
+    /// Returns the stamp of the first record that waits, if there is one. O(1).
     pub(crate) fn head(&self) -> Option<Stamp>
         ensures { result ≡ head_of self.now.waiting }
     {
@@ -68,7 +68,7 @@ impl<'a, A: Allocator + Copy> Lane<'a, A> {
         }
     }
 
-    /// A record comes in. O(1).
+    /// Takes a record in, which waits then. O(1).
     pub(crate) fn join(&mut self, frame: Record<'a, A>) -> Result<(), AllocError>
         ensures ok { OnOk result (self.new ≡ joined frame.entry self.old) }
         ensures err { OnErr result (self.new ≡ self.old) }
@@ -80,7 +80,7 @@ impl<'a, A: Allocator + Copy> Lane<'a, A> {
         Ok(())
     }
 
-    /// The first record that waits goes. O(1).
+    /// Takes out the first record that waits, if there is one, to be given to the switch. O(1).
     pub(crate) fn take(&mut self) -> Option<Record<'a, A>>
         ensures { MatchOption result ((self.old.waiting ≡ []) × (self.new ≡ self.old)) (λ frame. Takes frame self.old self.new) }
     {
@@ -89,7 +89,7 @@ impl<'a, A: Allocator + Copy> Lane<'a, A> {
         Some(frame)
     }
 
-    /// A record left. O(1).
+    /// Notes that a record left. O(1).
     pub(crate) fn depart(&mut self, frame: &Record<'a, A>)
         ensures { self.new ≡ departed frame.now self.old }
     {

@@ -10,12 +10,12 @@ use afdx_port::laws::{
 };
 use afdx_session::laws::later_arrivals_change_nothing;
 
-/// Arrivals by stamp are those before an instant by stamp, and then the others by stamp.
+/// Proves that arrivals by stamp are those before an instant by stamp, and then the others by stamp.
 pub fn merges_are_cut()
     ensures { MergesAreCut }
 {}
 
-/// What is not sent before an instant ends no sooner than its line time later.
+/// Proves that what is not sent before an instant ends no sooner than its line time later.
 pub fn nothing_ends_before()
     ensures { NothingEndsBefore }
 {
@@ -23,7 +23,8 @@ pub fn nothing_ends_before()
     events_follow_the_line();
 }
 
-/// What has not left up to an instant leaves no sooner than one latency and the line time of the least frame later.
+/// Proves that what has not left up to an instant leaves no sooner than one latency and the line time of the least
+/// frame later.
 pub fn nothing_leaves_before()
     ensures { NothingLeavesBefore }
 {
@@ -33,7 +34,7 @@ pub fn nothing_leaves_before()
     service_is_of_items();
 }
 
-/// A record that comes in at an instant or later changes nothing of what leaves up to it.
+/// Proves that a record that comes in at an instant or later changes nothing of what leaves up to it.
 pub fn later_records_change_nothing()
     ensures { LaterRecordsChangeNothing }
 {
@@ -41,7 +42,7 @@ pub fn later_records_change_nothing()
     later_arrivals_change_nothing();
 }
 
-/// A record that comes in at an instant or later changes nothing of what is sent up to it.
+/// Proves that a record that comes in at an instant or later changes nothing of what is sent up to it.
 pub fn later_records_send_nothing()
     ensures { LaterRecordsSendNothing }
 {
@@ -49,7 +50,8 @@ pub fn later_records_send_nothing()
     later_arrivals_change_nothing();
 }
 
-/// What is sent up to an instant comes first of what is sent up to a later one.
+/// Proves that what is sent up to an instant comes first of what is sent up to a later one, and of all that is
+/// sent.
 pub fn sends_go_on()
     ensures { SendsGoOn }
 {
@@ -57,7 +59,7 @@ pub fn sends_go_on()
     stamps_keep_their_order();
 }
 
-/// What leaves up to an instant comes first of what leaves up to a later one.
+/// Proves that what leaves up to an instant comes first of what leaves up to a later one, and of all that leaves.
 pub fn out_goes_on()
     ensures { OutGoesOn }
 {
@@ -65,7 +67,8 @@ pub fn out_goes_on()
     stamps_keep_their_order();
 }
 
-/// What leaves a port leaves one after the other, and each record is of a frame that was captured whole.
+/// Proves that what leaves a port leaves one after the other, and that each record is of a frame that was captured
+/// whole.
 pub fn out_is_in_order()
     ensures { OutIsInOrder }
 {

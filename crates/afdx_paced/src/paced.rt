@@ -73,14 +73,14 @@ impl<'a, A: Allocator> Model for Paced<'a, A> {
     ghost invariant = { λ p. IsOfTable p.feeder × (p.failed ≡ false → IsGoing p.reached p.feeder) };
 }
 
-/// Whether a record of this stamp comes before the instant that the switch has come to, or before the port's last record.
+/// Returns whether a record of this stamp comes before the instant that the switch has come to, or before the port's last record.
 fn is_early(stamp: Stamp, reached: Stamp, last: Stamp) -> bool
     ensures { result ≡ (nat_lt stamp reached || nat_lt stamp last) }
 {
     stamp < reached || stamp < last
 }
 
-/// The first of two instants.
+/// Returns the first of two instants, each of which may be missing.
 fn first_of(one: Option<Stamp>, other: Option<Stamp>) -> Option<Stamp>
     ensures one { IsNoLater result one }
     ensures other { IsNoLater result other }
@@ -92,7 +92,7 @@ fn first_of(one: Option<Stamp>, other: Option<Stamp>) -> Option<Stamp>
     }
 }
 
-/// The later of two instants.
+/// Returns the later of two instants.
 fn later_of(one: Stamp, other: Stamp) -> Stamp
     ensures { result ≡ max one other }
 {
@@ -122,7 +122,7 @@ impl<'a, A: Allocator + Copy> Paced<'a, A> {
     /// Nothing changes then. The first that holds, in this order:
     ///
     /// - `NoSuchPort`, `Early`, as their variants say.
-    /// - `Memory` where memory ran out.
+    /// - `Memory` if memory ran out.
     pub fn put(&mut self, port: u8, frame: Record<'a, A>) -> Result<(), PacedFault>
         requires going { self.old.failed ≡ false }
         requires not_late { frame.stamp < last_second }
@@ -141,10 +141,10 @@ impl<'a, A: Allocator + Copy> Paced<'a, A> {
         Ok(())
     }
 
-    /// The switch comes to an instant: it takes what came in before it, by stamp and then by port, and carries out the starts before
-    /// the instant that it reaches, one latency later.
+    /// Lets the switch come to an instant: it takes what came in before it, by stamp and then by port, and carries out the starts before the
+    /// instant that it reaches, one latency later.
     ///
-    /// O(ports), and O(1) for each record that it takes, beside the switch's own work. Where memory runs out, it is of no use any more.
+    /// O(ports), and O(1) for each record that it takes, beside the switch's own work. If memory runs out, it is of no use any more.
     pub fn go_to(&mut self, instant: Stamp) -> Result<(), AllocError>
         requires going { self.old.failed ≡ false }
         requires in_order { self.old.reached ≤ instant }
@@ -157,7 +157,7 @@ impl<'a, A: Allocator + Copy> Paced<'a, A> {
         Ok(())
     }
 
-    /// What the record that [`Paced::next_out`] would hand out next was sent as; none where there is no such record or port. O(ports).
+    /// Returns what the record that [`Paced::next_out`] would hand out next was sent as; none if there is no such record or port. O(ports).
     pub fn next_sent(&self, port: u8) -> Option<Sent>
         requires going { self.now.failed ≡ false }
         ensures { IsNextSent self.now port result }
@@ -171,8 +171,8 @@ impl<'a, A: Allocator + Copy> Paced<'a, A> {
         }
     }
 
-    /// Returns the port's next record that left up to the instant that the switch has come to, and was not handed out; none where there is
-    /// no such record or port. Its bytes are copied: O(ports + bytes).
+    /// Returns the port's next record that left up to the instant that the switch has come to, and was not handed out; none if there is no such
+    /// record or port. Its bytes are copied: O(ports + bytes).
     ///
     /// An error says that memory ran out; nothing changes then.
     pub fn next_out(&mut self, port: u8) -> Result<Option<Record<'a, A>>, AllocError>
@@ -196,8 +196,8 @@ impl<'a, A: Allocator + Copy> Paced<'a, A> {
         }
     }
 
-    /// Returns an instant before which nothing happens at the switch, unless something comes in: the first record that waits lies there, or
-    /// the first start that was not carried out one latency later. None where nothing is left. O(ports).
+    /// Returns an instant before which nothing happens at the switch, unless something comes in: the first record that waits lies there, or the
+    /// first start that was not carried out lies one latency later. None if nothing is left. O(ports).
     pub fn next(&self) -> Option<Stamp>
         requires going { self.now.failed ≡ false }
         ensures { IsNext self.now result }
@@ -211,8 +211,8 @@ impl<'a, A: Allocator + Copy> Paced<'a, A> {
         Some(later_of(first, self.reached))
     }
 
-    /// Takes all that came in, and carries out all that is left: the counts of the run, and the switch, with what was wanted of it. O(ports),
-    /// and O(1) for each record and start, beside the switch's own work.
+    /// Takes all that came in, and carries out all that is left. Returns the counts of the run, and the switch, with what was wanted of it.
+    /// O(ports), and O(1) for each record and start, beside the switch's own work.
     ///
     /// An error says that memory ran out.
     pub fn finish(self) -> Result<(Counts<A>, Measured<'a, A>), AllocError>

@@ -17,7 +17,7 @@ pub struct Mark {
 pub struct Pair {
     pub came: Mark,
     pub left: Mark,
-    /// Nanoseconds from the frame's stamp until the line is free again; 0 where the stamps are off by more.
+    /// Nanoseconds from the frame's stamp until the line is free again; 0 if the stamps are off by more.
     pub delay: u128,
 }
 
@@ -41,7 +41,7 @@ pub enum Event {
 }
 
 impl Event {
-    /// Whether it speaks against the switch. O(1).
+    /// Returns whether it speaks against the switch. O(1).
     pub fn differs(&self) -> bool
         ensures { result ≡ differs self.now }
     {

@@ -30,14 +30,14 @@ impl<'a, A: Allocator> Model for Numbered<'a, A> {
 }
 
 impl<'a, A: Allocator> Numbered<'a, A> {
-    /// Its instant. O(1).
+    /// Returns its instant. O(1).
     pub fn stamp(&self) -> Stamp
         ensures { result ≡ self.now.frame.stamp }
     {
         self.stamp
     }
 
-    /// Its bytes. O(1).
+    /// Returns its bytes. O(1).
     pub fn bytes(&self) -> &[u8]
         ensures bytes { result.now ≡ self.now.frame.bytes }
         ensures limit { length self.now.frame.bytes ≤ captured_limit }
@@ -45,7 +45,7 @@ impl<'a, A: Allocator> Numbered<'a, A> {
         self.frame.bytes()
     }
 
-    /// Its number and its instant. O(1).
+    /// Returns its number and its instant. O(1).
     pub fn mark(&self) -> Mark
         ensures { result ≡ mark_of self.now }
     {
@@ -57,7 +57,7 @@ impl<'a, A: Allocator> Numbered<'a, A> {
 }
 
 impl<'a, A: Allocator + Copy> Numbered<'a, A> {
-    /// The record of this number, at this instant. An error is out of memory. O(1).
+    /// Makes the record of this number, at this instant. An error is out of memory. O(1).
     pub fn new(
         alloc: A,
         number: u64,
@@ -74,7 +74,7 @@ impl<'a, A: Allocator + Copy> Numbered<'a, A> {
         })
     }
 
-    /// The same record with the same number. An error says that it cannot be shared any more. O(1), no memory.
+    /// Returns the same record with the same number. An error says that it cannot be shared any more. O(1), no memory.
     pub fn again(&self) -> Result<Numbered<'a, A>, AllocError>
         ensures { IfOk result (λ n. n ≡ self.now) }
     {

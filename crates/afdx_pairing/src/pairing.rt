@@ -38,7 +38,7 @@ impl<'a, A: Allocator> Model for Pairing<'a, A> {
 }
 
 impl<'a, A: Allocator + Copy> Pairing<'a, A> {
-    /// A port at which nothing has come or left. It takes no memory.
+    /// Makes a port at which nothing has come or left. It takes no memory.
     pub fn new(alloc: A, limits: Limits) -> Pairing<'a, A>
         ensures { result ≡ at_first limits }
     {
@@ -50,11 +50,11 @@ impl<'a, A: Allocator + Copy> Pairing<'a, A> {
         }
     }
 
-    /// Takes a frame and whether the account passed it. Fails where memory runs out, and then has not taken it. O(bytes, log of the frames that
-    /// are held).
+    /// Takes a frame and whether the account passed it. Fails if memory runs out, and then has not taken it. O(bytes, log of the frames that are
+    /// held).
     ///
-    /// It came no sooner than those that are held, which are found by their instants: a link's frames are taken as its capture has them, in
-    /// the order of stamps, since an account's credit is told in no other order.
+    /// It came no sooner than those that are held, since these are found by their instants. A link's frames are taken as its capture has them, in
+    /// the order of stamps: an account's credit is told in no other order.
     pub fn came(&mut self, frame: Numbered<'a, A>, passes: bool) -> Result<(), AllocError>
         requires waiting { AllByRecursion (λ n. n.frame.stamp ≤ frame.frame.stamp) self.old.waiting }
         requires policed { AllByRecursion (λ n. n.frame.stamp ≤ frame.frame.stamp) self.old.policed }
@@ -71,7 +71,7 @@ impl<'a, A: Allocator + Copy> Pairing<'a, A> {
 
     /// Takes a record that left, and adds what it tells: which frames are missing before it, and what it is.
     ///
-    /// Fails where memory runs out, and then has not taken it. O(frames that are held).
+    /// Fails if memory runs out, and then has not taken it. O(frames that are held).
     pub fn left(
         &mut self,
         left: Numbered<'a, A>,
@@ -89,9 +89,9 @@ impl<'a, A: Allocator + Copy> Pairing<'a, A> {
         Ok(())
     }
 
-    /// Takes notice that nothing leaves before an instant in nanoseconds any more, and adds which frames are missing by that.
+    /// Notes that nothing leaves before an instant in nanoseconds any more, and adds which frames are missing by that.
     ///
-    /// Fails where memory runs out, and then has not taken it. O(frames that are let go).
+    /// Fails if memory runs out, and then has changed nothing. O(frames that are let go).
     pub fn go_on(&mut self, at: u128, events: &mut Vec<Event, A>) -> Result<(), AllocError>
         ensures ok { OnOk result (self.new ≡ kept_at at self.old) }
         ensures told { OnOk result (events.new.items ≡ events.old.items ++ gone_told at self.old) }
@@ -103,9 +103,9 @@ impl<'a, A: Allocator + Copy> Pairing<'a, A> {
         Ok(())
     }
 
-    /// Adds what became of the frames that still wait, where records were recorded up to an instant in nanoseconds, or all had left.
+    /// Adds what became of the frames that still wait. Records were recorded up to an instant in nanoseconds or, if there is none, all had left.
     ///
-    /// Fails where memory runs out. O(frames that are held).
+    /// Fails if memory runs out. O(frames that are held).
     pub fn end(&self, last: Option<u128>, events: &mut Vec<Event, A>) -> Result<(), AllocError>
         ensures told { OnOk result (events.new.items ≡ events.old.items ++ end_told self.now last) }
         ensures untold { OnErr result (events.new.items ≡ events.old.items) }
@@ -119,7 +119,7 @@ impl<'a, A: Allocator + Copy> Pairing<'a, A> {
         Ok(())
     }
 
-    /// What becomes of a frame that waits.
+    /// Returns what becomes of a frame that still waits at the end.
     fn ended(&self, last: Option<u128>, frame: &Numbered<'a, A>) -> Event
         ensures { result ≡ ended self.now.limits last frame.now }
     {
@@ -130,7 +130,7 @@ impl<'a, A: Allocator + Copy> Pairing<'a, A> {
         }
     }
 
-    /// Lets go of all frames of which nothing that leaves at an instant can be; those that wait are missing.
+    /// Lets go of all frames of which no record can be that leaves at an instant; those of them that wait are missing.
     fn keep(&mut self, at: u128, events: &mut Vec<Event, A>)
         requires { vec_len events.old + length self.old.waiting ≤ vec_capacity events.old }
         ensures kept { self.new ≡ kept_at at self.old }
@@ -142,7 +142,7 @@ impl<'a, A: Allocator + Copy> Pairing<'a, A> {
         self.forget(at);
     }
 
-    /// How many of these frames, from the first on, came more than twice the bound before an instant.
+    /// Returns how many of these frames, from the first on, came more than twice the bound before an instant.
     fn gone_by(&self, frames: &Queue<'a, A>, at: u128) -> usize
         ensures gone { result ≡ gone_by self.now.limits at frames.now }
         ensures some { result ≤ length frames.now }
@@ -150,7 +150,7 @@ impl<'a, A: Allocator + Copy> Pairing<'a, A> {
         frames.sooner_than(at.saturating_sub(2 * self.limits.most()))
     }
 
-    /// Takes a record, where no frame is held of which it cannot be.
+    /// Takes a record, given that no frame is held of which it cannot be.
     fn take(&mut self, left: &Numbered<'a, A>, events: &mut Vec<Event, A>)
         requires { vec_len events.old + length self.old.waiting + 1 ≤ vec_capacity events.old }
         ensures paired { self.new ≡ paired (partner self.old left.now.frame) self.old }
@@ -162,7 +162,7 @@ impl<'a, A: Allocator + Copy> Pairing<'a, A> {
         }
     }
 
-    /// Takes the first frames that wait for missing.
+    /// Takes away so many of the first frames that wait, and adds that they are missing.
     fn skip(&mut self, count: usize, events: &mut Vec<Event, A>)
         requires some { count ≤ length self.old.waiting }
         requires room { vec_len events.old + count ≤ vec_capacity events.old }
@@ -177,7 +177,7 @@ impl<'a, A: Allocator + Copy> Pairing<'a, A> {
         }
     }
 
-    /// Lets go of policed frames of which nothing that leaves at an instant can be.
+    /// Lets go of policed frames of which no record can be that leaves at an instant.
     fn forget(&mut self, at: u128)
         ensures { self.new ≡ record self.old { policed = drop (gone_by self.old.limits at self.old.policed) self.old.policed } }
     {
@@ -187,7 +187,7 @@ impl<'a, A: Allocator + Copy> Pairing<'a, A> {
         }
     }
 
-    /// The place of the frame that a record is taken for.
+    /// Returns the place of the frame that a record is taken for; none if it is taken for no frame.
     fn partner(&self, left: &Numbered<'a, A>) -> Option<usize>
         ensures place { result ≡ partner self.now left.now.frame }
         ensures some { IfSome result (λ place. place < length self.now.waiting) }
@@ -198,7 +198,7 @@ impl<'a, A: Allocator + Copy> Pairing<'a, A> {
         }
     }
 
-    /// The place of the first frame that waits and within whose bounds a record left.
+    /// Returns the place of the first frame that waits, has a record's bytes, and within whose bounds that record left.
     fn first_in_bound(&self, left: &Numbered<'a, A>) -> Option<usize>
         ensures place { result ≡ position (λ n. in_bound self.now.limits n.frame left.now.frame) self.now.waiting }
         ensures some { IfSome result (λ place. place < length self.now.waiting) }
@@ -212,7 +212,7 @@ impl<'a, A: Allocator + Copy> Pairing<'a, A> {
         Some(place)
     }
 
-    /// The place of the first frame that waits and came at most twice the bound before a record left.
+    /// Returns the place of the first frame that waits, has a record's bytes, and came before it left, by at most twice the bound.
     fn first_near(&self, left: &Numbered<'a, A>) -> Option<usize>
         ensures place { result ≡ position (λ n. came_within self.now.limits 2 n.frame left.now.frame) self.now.waiting }
         ensures some { IfSome result (λ place. place < length self.now.waiting) }
@@ -220,7 +220,7 @@ impl<'a, A: Allocator + Copy> Pairing<'a, A> {
         self.first_within(&self.waiting, 2, left)
     }
 
-    /// The place of the first of these frames that has a record's bytes and came before it left, by at most so many times the bound.
+    /// Returns the place of the first of these frames that has a record's bytes and came before it left, by at most so many times the bound.
     fn first_within(
         &self,
         frames: &Queue<'a, A>,
@@ -262,7 +262,7 @@ impl<'a, A: Allocator + Copy> Pairing<'a, A> {
         self.begun = true;
     }
 
-    /// What a record is that is taken for a frame.
+    /// Returns what a record is that is taken for a frame.
     fn taken_for(&self, frame: &Numbered<'a, A>, left: &Numbered<'a, A>) -> Event
         ensures { result ≡ taken_for self.now.limits frame.now left.now }
     {
@@ -284,7 +284,7 @@ impl<'a, A: Allocator + Copy> Pairing<'a, A> {
         }
     }
 
-    /// What a record is that is taken for no frame.
+    /// Returns what a record is that is taken for no frame.
     fn alone(&self, left: &Numbered<'a, A>) -> Event
         ensures { result ≡ taken_alone self.now left.now }
     {
@@ -296,14 +296,14 @@ impl<'a, A: Allocator + Copy> Pairing<'a, A> {
         }
     }
 
-    /// Whether a record has the bytes of a frame that was policed at most twice the bound before.
+    /// Returns whether a record has the bytes of a policed frame that came before it left, by at most twice the bound.
     fn is_policed(&self, left: &Numbered<'a, A>) -> bool
         ensures { result ≡ list_any (λ n. came_within self.now.limits 2 n.frame left.now.frame) self.now.policed }
     {
         self.first_within(&self.policed, 2, left).is_some()
     }
 
-    /// The frame that was policed within the bound before a record, and has its bytes.
+    /// Returns the first policed frame that came within the bound before a record left and has its bytes, if there is one.
     fn policed_one(&self, left: &Numbered<'a, A>) -> Option<Mark>
         ensures { result ≡ option_map mark_of (find (λ n. came_within self.now.limits 1 n.frame left.now.frame) self.now.policed) }
     {

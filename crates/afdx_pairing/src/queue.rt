@@ -21,7 +21,7 @@ pub struct Queue<'a, A: Allocator> {
     gone: u64,
 }
 
-/// The place of the next one, counted from the first that ever was in the queue, where so many are gone and so many are there.
+/// Returns the place of the next record, counted from the first that ever was in the queue: so many are gone, and so many are there.
 fn next_place(gone: u64, count: usize) -> Result<u64, AllocError>
     ensures { IfOk result (λ place. (place ≡ gone + count) × (place + 1 < 2 ^ 64)) }
 {
@@ -44,7 +44,7 @@ impl<'a, A: Allocator> Model for Queue<'a, A> {
 }
 
 impl<'a, A: Allocator + Copy> Queue<'a, A> {
-    /// No records. It takes no memory.
+    /// Makes a queue of no records. It takes no memory.
     pub fn new(alloc: A) -> Queue<'a, A>
         ensures { result ≡ [] }
     {
@@ -56,7 +56,7 @@ impl<'a, A: Allocator + Copy> Queue<'a, A> {
         }
     }
 
-    /// How many there are. O(1).
+    /// Returns how many records there are. O(1).
     pub fn len(&self) -> usize
         ensures count { result ≡ length self.now }
         ensures small { result < 2 ^ 63 }
@@ -64,22 +64,22 @@ impl<'a, A: Allocator + Copy> Queue<'a, A> {
         self.items.len()
     }
 
-    /// The one at a place, from the first, 0, on. O(1).
+    /// Returns the record at a place, if there is one; the first is at 0. O(1).
     pub fn get(&self, place: usize) -> Option<&Numbered<'a, A>>
         ensures { option_map (λ n. n.now) result ≡ slice_get self.now place }
     {
         self.items.get(place)
     }
 
-    /// The first one. O(1).
+    /// Returns the first record, if there is one. O(1).
     pub fn front(&self) -> Option<&Numbered<'a, A>>
         ensures { option_map (λ n. n.now) result ≡ slice_get self.now 0 }
     {
         self.items.front()
     }
 
-    /// Adds one, whose instant is no sooner than that of any other. An error is out of memory, also where more than `2^64` ever were in the
-    /// queue: nothing was added then. O(bytes, log of the records).
+    /// Adds a record whose instant is no sooner than that of any other. An error is out of memory, also if the record would be the `2^64`th that
+    /// ever was in the queue: nothing was added then. O(bytes, log of the records).
     pub fn push(&mut self, item: Numbered<'a, A>) -> Result<(), AllocError>
         requires { AllByRecursion (λ n. n.frame.stamp ≤ item.frame.stamp) self.old }
         ensures ok { OnOk result (self.new ≡ self.old ++ item.entry ∷ []) }
@@ -96,7 +96,7 @@ impl<'a, A: Allocator + Copy> Queue<'a, A> {
         Ok(())
     }
 
-    /// Takes the first one away. O(bytes, log of the records).
+    /// Takes the first record away, if there is one. O(bytes, log of the records).
     pub fn pop(&mut self) -> Option<Numbered<'a, A>>
         ensures some { result ≡ slice_get self.old 0 }
         ensures rest { self.new ≡ drop 1 self.old }
@@ -107,7 +107,7 @@ impl<'a, A: Allocator + Copy> Queue<'a, A> {
         Some(item)
     }
 
-    /// How many there are, from the first on, that come sooner than an instant in nanoseconds. O(log of the records).
+    /// Returns how many records, from the first on, come sooner than an instant in nanoseconds. O(log of the records).
     pub fn sooner_than(&self, at: u128) -> usize
         ensures count { result ≡ position_or_len (λ n. nat_le at n.frame.stamp) self.now }
         ensures some { result ≤ length self.now }
@@ -116,7 +116,7 @@ impl<'a, A: Allocator + Copy> Queue<'a, A> {
             .partition_point(|item| u128::from(item.stamp().ns()) < at)
     }
 
-    /// The place of the first one that has these bytes and comes no sooner than an instant in nanoseconds. O(bytes, log of the records).
+    /// Returns the place of the first record that has these bytes and comes no sooner than an instant in nanoseconds. O(bytes, log of the records).
     pub fn first_from(&self, bytes: &[u8], from: u128) -> Option<usize>
         ensures place { result ≡ position (is_from bytes.now from) self.now }
         ensures some { IfSome result (λ place. place < length self.now) }
@@ -126,14 +126,15 @@ impl<'a, A: Allocator + Copy> Queue<'a, A> {
         Some((spot.place - self.gone) as usize)
     }
 
-    /// Whether one has these bytes, and comes no sooner and no later than two instants in nanoseconds. O(bytes, log of the records).
+    /// Returns whether a record has these bytes, and comes no sooner than one instant and no later than another, both in nanoseconds. O(bytes, log
+    /// of the records).
     pub fn has_within(&self, bytes: &[u8], from: u128, last: u128) -> bool
         ensures { result ≡ list_any (is_within bytes.now from last) self.now }
     {
         self.first_within(bytes, from, last).is_some()
     }
 
-    /// The place of the first such one.
+    /// Returns the place of the first record that has these bytes, and comes no sooner than one instant and no later than another.
     fn first_within(&self, bytes: &[u8], from: u128, last: u128) -> Option<usize>
         ensures { result ≡ position (is_within bytes.now from last) self.now }
     {

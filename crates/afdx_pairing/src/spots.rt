@@ -20,7 +20,7 @@ pub(crate) struct Spot {
 /// The spots of the records that have the same bytes, by these.
 pub(crate) type Spots<A> = BTreeMap<Vec<u8, A>, VecDeque<Spot, A>, A>;
 
-/// Adds the spot of a record of these bytes behind those of others. O(bytes, log of the map).
+/// Adds the spot of a record of these bytes after those of others. O(bytes, log of the map).
 pub(crate) fn add<A: Allocator + Copy>(
     alloc: A,
     spots: &mut Spots<A>,
@@ -41,7 +41,7 @@ pub(crate) fn add<A: Allocator + Copy>(
     Ok(())
 }
 
-/// Takes the first spot of these bytes away; whether none is left.
+/// Takes the first spot of these bytes away. Returns whether it was the last one.
 fn take_first<A: Allocator + Copy>(spots: &mut Spots<A>, bytes: &[u8]) -> bool
     ensures none { OnTrue result (spots_at spots.new bytes.now ≡ []) }
     ensures rest { (b : List ℕ) → spots_at spots.new b ≡ (if bytes_eq bytes.now b then drop 1 (spots_at spots.old b) else spots_at spots.old b) }
@@ -65,7 +65,7 @@ pub(crate) fn forget<A: Allocator + Copy>(spots: &mut Spots<A>, bytes: &[u8])
     }
 }
 
-/// The first spot of these bytes whose instant is no sooner than this, in nanoseconds. O(bytes, log of the map).
+/// Returns the first spot of these bytes whose instant, in nanoseconds, is no sooner than this. O(bytes, log of the map).
 pub(crate) fn first_from<A: Allocator + Copy>(
     spots: &Spots<A>,
     bytes: &[u8],

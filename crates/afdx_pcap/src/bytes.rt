@@ -7,7 +7,7 @@ use crate::part::Part;
 use std::alloc::{AllocError, Allocator};
 use std::mem;
 
-/// Some bytes, as std's `Cow` has them, or a part of some that others share.
+/// Bytes, as std's `Cow` has them, or a part of bytes that others share.
 #[derive(Debug, Drop)]
 pub enum Bytes<'a, A: Allocator> {
     Owned(Vec<u8, A>),
@@ -28,7 +28,7 @@ impl<'a, A: Allocator> Bytes<'a, A> {
 }
 
 impl<'a, A: Allocator + Copy> Bytes<'a, A> {
-    /// Shares bytes that are owned, where no more than `most` lie from `end` on. O(1).
+    /// Shares bytes that are owned, if no more than `most` lie from `end` on. O(1).
     fn share(&mut self, alloc: A, end: usize, most: usize) -> Result<(), AllocError>
         requires within { end ≤ length (plain_bytes self.old) }
         ensures bytes { plain_bytes self.new ≡ plain_bytes self.old }
@@ -51,8 +51,9 @@ impl<'a, A: Allocator + Copy> Bytes<'a, A> {
         Ok(())
     }
 
-    /// The bytes from `start` to `end`: lent where these are; shared with these where no more than `most` lie behind them, since to put
-    /// more behind shared bytes takes a copy of them; else a copy. O(1), and O(bytes of the part) where it is a copy.
+    /// Returns the bytes from `start` to `end`: lent if these are; shared with these if these are shared already, or if no more than
+    /// `most` lie after them, since to append to shared bytes takes a copy of them; else a copy. O(1), and O(bytes of the part) if it
+    /// is a copy.
     pub fn part(
         &mut self,
         alloc: A,
@@ -71,7 +72,7 @@ impl<'a, A: Allocator + Copy> Bytes<'a, A> {
         self.cut(alloc, start, end)
     }
 
-    /// The bytes from `start` to `end`: lent or shared where these are, else a copy.
+    /// Returns the bytes from `start` to `end`: lent or shared if these are, else a copy.
     fn cut(&self, alloc: A, start: usize, end: usize) -> Result<Bytes<'a, A>, AllocError>
         requires order { start ≤ end }
         requires within { end ≤ length (plain_bytes self.now) }
@@ -85,7 +86,7 @@ impl<'a, A: Allocator + Copy> Bytes<'a, A> {
         }
     }
 
-    /// Puts more bytes behind those that are not lent: behind a copy of those that are shared. O(more), and O(bytes) then.
+    /// Appends more bytes to those that are not lent; to a copy of them if they are shared. O(more), and O(bytes) then.
     pub fn extend(&mut self, alloc: A, more: &[u8]) -> Result<(), AllocError>
         requires { is_lent self.old ≡ false }
         ensures bytes { plain_bytes self.new ≡ (if is_ok result then plain_bytes self.old ++ more.now else plain_bytes self.old) }
@@ -101,8 +102,8 @@ impl<'a, A: Allocator + Copy> Bytes<'a, A> {
         }
     }
 
-    /// Lets go of the first `count` of bytes that are not lent, and keeps the memory of those that are owned for others.
-    /// O(the rest), and O(1) where they are shared.
+    /// Lets go of the first `count` of bytes that are not lent, and keeps the memory of those that are owned for others. O(the rest),
+    /// and O(1) if they are shared.
     pub fn forget(&mut self, count: usize)
         requires owned { is_lent self.old ≡ false }
         requires within { count ≤ length (plain_bytes self.old) }

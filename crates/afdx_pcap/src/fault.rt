@@ -9,9 +9,9 @@ use thiserror::Error;
 
 /// The first fault of a capture, P1 to P11 in the order in which they are looked for.
 ///
-/// A file has P2 to P5 at its header, else P6 to P11 at the first record that is not sound; these have the
-/// record's number, from 1. P2, P6 and P11 are found only where the input ends. P1 is given where memory ran
-/// out, before anything that lies later in the file. Each message is its variant's name.
+/// A file has P2 to P5 at its header, else P6 to P11 at the first record that is not sound; these have the record's number,
+/// from 1. P2, P6 and P11 are found only at the end of the input. P1 is given if memory ran out, before anything that lies
+/// later in the file. Each message is its variant's name.
 #[derive(Clone, Copy, Debug, PartialEq, Eq, Error)]
 pub enum PcapFault {
     /// P1: out of memory.
@@ -50,7 +50,7 @@ pub enum PcapFault {
 }
 
 impl PcapFault {
-    /// Whether more bytes may mend it: it is found only where the input ends. O(1).
+    /// Returns whether more bytes may mend it: it is found only at the end of the input. O(1).
     pub fn is_cut(self) -> bool
         ensures { result ≡ is_cut self }
     {

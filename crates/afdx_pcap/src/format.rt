@@ -43,7 +43,7 @@ pub struct Head {
 }
 
 impl Format {
-    /// The format of a magic that was read as a big-endian number.
+    /// Returns the format of a magic that was read as a big-endian number, if it is one of the four.
     pub fn of_magic(magic: u32) -> Option<Format>
         ensures { result ≡ format_of magic }
     {
@@ -81,9 +81,9 @@ impl Endian {
         }
     }
 
-    /// The numbers of the record's header at the start.
+    /// Reads the numbers of the record's header at the start.
     ///
-    /// The order is tested once for all four, which each of them would test again.
+    /// The order of the bytes is tested once for all four numbers; each of them would test it again.
     pub fn head_at_start(self, bytes: &[u8]) -> Head
         requires { 16 ≤ length bytes.now }
         ensures { result ≡ head_of self bytes.now }
@@ -110,7 +110,7 @@ impl Endian {
 }
 
 impl Resolution {
-    /// Parts of a second that the fraction counts.
+    /// Returns how many of the parts that the fraction counts make a second.
     pub fn parts_of_second(self) -> u32
         ensures { result ≡ parts_of_second self }
     {
@@ -120,7 +120,7 @@ impl Resolution {
         }
     }
 
-    /// Nanoseconds of such a part.
+    /// Returns the nanoseconds of such a part.
     pub fn nanos(self) -> u32
         ensures { result ≡ nanos self }
     {

@@ -16,14 +16,14 @@ impl Model for Gone {
 }
 
 impl Gone {
-    /// Nothing so far.
+    /// Makes one that holds nothing so far.
     pub fn new() -> Gone
         ensures { result.bytes ≡ [] }
     {
         Gone {}
     }
 
-    /// These bytes too.
+    /// Returns one that holds these bytes too.
     pub fn and(&self, _more: &[u8]) -> Gone
         ensures { result.bytes ≡ self.now.bytes ++ _more.now }
     {

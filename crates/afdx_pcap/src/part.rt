@@ -33,7 +33,7 @@ impl<A: Allocator> Part<A> {
 }
 
 impl<A: Allocator + Copy> Part<A> {
-    /// All of these bytes. They come back where memory ran out. O(1).
+    /// Makes a part of all of these bytes. They come back if memory ran out. O(1).
     pub fn whole(alloc: A, bytes: Vec<u8, A>) -> Result<Part<A>, Vec<u8, A>>
         ensures ok { IfOk result (λ part. part ≡ bytes.items) }
         ensures err { IfErr result (λ back. back ≡ bytes) }
@@ -49,7 +49,7 @@ impl<A: Allocator + Copy> Part<A> {
         }
     }
 
-    /// The bytes of this from `start` to `end`, which both share. O(1).
+    /// Returns the bytes of this from `start` to `end`, which both share. O(1).
     pub fn part(&self, start: usize, end: usize) -> Result<Part<A>, AllocError>
         requires order { start ≤ end }
         requires within { end ≤ length self.now }
@@ -71,7 +71,7 @@ impl<A: Allocator + Copy> Part<A> {
         self.start += count;
     }
 
-    /// A copy of these bytes with more behind them. O(bytes).
+    /// Returns a copy of these bytes with more after them. O(bytes).
     pub fn and(&self, alloc: A, more: &[u8]) -> Result<Vec<u8, A>, AllocError>
         ensures { IfOk result (λ all. all.items ≡ self.now ++ more.now) }
     {

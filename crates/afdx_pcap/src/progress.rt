@@ -24,7 +24,7 @@ pub struct Progress {
 }
 
 impl Progress {
-    /// After the header of these bytes, before any record.
+    /// Reads the header of these bytes, and returns the place after it, before any record.
     fn after_header(bytes: &[u8]) -> Result<Progress, PcapFault>
         ensures place { result ≡ first_place (header_of bytes.now) }
         ensures within { IfOk result (λ p. p.place ≤ length bytes.now) }
@@ -38,7 +38,7 @@ impl Progress {
         })
     }
 
-    /// The record at the start of the rest, and how far it leads.
+    /// Finds the record at the start of the rest, and how far it leads; none if something is wrong with it.
     fn read_on(self, bytes: &[u8], given: usize) -> Option<Next>
         requires { IsPlaced bytes.now given (Some self) }
         ensures begins { IfSome result (BeginsAt bytes.now self) }
@@ -70,8 +70,8 @@ pub struct Next {
 }
 
 impl Next {
-    /// The record: its bytes are lent where these are; where no more than `most` lie behind them it shares them, else it has its own
-    /// copy.
+    /// Makes the record. Its bytes are lent if these are; it shares them if these are shared already, or if no more than `most` lie
+    /// after them; else it has its own copy.
     pub fn record<'a, A: Allocator + Copy>(
         self,
         alloc: A,
@@ -89,7 +89,7 @@ impl Next {
     }
 }
 
-/// How far the bytes were read; after their header, where they were not read so far.
+/// Returns how far the bytes were read; if they were not read so far, the place after their header.
 fn place_in(bytes: &[u8], given: usize, progress: Option<Progress>) -> Result<Progress, PcapFault>
     requires { IsPlaced bytes.now given progress }
     ensures place { result ≡ place_of bytes.now progress }
@@ -102,7 +102,7 @@ fn place_in(bytes: &[u8], given: usize, progress: Option<Progress>) -> Result<Pr
     }
 }
 
-/// The next record after the `given` ones, where there is a whole one.
+/// Finds the next record after the `given` ones, if there is a whole one.
 ///
 /// Only the 24 bytes of the header and the 16 of a record's header are looked at again by a later call.
 pub fn next_record(bytes: &[u8], given: usize, progress: Option<Progress>) -> Option<Next>
@@ -116,7 +116,7 @@ pub fn next_record(bytes: &[u8], given: usize, progress: Option<Progress>) -> Op
     }
 }
 
-/// A fault, unless bytes that may still come can mend it.
+/// Returns a fault, unless bytes that may still come can mend it.
 fn unless_it_waits(closed: bool, fault: PcapFault) -> Option<PcapFault>
     ensures { result ≡ lasting closed fault }
 {
@@ -127,7 +127,7 @@ fn unless_it_waits(closed: bool, fault: PcapFault) -> Option<PcapFault>
     }
 }
 
-/// What is wrong after the `given` records, where no whole one comes; nothing, where the bytes end there or more may mend it.
+/// Finds what is wrong after the `given` records, if no whole one comes; nothing, if the bytes end there or more may mend it.
 pub fn fault_after(
     bytes: &[u8],
     given: usize,

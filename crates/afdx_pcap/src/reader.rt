@@ -15,13 +15,13 @@ use std::marker::Model;
 /// The bytes that a processor gets from memory at once.
 const CACHE_LINE: usize = 64;
 
-/// Reads the records of a capture: of one that comes in pieces, each as soon as its last byte is there; or of
-/// a whole one, which stays where it is.
+/// A reader of the records of a capture: of one that comes in pieces, each record as soon as its last byte is there; or of a whole
+/// one, which stays where it is.
 ///
-/// A reader that is fed lets go of what it has read: after each piece it keeps this and at most twice the bytes before it that
-/// were not read. Its records share these bytes, which stay as long as one of such records does, or have copies of theirs. However
-/// the bytes were cut, feeding them and taking the records is O(bytes). A reader over a whole capture copies nothing: its records
-/// are lent.
+/// A reader that is fed lets go of what it has read: after each piece it keeps this and at most twice the bytes before it that were
+/// not read. Its records share these bytes, which stay as long as one of those records does, or have copies of theirs. However the
+/// bytes were cut, feeding them and taking the records is O(bytes). A reader over a whole capture copies nothing: its records are
+/// lent.
 #[derive(Drop)]
 pub struct Reader<'a, A: Allocator> {
     alloc: A,
@@ -63,7 +63,7 @@ impl<'a, A: Allocator> Model for Reader<'a, A> {
 }
 
 impl<'a, A: Allocator + Copy> Reader<'a, A> {
-    /// A reader of no bytes so far, open, which takes its memory from `alloc`. O(1), no memory.
+    /// Makes an open reader of no bytes so far, which takes its memory from `alloc`. O(1), no memory.
     pub fn new(alloc: A) -> Reader<'a, A>
         ensures { result ≡ record { bytes = []; given = 0; closed = false; fault = None; lent = false } }
     {
@@ -81,7 +81,7 @@ impl<'a, A: Allocator + Copy> Reader<'a, A> {
         }
     }
 
-    /// A reader of these bytes, which are the whole input; it is closed. O(1), no memory, nor is any taken later.
+    /// Makes a closed reader of these bytes, which are the whole input. O(1), no memory, nor is any taken later.
     pub fn over(alloc: A, bytes: &'a [u8]) -> Reader<'a, A>
         ensures { result ≡ whole_reading bytes.now 0 }
     {
@@ -101,7 +101,7 @@ impl<'a, A: Allocator + Copy> Reader<'a, A> {
 
     /// Takes the next piece of the input, at the end of the bytes so far.
     ///
-    /// Only an open reader is fed, which [`Reader::is_closed`] says.
+    /// Only an open reader is fed; [`Reader::is_closed`] says whether it is closed.
     ///
     /// # Errors
     ///
@@ -133,8 +133,8 @@ impl<'a, A: Allocator + Copy> Reader<'a, A> {
         Ok(())
     }
 
-    /// Lets go of what was read, where that is no less than what was not, so that no more bytes are moved than were read.
-    /// O(what was not read), and O(1) where it is shared.
+    /// Lets go of what was read, if that is no less than what was not, so that no more bytes are moved than were read. O(what was
+    /// not read), and O(1) if it is shared.
     fn forget(&mut self)
         requires { self.old.closed ≡ false }
         ensures { self.new ≡ self.old }
@@ -155,16 +155,16 @@ impl<'a, A: Allocator + Copy> Reader<'a, A> {
         self.looked = self.looked.saturating_sub(progress.place);
     }
 
-    /// The next whole record; none where the bytes so far hold neither one nor a fault.
+    /// Returns the next whole record; none if the bytes so far hold neither one nor a fault.
     ///
     /// # Errors
     ///
-    /// The fault of the bytes, with the record's number, after all whole records before it; while the reader
-    /// is open only one that no further bytes can mend, so not P2, P6 or P11. `Memory` where what the
-    /// record's bytes need was refused, so never where they are lent. The same fault is then answered for good.
+    /// The fault of the bytes, with the record's number, after all whole records before it; while the reader is open only one that
+    /// no further bytes can mend, so not P2, P6 or P11. `Memory` if the memory that the record's bytes need was refused, so never if
+    /// they are lent. The same fault is then answered for good.
     ///
-    /// O(1), and O(bytes of the record) where more than the last piece was not read behind it, so that it gets a copy: no byte of an
-    /// earlier record is read again.
+    /// O(1), and O(bytes of the record) if it gets a copy, since more bytes than those of the last piece are left after it: no byte
+    /// of an earlier record is read again.
     pub fn next(&mut self) -> Result<Option<Record<'a, A>>, PcapFault>
         ensures ok { IfOk result (λ found. self.new ≡ record self.old {
           given = (if is_some found then self.old.given + 1 else self.old.given);
@@ -206,8 +206,8 @@ impl<'a, A: Allocator + Copy> Reader<'a, A> {
         }
     }
 
-    /// Finds what is wrong where no whole record comes. It is apart, and hands nothing back through memory, so that the way
-    /// to a record that comes is short.
+    /// Finds what is wrong if no whole record comes. It is apart, and hands nothing back through memory, so that the way to a record
+    /// that comes is short.
     #[cold]
     #[inline(never)]
     fn find_fault(&mut self)
@@ -238,15 +238,14 @@ impl<'a, A: Allocator + Copy> Reader<'a, A> {
         self.looked = end.max(self.looked);
     }
 
-    /// Ends the input: a rest that is no whole record is then a fault of `next`. A second call changes
-    /// nothing. O(1).
+    /// Closes the input: a rest that is no whole record is then a fault of `next`. A second call changes nothing. O(1).
     pub fn close(&mut self)
         ensures { self.new ≡ record self.old { closed = true } }
     {
         self.closed = true;
     }
 
-    /// Whether the input was ended. O(1).
+    /// Returns whether the input was closed. O(1).
     pub fn is_closed(&self) -> bool
         ensures { result ≡ self.now.closed }
     {

@@ -16,11 +16,11 @@ use std::alloc::Allocator;
 /// The greatest seconds of a stamp that is read (profile).
 const GREATEST_SECONDS: u32 = 4_294_967_294;
 
-/// The format that the header at the start of a file names.
+/// Reads the format that the header at the start of a file names.
 ///
 /// # Errors
 ///
-/// The first that applies: `NoHeader` where there are fewer than 24 bytes, `Magic`, `Version`, `LinkType`.
+/// The first that applies: `NoHeader` if there are fewer than 24 bytes, `Magic`, `Version`, `LinkType`.
 ///
 /// O(1), no memory.
 #[tactic(auto, unfolding(crate::specs::Capture::header_of))]
@@ -47,7 +47,7 @@ pub fn read_header(bytes: &[u8]) -> Result<Format, PcapFault>
     Ok(format)
 }
 
-/// The stamp that a record's header gives.
+/// Returns the stamp that a record's header gives.
 fn stamp_in(resolution: Resolution, head: Head) -> Stamp
     requires { head.fraction < parts_of_second resolution }
     ensures { result ≡ stamp_of resolution head }
@@ -58,7 +58,7 @@ fn stamp_in(resolution: Resolution, head: Head) -> Stamp
     stamp
 }
 
-/// The first rule that this header of a record breaks, which is the `number`th and follows one of the stamp `last`.
+/// Finds the first rule that this header of a record breaks; the record is the `number`th and follows one of the stamp `last`.
 fn fault_of_head(
     resolution: Resolution,
     last: Stamp,
@@ -84,7 +84,7 @@ fn fault_of_head(
     None
 }
 
-/// What is wrong with a record of this header, where `left` bytes are left from its first on.
+/// Finds what is wrong with a record of this header, of which `left` bytes are left from its first on.
 #[inline(always)]
 fn fault_behind(
     format: Format,
@@ -105,7 +105,7 @@ fn fault_behind(
     None
 }
 
-/// What is wrong with the record at the start of these bytes, where it is no whole one.
+/// Finds what is wrong with the record at the start of these bytes, if it is no whole one.
 #[tactic(auto, unfolding(crate::specs::Fault::record_fault))]
 pub(crate) fn fault_of_record(
     format: Format,
@@ -131,9 +131,9 @@ pub struct Found {
     pub length: usize,
 }
 
-/// The record at the start of these bytes, by its numbers; none where `fault_of_record` says what is wrong.
+/// Finds the record at the start of these bytes, by its numbers; none if `fault_of_record` says what is wrong.
 ///
-/// It is asked for each record, so no fault is made here: as a result that may be one, the numbers would go through memory.
+/// It is called for each record, so it makes no fault: in a result that may be a fault, the numbers would go through memory.
 #[tactic(auto, unfolding(crate::specs::Fault::record_fault))]
 #[inline(always)]
 pub(crate) fn find_record(format: Format, last: Stamp, number: usize, bytes: &[u8]) -> Option<Found>
@@ -155,15 +155,15 @@ pub(crate) fn find_record(format: Format, last: Stamp, number: usize, bytes: &[u
     }
 }
 
-/// The record at the start of the bytes that are left of a file of this format, which is its `number`th, from 1, and
-/// follows one of the stamp `last`, 0 for the first; and the bytes after it.
+/// Reads the record at the start of the bytes that are left of a file of this format, and returns it with the bytes after it. The
+/// record is the file's `number`th, from 1, and follows one of the stamp `last`, 0 for the first.
 ///
 /// Its bytes are lent, so no memory is taken.
 ///
 /// # Errors
 ///
-/// The first that applies: `CutHeader` where there are fewer than 16 bytes, `Huge`, `Fraction`, `Late`, `Backwards`,
-/// `CutData`. Where more bytes may come, `is_cut` says which of these they may mend.
+/// The first that applies: `CutHeader` if there are fewer than 16 bytes, `Huge`, `Fraction`, `Late`, `Backwards`, `CutData`. If
+/// more bytes may come, `is_cut` says which of these they may mend.
 ///
 /// O(1).
 pub fn read_record<'b, A: Allocator>(

@@ -14,7 +14,7 @@ pub const MAX_CAPTURED: u32 = 262_144;
 
 /// A frame as it was captured: when, how long it was on the line, and which of its bytes were kept.
 ///
-/// It owns these bytes, or they are lent from the capture that it was read from.
+/// It owns these bytes or shares them, or they are lent from the capture that it was read from.
 #[derive(Debug, Drop)]
 pub struct Record<'a, A: Allocator> {
     stamp: Stamp,
@@ -35,9 +35,9 @@ impl<'a, A: Allocator> Model for Record<'a, A> {
 }
 
 impl<'a, A: Allocator> Record<'a, A> {
-    /// A record of these bytes, captured at `stamp`, of a frame of `original` bytes on the line.
+    /// Makes a record of these bytes, captured at `stamp`, of a frame of `original` bytes on the line.
     ///
-    /// The bytes are moved, and come back where they are more than 262,144. O(1).
+    /// The bytes are moved, and come back if they are more than 262,144. O(1).
     pub fn new(stamp: Stamp, original: u32, bytes: Vec<u8, A>) -> Result<Record<'a, A>, Vec<u8, A>>
         ensures ok { IfOk result (λ r. (length bytes.items ≤ captured_limit)
             × (r ≡ record { stamp = stamp; original = original; bytes = bytes.items })) }
@@ -53,8 +53,8 @@ impl<'a, A: Allocator> Record<'a, A> {
         })
     }
 
-    /// A record of these bytes, which stay where they are, captured at `stamp`, of a frame of `original` bytes on
-    /// the line; none where they are more than 262,144. O(1), no memory.
+    /// Makes a record of these bytes, which stay where they are, captured at `stamp`, of a frame of `original` bytes on the line;
+    /// none if they are more than 262,144. O(1), no memory.
     pub fn lent(stamp: Stamp, original: u32, bytes: &'a [u8]) -> Option<Record<'a, A>>
         ensures some { IfSome result (λ r. (length bytes.now ≤ captured_limit)
             × (r ≡ record { stamp = stamp; original = original; bytes = bytes.now })) }
@@ -71,7 +71,7 @@ impl<'a, A: Allocator> Record<'a, A> {
         }
     }
 
-    /// A record of these bytes, whoever owns them.
+    /// Makes a record of these bytes, whoever owns them.
     pub(crate) fn of(stamp: Stamp, original: u32, bytes: Bytes<'a, A>) -> Record<'a, A>
         requires { length (plain_bytes bytes) ≤ captured_limit }
         ensures { result ≡ record { stamp = stamp; original = original; bytes = plain_bytes bytes.entry } }
@@ -83,21 +83,21 @@ impl<'a, A: Allocator> Record<'a, A> {
         }
     }
 
-    /// The instant at which the frame was captured. O(1).
+    /// Returns the instant at which the frame was captured. O(1).
     pub fn stamp(&self) -> Stamp
         ensures { result ≡ self.now.stamp }
     {
         self.stamp
     }
 
-    /// The number of bytes that the frame had on the line, as the capture says. O(1).
+    /// Returns the number of bytes that the frame had on the line, as the capture says. O(1).
     pub fn original(&self) -> u32
         ensures { result ≡ self.now.original }
     {
         self.original
     }
 
-    /// The bytes that were captured, at most 262,144. O(1).
+    /// Returns the bytes that were captured, at most 262,144. O(1).
     pub fn bytes(&self) -> &[u8]
         ensures bytes { result.now ≡ self.now.bytes }
         ensures limit { IsWithinLimit self.now }

@@ -11,7 +11,7 @@ use crate::reader::Reader;
 use crate::record::Record;
 use std::alloc::Allocator;
 
-/// The number of records of a capture, or its first fault. Takes no memory.
+/// Counts the records of a capture, or finds its first fault. Takes no memory.
 fn record_count<A: Allocator + Copy>(alloc: A, bytes: &[u8]) -> Result<usize, PcapFault>
     ensures count { IfOk result (λ n. (rs : List pcap.Record) × IsCapture bytes.now rs × (length rs ≡ n)) }
     ensures fault { IfErr result (IsFault bytes.now) }
@@ -25,15 +25,15 @@ fn record_count<A: Allocator + Copy>(alloc: A, bytes: &[u8]) -> Result<usize, Pc
     Ok(count)
 }
 
-/// The records of a capture, in file order; their bytes are lent from it.
+/// Reads the records of a capture, in file order; their bytes are lent from it.
 ///
 /// The format is pcap 2.4; all four magics are read, and zone, accuracy and snaplen are ignored. An original
 /// length below the captured one is taken as it is.
 ///
 /// # Errors
 ///
-/// The first fault of the file, in the order of [`PcapFault`]; `Memory` where the list was refused, for which room
-/// is made once: only of a file without a fault that has a record.
+/// The first fault of the file, in the order of [`PcapFault`]; `Memory` if the room for the list was refused, which is made once:
+/// only for a file that has a record and no fault.
 ///
 /// Two passes over the records' headers, and no copy of their bytes: O(records).
 pub fn read_all<A: Allocator + Copy>(

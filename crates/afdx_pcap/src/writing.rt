@@ -33,7 +33,7 @@ fn head_bytes(stamp: Stamp, bytes: &[u8]) -> [u8; HEAD_LENGTH]
     head
 }
 
-/// The number of bytes of the whole text; the greatest number where it is more.
+/// Returns the number of bytes of the whole text, or the greatest number if they are more.
 fn text_length<A: Allocator>(records: &[Record<'_, A>]) -> usize
     ensures { result ≡ min (length (capture_text records.now)) usize.MAX }
 {
@@ -61,8 +61,8 @@ pub fn write_header<A: Allocator>(out: &mut Vec<u8, A>) -> Result<(), AllocError
 ///
 /// # Errors
 ///
-/// Out of memory, with nothing appended; never where there is room for the text. The record's bytes are copied once:
-/// O(bytes) amortized.
+/// Out of memory, with nothing appended; never if there is room for the text. The record's bytes are copied once: O(bytes)
+/// amortized.
 #[tactic(auto, unfolding(crate::specs::Text::head_text))]
 pub fn write_record<A: Allocator, B: Allocator>(
     out: &mut Vec<u8, A>,
@@ -81,8 +81,7 @@ pub fn write_record<A: Allocator, B: Allocator>(
 ///
 /// # Errors
 ///
-/// Out of memory, with nothing appended; never where there is room for the text. The bytes are copied once: O(bytes)
-/// amortized.
+/// Out of memory, with nothing appended; never if there is room for the text. The bytes are copied once: O(bytes) amortized.
 pub fn write_frame<A: Allocator>(
     out: &mut Vec<u8, A>,
     stamp: Stamp,
@@ -99,10 +98,10 @@ pub fn write_frame<A: Allocator>(
     out.extend_from_slice(bytes)
 }
 
-/// The one text of these records: pcap 2.4, little-endian, nanoseconds, link type 1.
+/// Returns the one text of these records: pcap 2.4, little-endian, nanoseconds, link type 1.
 ///
-/// An original length is written as the number of bytes. The text is a capture of these records again where
-/// their stamps do not fall, none lies in the last second, and each original is the number of bytes.
+/// An original length is written as the number of bytes. The text is a capture of these records again if their stamps do not
+/// fall, none lies in the last second, and each original is the number of bytes.
 ///
 /// # Errors
 ///

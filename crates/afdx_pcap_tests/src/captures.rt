@@ -17,17 +17,17 @@ use rand_core::SeedableRng;
 use std::alloc::{AllocError, Global};
 use std::test::Fail;
 
-/// The capture of one frame at 0.
+/// Returns the capture of one frame at 0.
 fn one_frame(alloc: Global) -> Result<Vec<u8>, AllocError> {
     joined(alloc, &[HEADER, AT_ZERO, FRAME])
 }
 
-/// The capture of two frames, at 0 and a million nanoseconds later.
+/// Returns the capture of two frames, at 0 and a million nanoseconds later.
 fn two_frames(alloc: Global) -> Result<Vec<u8>, AllocError> {
     joined(alloc, &[HEADER, AT_ZERO, FRAME, AT_A_MILLION, FRAME])
 }
 
-/// The capture of one frame with these bytes written over it from a place on.
+/// Returns the capture of one frame with these bytes written over it from a place on.
 fn patched(alloc: Global, place: usize, patch: &[u8]) -> Result<Vec<u8>, Fail> {
     let bytes = one_frame(alloc)?;
     let end = place.saturating_add(patch.len());
@@ -37,12 +37,12 @@ fn patched(alloc: Global, place: usize, patch: &[u8]) -> Result<Vec<u8>, Fail> {
     }
 }
 
-/// Whether this is the record of the frame at 0.
+/// Returns whether this is the record of the frame at 0.
 fn is_the_frame_at_zero(record: &Record<Global>) -> bool {
     record.stamp() == Stamp::ZERO && record.original() == 60 && record.bytes() == FRAME
 }
 
-/// Whether a capture is that of the frame at 0 alone.
+/// Returns whether a capture is that of the frame at 0 alone.
 fn is_of_the_frame_at_zero(alloc: Global, bytes: &[u8]) -> Result<bool, PcapFault> {
     let records = read_all(alloc, bytes)?;
     Ok(records.len() == 1 && records.iter().all(|record| is_the_frame_at_zero(record)))
@@ -66,7 +66,7 @@ fn append_records(alloc: Global, bytes: &[u8], written: &mut Vec<u8>) -> Result<
     Ok(())
 }
 
-/// A capture that is written record by record is the one that is written at once.
+/// Checks that a capture that is written record by record is the one that is written at once.
 #[test]
 fn written_record_by_record(rt: HostRuntime) -> Result<(), Fail> {
     let bytes = joined(rt.alloc(), &[HEADER, AT_ZERO, FRAME, AT_ZERO, FRAME])?;
@@ -82,7 +82,7 @@ fn written_record_by_record(rt: HostRuntime) -> Result<(), Fail> {
     Ok(())
 }
 
-/// Whether the first record of a capture has this stamp.
+/// Returns whether the first record of a capture has this stamp.
 fn begins_at(alloc: Global, bytes: &[u8], ns: u64) -> Result<bool, PcapFault> {
     let records = read_all(alloc, bytes)?;
     Ok(records.first().map(|record| record.stamp().ns()) == Some(ns))
@@ -102,7 +102,7 @@ fn four_magics(rt: HostRuntime) -> Result<(), Fail> {
     Ok(())
 }
 
-/// The number of records of so many bytes of the capture of two frames, or their fault.
+/// Returns the number of records in so many bytes of the capture of two frames, or their fault.
 fn answer_of(length: usize) -> Result<usize, PcapFault> {
     match length {
         0..=23 => Err(PcapFault::NoHeader),
@@ -116,7 +116,7 @@ fn answer_of(length: usize) -> Result<usize, PcapFault> {
     }
 }
 
-/// Whether this is the answer for some bytes, whole and by a reader.
+/// Returns whether this is the answer for some bytes, read whole and by a reader.
 fn is_answer(alloc: Global, bytes: &[u8], answer: &Result<usize, PcapFault>) -> bool {
     read_whole(alloc, bytes) == *answer && read_piece(alloc, bytes) == *answer
 }
@@ -134,12 +134,12 @@ fn every_cut(rt: HostRuntime) -> Result<(), Fail> {
     Ok(())
 }
 
-/// Whether a whole capture has this fault.
+/// Returns whether a whole capture has this fault.
 fn is_fault(alloc: Global, bytes: &[u8], fault: &PcapFault) -> bool {
     read_whole(alloc, bytes) == Err(*fault)
 }
 
-/// Whether it has this fault also for an open reader, before the input has ended.
+/// Returns whether a capture has this fault when it is whole, and also for an open reader, before the input has ended.
 fn is_fault_at_once(alloc: Global, bytes: &[u8], fault: &PcapFault) -> bool {
     is_fault(alloc, bytes, fault) && is_early_fault(alloc, bytes, fault)
 }
@@ -165,7 +165,7 @@ fn faults_of_whole_captures(rt: HostRuntime) -> Result<(), Fail> {
     Ok(())
 }
 
-/// Whether the first record of a capture has these bytes.
+/// Returns whether the first record of a capture has these bytes.
 fn begins_with(alloc: Global, bytes: &[u8], data: &[u8]) -> Result<bool, PcapFault> {
     let records = read_all(alloc, bytes)?;
     Ok(records.first().is_some_and(|record| record.bytes() == data))
@@ -179,7 +179,7 @@ fn largest_record(rt: HostRuntime) -> Result<(), Fail> {
     Ok(())
 }
 
-/// Whether these bytes come back where a record is made of them.
+/// Returns whether no record is made of these bytes and as many come back.
 fn come_back(bytes: Vec<u8>) -> bool {
     let length = bytes.len();
     match Record::new(Stamp::ZERO, 60, bytes) {
@@ -196,7 +196,7 @@ fn one_byte_too_many(rt: HostRuntime) -> Result<(), Fail> {
     Ok(())
 }
 
-/// The capture of the frame at this instant, of another original length.
+/// Returns the capture of the frame at this instant, with another original length.
 fn written_at(alloc: Global, stamp: Stamp) -> Result<Vec<u8>, Fail> {
     let frame = Vec::from_slice(alloc, FRAME)?;
     let record = Record::new(stamp, 1518, frame).ok().ok_or("a record")?;
@@ -220,7 +220,7 @@ fn byte_by_byte(rt: HostRuntime) -> Result<(), Fail> {
     Ok(())
 }
 
-/// Pieces of these lengths, from the start of the bytes on.
+/// Cuts pieces of these lengths off the bytes, from their start on.
 fn cut<'a>(alloc: Global, bytes: &'a [u8], lengths: &[usize]) -> Result<Vec<&'a [u8]>, AllocError> {
     let mut pieces = Vec::new(alloc);
     let mut rest = bytes;
@@ -232,7 +232,7 @@ fn cut<'a>(alloc: Global, bytes: &'a [u8], lengths: &[usize]) -> Result<Vec<&'a 
     Ok(pieces)
 }
 
-/// As many random lengths, 0 to 49 each, that a seed determines.
+/// Returns so many random lengths of 0 to 49, which the seed determines.
 fn random_lengths(alloc: Global, count: usize, seed: u64) -> Result<Vec<usize>, AllocError> {
     let mut random = SmallRng::seed_from_u64(seed);
     let mut lengths = Vec::new(alloc);
@@ -242,7 +242,7 @@ fn random_lengths(alloc: Global, count: usize, seed: u64) -> Result<Vec<usize>, 
     Ok(lengths)
 }
 
-/// Whether a capture is read in pieces of these lengths.
+/// Returns whether a capture that is read in pieces of these lengths is written as it was.
 fn is_read_in(alloc: Global, bytes: &[u8], lengths: &[usize]) -> Result<bool, PcapFault> {
     let pieces = cut(alloc, bytes, lengths)?;
     are_written_as(alloc, &pieces, bytes)
@@ -289,7 +289,7 @@ fn reader_by_its_calls(rt: HostRuntime) {
     }
 }
 
-/// Whether a fault is printed so.
+/// Returns whether a fault is printed as this name.
 fn is_printed(alloc: Global, fault: &PcapFault, name: &str) -> Result<bool, AllocError> {
     Ok(format!(in alloc; "{fault}")?.as_str() == name)
 }

@@ -5,23 +5,23 @@ use std::alloc::Global;
 
 /// A call of a reader, and what it is to answer.
 pub(crate) enum Call {
-    /// It is fed, which it is open for.
+    /// A piece for the reader, which is open, and the fault that it answers.
     Feed(&'static [u8], Option<PcapFault>),
-    /// Whether it gives a record.
+    /// Whether the reader gives a record, or its fault.
     Next(Result<bool, PcapFault>),
 }
 
-/// Whether a reader gives a record, or its fault.
+/// Takes the next record from a reader, and returns whether there was one, or the fault.
 pub(crate) fn has_next(reader: &mut Reader<'_, Global>) -> Result<bool, PcapFault> {
     Ok(reader.next()?.is_some())
 }
 
-/// Whether a reader is open, and answers this to a piece.
+/// Returns whether a reader is open and answers a piece with this fault, or with none.
 fn takes(reader: &mut Reader<'_, Global>, piece: &[u8], fault: &Option<PcapFault>) -> bool {
     !reader.is_closed() && reader.feed(piece).err() == *fault
 }
 
-/// Whether a reader answers a call as it should.
+/// Returns whether a reader answers a call as it should.
 fn answers(reader: &mut Reader<'_, Global>, call: &Call) -> bool {
     match call {
         Call::Feed(piece, fault) => takes(reader, piece, fault),
@@ -29,7 +29,7 @@ fn answers(reader: &mut Reader<'_, Global>, call: &Call) -> bool {
     }
 }
 
-/// Whether a new reader answers these calls as it should.
+/// Returns whether a new reader answers these calls as it should.
 pub(crate) fn answers_all(alloc: Global, calls: &[Call]) -> bool {
     let mut reader = Reader::new(alloc);
     for call in calls {
@@ -40,7 +40,7 @@ pub(crate) fn answers_all(alloc: Global, calls: &[Call]) -> bool {
     true
 }
 
-/// Whether a reader that is fed byte by byte gives nothing before the last one, and a record then.
+/// Returns whether a reader that is fed byte by byte gives nothing before the last byte, and a record after it.
 fn gives_at_the_last_byte(reader: &mut Reader<'_, Global>, bytes: &[u8]) -> bool {
     for (place, byte) in bytes.iter().enumerate() {
         let is_last = place.saturating_add(1) == bytes.len();
@@ -51,7 +51,7 @@ fn gives_at_the_last_byte(reader: &mut Reader<'_, Global>, bytes: &[u8]) -> bool
     true
 }
 
-/// Whether a reader that is fed byte by byte gives a record at the last one, and nothing more once it is closed.
+/// Returns whether a new reader that is fed byte by byte gives a record after the last byte, and nothing more once it is closed.
 pub(crate) fn gives_one_record(alloc: Global, bytes: &[u8]) -> bool {
     let mut reader = Reader::new(alloc);
     let is_given = gives_at_the_last_byte(&mut reader, bytes);
@@ -59,13 +59,13 @@ pub(crate) fn gives_one_record(alloc: Global, bytes: &[u8]) -> bool {
     is_given && reader.is_closed() && has_next(&mut reader) == Ok(false)
 }
 
-/// Whether an open reader answers this fault once it was fed these bytes.
+/// Returns whether a new reader that was fed these bytes answers this fault while it is open.
 pub(crate) fn is_early_fault(alloc: Global, bytes: &[u8], fault: &PcapFault) -> bool {
     let mut reader = Reader::new(alloc);
     takes(&mut reader, bytes, &None) && has_next(&mut reader) == Err(*fault)
 }
 
-/// The number of records, or the fault.
+/// Returns the number of records of a whole capture, or the fault.
 pub(crate) fn read_whole(alloc: Global, bytes: &[u8]) -> Result<usize, PcapFault> {
     Ok(read_all(alloc, bytes)?.len())
 }
@@ -83,7 +83,7 @@ fn take_records<'a>(
     Ok(())
 }
 
-/// Feeds an open reader a piece, and takes the records that are there then.
+/// Feeds a reader a piece if it is open, and takes the records that are there then.
 fn take_piece(
     reader: &mut Reader<'static, Global>,
     piece: &[u8],
@@ -95,7 +95,7 @@ fn take_piece(
     take_records(reader, records)
 }
 
-/// The records of these pieces, each taken as soon as it is there; then the input ends.
+/// Reads the records of these pieces, each as soon as it is there, and then ends the input.
 fn read_pieces(alloc: Global, pieces: &[&[u8]]) -> Result<Vec<Record<'static, Global>>, PcapFault> {
     let mut records = Vec::new(alloc);
     let mut reader = Reader::new(alloc);
@@ -107,23 +107,23 @@ fn read_pieces(alloc: Global, pieces: &[&[u8]]) -> Result<Vec<Record<'static, Gl
     Ok(records)
 }
 
-/// The number of records that are read from one piece, or the fault.
+/// Returns the number of records that are read from one piece, or the fault.
 pub(crate) fn read_piece(alloc: Global, bytes: &[u8]) -> Result<usize, PcapFault> {
     Ok(read_pieces(alloc, &[bytes])?.len())
 }
 
-/// Whether the text of these records is this one.
+/// Returns whether these records are written as this text.
 fn are_written(alloc: Global, records: &[Record<Global>], text: &[u8]) -> Result<bool, PcapFault> {
     Ok(write_all(alloc, records)?.as_slice() == text)
 }
 
-/// Whether the records of a capture are written as this text.
+/// Returns whether the records of a capture are written as this text.
 pub(crate) fn is_written_as(alloc: Global, bytes: &[u8], text: &[u8]) -> Result<bool, PcapFault> {
     let records = read_all(alloc, bytes)?;
     are_written(alloc, &records, text)
 }
 
-/// Whether the records of these pieces are written as this text.
+/// Returns whether the records of these pieces are written as this text.
 pub(crate) fn are_written_as(
     alloc: Global,
     pieces: &[&[u8]],

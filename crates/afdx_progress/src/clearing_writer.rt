@@ -15,7 +15,7 @@ pub struct ClearingWriter<'a, R: Clock + Eprint, W> {
 }
 
 impl<'a, R: Clock + Eprint, W> ClearingWriter<'a, R, W> {
-    /// Of a writer. O(1).
+    /// Makes a clearing writer of a writer. O(1).
     pub fn new(inner: W, progress: &'a Progress<'a, R>) -> ClearingWriter<'a, R, W>
         ensures { result.inner ≡ inner }
     {

@@ -8,7 +8,7 @@ use std::alloc::{AllocError, Allocator};
 /// From how many bytes on they are told in gigabytes, and not in megabytes (profile).
 const GIGABYTE: u64 = 1_000_000_000;
 
-/// The tenth of the unit in which so many bytes are told.
+/// Returns the tenth of the unit in which so many bytes are told.
 fn tenth_of(bytes: u64) -> u64
     ensures tenth { result ≡ tenth_of bytes }
     ensures some { 0 < result }
@@ -20,7 +20,7 @@ fn tenth_of(bytes: u64) -> u64
     }
 }
 
-/// The name of that unit.
+/// Returns the name of that unit.
 fn unit_of(bytes: u64) -> &'static str
     ensures { result.now ≡ unit_of bytes }
 {
@@ -50,7 +50,7 @@ fn put_unit<A: Allocator + Clone>(text: &mut String<A>, bytes: u64) -> Result<()
     text.push_str(unit_of(bytes))
 }
 
-/// Appends what was read, of the whole where it is known.
+/// Appends what was read, of the whole if it is known.
 fn put_amount<A: Allocator + Clone>(
     text: &mut String<A>,
     read: u64,
@@ -72,7 +72,7 @@ fn put_amount<A: Allocator + Clone>(
     }
 }
 
-/// The line: so many bytes were read, of the whole where it is known, in so many seconds.
+/// Returns the line: so many bytes were read, of the whole if it is known, in so many seconds.
 pub(crate) fn line<A: Allocator + Clone>(
     alloc: A,
     read: u64,

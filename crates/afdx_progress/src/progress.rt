@@ -11,19 +11,19 @@ const FIRST_MS: u64 = 1_000;
 /// How many milliseconds it stands at least before it is rewritten (profile).
 const PAUSE_MS: u64 = 200;
 
-/// What erases the line that the cursor is on, and leaves it at the line's begin (EL of ECMA-48).
+/// What erases the line that the cursor is on, and leaves it at the line's beginning (EL of ECMA-48).
 const ERASE: &str = "\r\x1b[K";
 
 /// What a command has read so far, of how much, and the line on standard error that says so.
 ///
-/// The line is `afdx: 1.2 of 2.0 GB, 11 s`, without `of` where one of what is read has no length that is known. It is shown after a
-/// second and rewritten in place at most five times a second, whenever something was read. Where standard error is no terminal nothing
+/// The line is `afdx: 1.2 of 2.0 GB, 11 s`, without `of` if one of what is read has no length that is known. It is shown after a
+/// second and rewritten in place at most five times a second, whenever something was read. If standard error is no terminal, nothing
 /// is ever shown and the clock is not asked. Memory or a clock that is refused, and a terminal that takes nothing, leave a line out and
 /// change nothing else.
 #[derive(Drop)]
 pub struct Progress<'a, R: Clock + Eprint> {
     rt: &'a R,
-    /// Since when; none where nothing is to be shown (any more).
+    /// Since when; none if nothing is to be shown (any more).
     start: Cell<Option<Instant>>,
     read: Cell<u64>,
     whole: Cell<Option<u64>>,
@@ -34,7 +34,7 @@ pub struct Progress<'a, R: Clock + Eprint> {
 }
 
 impl<'a, R: Clock + Eprint> Progress<'a, R> {
-    /// Nothing was read so far, and the command begins now. O(1).
+    /// Makes the progress of a command that begins now and has read nothing so far. O(1).
     pub fn new(rt: &'a R, is_terminal: bool) -> Progress<'a, R> {
         let start = if is_terminal {
             Instant::now(rt).ok()
@@ -59,19 +59,19 @@ impl<'a, R: Clock + Eprint> Progress<'a, R> {
         }
     }
 
-    /// So many bytes more are to be read.
+    /// Notes that so many bytes more are to be read.
     pub(crate) fn expect(&self, more: u64) {
         if let Some(whole) = self.whole.get() {
             self.whole.set(Some(whole.saturating_add(more)));
         }
     }
 
-    /// How many bytes are to be read is not known any more.
+    /// Notes that it is not known any more how many bytes are to be read.
     pub(crate) fn expect_unknown(&self) {
         self.whole.set(None);
     }
 
-    /// How much there is to read, as long as that is known and more than what was read.
+    /// Returns how much there is to read, as long as that is known and more than what was read.
     fn whole(&self) -> Option<u64> {
         match self.whole.get() {
             Some(whole) if self.read.get() < whole => Some(whole),
@@ -87,7 +87,7 @@ impl<'a, R: Clock + Eprint> Progress<'a, R> {
 }
 
 impl<R: Clock + Eprint + AllocGlobal> Progress<'_, R> {
-    /// So many bytes more were read; shows that if it is time.
+    /// Notes that so many bytes more were read, and shows that if it is time.
     pub(crate) fn note(&self, count: usize) {
         let Some(start) = self.start.get() else {
             return;

@@ -19,7 +19,7 @@ pub struct WatchedFolder<'a, R: Clock + Eprint + AllocGlobal, F> {
 }
 
 impl<'a, R: Clock + Eprint + AllocGlobal, F> WatchedFolder<'a, R, F> {
-    /// Of a folder. O(1).
+    /// Makes a watched folder of a folder. O(1).
     pub fn new(inner: F, progress: &'a Progress<'a, R>) -> WatchedFolder<'a, R, F>
         ensures { result.inner ≡ inner }
     {
@@ -27,7 +27,7 @@ impl<'a, R: Clock + Eprint + AllocGlobal, F> WatchedFolder<'a, R, F> {
     }
 }
 
-/// How many bytes a file has, if it is a regular one: what a pipe or a device will give is not known.
+/// Returns how many bytes a file has, if it is a regular one: what a pipe or a device will give is not known.
 fn length_of<T: OpenFile>(file: &T) -> Option<u64> {
     match file.metadata() {
         Ok(metadata) if metadata.is_file() => Some(metadata.len()),

@@ -16,7 +16,8 @@ pub struct WatchedReader<'a, R: Clock + Eprint + AllocGlobal, T> {
 }
 
 impl<'a, R: Clock + Eprint + AllocGlobal, T> WatchedReader<'a, R, T> {
-    /// Of a reader that will give so many bytes, where that is known. One whose length is not known counts from its first read on. O(1).
+    /// Makes a watched reader of a reader that will give so many bytes, if that is known. One whose length is not known counts from its
+    /// first read on. O(1).
     pub fn new(
         inner: T,
         length: Option<u64>,

@@ -13,7 +13,7 @@ pub struct Offsets {
     by_port: [i64; MAX_PORT + 1],
 }
 
-/// The port and the nanoseconds of a text `PORT=NS`; none where it is no such text. O(text).
+/// Returns the port and the nanoseconds of a text `PORT=NS`; none if it is no such text. O(text).
 fn said(text: &str) -> Option<(u8, i64)>
     ensures { MatchOption result ((port : ℕ) (offset : ℤ) → Says text.now port offset → ⊥) (λ p. Says text.now p.0 p.1) }
 {
@@ -29,7 +29,7 @@ impl Offsets {
         by_port: [0; MAX_PORT + 1],
     };
 
-    /// What is added at the port of a number; 0 where there is no such port. O(1).
+    /// Returns what is added at the port of a number; 0 if there is no such port. O(1).
     pub fn at(&self, port: u8) -> i64
         ensures { result ≡ offset_at self.now port }
     {
@@ -39,7 +39,7 @@ impl Offsets {
         }
     }
 
-    /// Sets what is added at a port that a text says. O(1).
+    /// Sets what is added at a port, as a text says it. O(1).
     fn set(&mut self, text: &str, port: u8, offset: i64)
         requires { Says text.now port offset }
         ensures { self.new ≡ with_offset self.old port offset }
@@ -47,8 +47,8 @@ impl Offsets {
         self.by_port[usize::from(port)] = offset;
     }
 
-    /// Those of a text of `PORT=NS`, one or more with commas between, of which a later one of a port counts; none where it is no such
-    /// text. O(text).
+    /// Returns the offsets of a text of `PORT=NS`, one or more with commas between; none if it is no such text. If a port comes more than once, the
+    /// last one counts. O(text).
     pub fn of_text(text: &str) -> Option<Offsets>
         ensures { MatchOption result ((offsets : Added) → AreOffsetsOf text.now offsets → ⊥) (AreOffsetsOf text.now) }
     {

@@ -24,7 +24,7 @@ impl Outputs {
         by_port: [false; MAX_PORT + 1],
     };
 
-    /// Whether the port of a number was recorded. O(1).
+    /// Returns whether the port of a number was recorded. O(1).
     pub fn has(&self, port: u8) -> bool
         ensures { result ≡ is_recorded self.now port }
     {
@@ -42,7 +42,7 @@ impl Outputs {
         self.by_port[usize::from(port)] = true;
     }
 
-    /// Those of a text of numbers of ports, one or more with commas between; none where it is no such text. O(text).
+    /// Returns the ports of a text of numbers of ports, one or more with commas between; none if it is no such text. O(text).
     pub fn of_text(text: &str) -> Option<Outputs>
         ensures { MatchOption result ((outputs : Recorded) → AreOutputsOf text.now outputs → ⊥) (AreOutputsOf text.now) }
     {

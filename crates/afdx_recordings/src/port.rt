@@ -6,7 +6,7 @@ ghost use Rattle.afdx_recordings.specs.Recordings.{IsPort};
 /// The greatest number of a port (profile).
 pub(crate) const MAX_PORT: usize = 24;
 
-/// The number of a port that a text writes; none where it writes none. O(text).
+/// Returns the number of a port that a text writes; none if it writes none. O(text).
 pub(crate) fn port_of(text: &str) -> Option<u8>
     ensures { MatchOption result ((port : ℕ) → IsPort text.now port → ⊥) (IsPort text.now) }
 {

@@ -13,7 +13,7 @@ pub enum Stamps {
 }
 
 impl Stamps {
-    /// Bytes from a stamp until the line is free. O(1).
+    /// Returns the bytes from a stamp until the line is free. O(1).
     pub fn gap(self) -> u64
         ensures gap { result ≡ gap_of self }
         ensures small { result ≤ 12 }

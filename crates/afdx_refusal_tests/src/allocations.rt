@@ -14,12 +14,12 @@ pub(crate) type Memory = Refusing<Global>;
 
 /// Calls that take memory, and the answers that they should give.
 pub(crate) trait Calls {
-    /// Whether they answer so; none where memory runs out.
+    /// Makes the calls, and returns whether they answer as they should, or none if memory runs out.
     fn answer(&self, memory: &Memory) -> Result<Option<bool>, Fail>;
 }
 
-/// Refuses the first allocation of these calls, then the second, and so on until none is refused: how many there were. Each time
-/// they are out of memory exactly where an allocation was refused, and answer as they should elsewhere.
+/// Refuses the first allocation of these calls, then the second, and so on until none is refused, and returns how many there
+/// were. Each time the calls have to be out of memory if an allocation was refused, and else to answer as they should.
 fn allocations(rt: &impl Abort, alloc: Global, calls: &impl Calls) -> Result<u64, Fail> {
     let mut refused = 0u64;
     for n in 1..MOST {
@@ -49,13 +49,13 @@ pub(crate) fn refuse<R: Abort + Print>(
     Ok(())
 }
 
-/// One more.
+/// Counts one more.
 pub(crate) fn count(wants: &mut u64) {
     *wants = wants.saturating_add(1);
 }
 
-/// What calls answer of which those that were out of memory were made once more: whether all was right in the end, and how often
-/// memory ran out.
+/// Returns the answer of calls of which each that is out of memory is made once more. It follows from whether all was right in
+/// the end, and how often memory ran out.
 pub(crate) fn made_again(right: bool, wants: u64) -> Option<bool> {
     match wants {
         0 => Some(right),

@@ -25,7 +25,7 @@ fn sends_two<'a>(switch: &mut Switch<'static, &'a Memory>, ample: &'a Memory) {
     let _sent = advances(switch, 1);
 }
 
-/// Appends the text of the next frame that port 2 hands out; whether there was one.
+/// Appends the text of the next frame that port 2 hands out, and returns whether there was one.
 fn append<A: Allocator + Copy, B: Allocator>(
     switch: &mut Switch<'static, A>,
     capture: &mut Vec<u8, B>,
@@ -38,7 +38,7 @@ fn append<A: Allocator + Copy, B: Allocator>(
     switch.next_out_into(2, capture)
 }
 
-/// The same of a finished switch.
+/// Does the same for a finished switch.
 fn append_left<A: Allocator + Copy, B: Allocator>(
     done: &mut Done<'static, A>,
     capture: &mut Vec<u8, B>,
@@ -51,7 +51,7 @@ fn append_left<A: Allocator + Copy, B: Allocator>(
     done.next_out_into(2, capture)
 }
 
-/// Whether a switch appends two frames to a capture, and no third.
+/// Returns whether a switch appends two frames to a capture, and no third.
 fn appends<'a, B: Allocator>(
     mut switch: Switch<'static, &'a Memory>,
     ample: &'a Memory,
@@ -81,7 +81,7 @@ impl Calls for Appending<'_> {
     }
 }
 
-/// Two frames as a capture has them, which end at 6,720 and 13,440 ns.
+/// Returns two frames as a capture has them, which end at 6,720 and 13,440 ns.
 fn two_records(alloc: Global) -> Result<Vec<u8>, AllocError> {
     let first = [0, 0, 0, 0, 0x40, 0x1a, 0, 0, 60, 0, 0, 0, 60, 0, 0, 0];
     let second = [0, 0, 0, 0, 0x80, 0x34, 0, 0, 60, 0, 0, 0, 60, 0, 0, 0];

@@ -23,7 +23,7 @@ fn more<A: Allocator + Copy>(
     reader.next()
 }
 
-/// Whether each call of a reader is out of memory for good.
+/// Returns whether each call of a reader is out of memory for good.
 fn wants_for_good<A: Allocator + Copy>(reader: &mut Reader<'static, A>) -> bool {
     let want = Some(PcapFault::Memory);
     let fed = more(reader, 0).err();
@@ -32,7 +32,7 @@ fn wants_for_good<A: Allocator + Copy>(reader: &mut Reader<'static, A>) -> bool 
     fed == want && asked == want && fed_again == want
 }
 
-/// Whether the record of one frame comes with its last byte and no other one before the end; none where memory runs out.
+/// Returns whether the record of one frame comes with its last byte and no other one before the end, or none if memory runs out.
 fn gives_one<A: Allocator + Copy>(reader: &mut Reader<'static, A>, text: &[u8]) -> Option<bool> {
     let mut fed = 0usize;
     for byte in text {
@@ -45,7 +45,7 @@ fn gives_one<A: Allocator + Copy>(reader: &mut Reader<'static, A>, text: &[u8]) 
     Some(true)
 }
 
-/// Whether a closed reader has no further record.
+/// Closes a reader, and returns whether it has no further record.
 fn ends<A: Allocator + Copy>(reader: &mut Reader<'static, A>) -> bool {
     reader.close();
     match reader.next() {
@@ -65,7 +65,7 @@ impl Calls for Feeding<'_> {
     }
 }
 
-/// Allocations for the bytes, and one for the record's copy. Out of memory is for good.
+/// Checks a reader that allocates for the bytes, and once for the record's copy. Out of memory is for good.
 #[test]
 fn reader_byte_by_byte(rt: HostRuntime) -> Result<(), Fail> {
     let alloc = rt.alloc();

@@ -10,7 +10,7 @@ use afdx_table::Table;
 use std::alloc::{Allocator, Global};
 use std::test::*;
 
-/// The report where no frame came in.
+/// The report if no frame came in.
 const NO_FRAMES: &str =
     "in 1 seen 0 cut 0 short 0 long 0 foreign 0 no-link 0 wrong-port 0 too-big 0 clean 0
 in 2 seen 0 cut 0 short 0 long 0 foreign 0 no-link 0 wrong-port 0 too-big 0 clean 0
@@ -21,7 +21,7 @@ out 2 high offered 0 full 0 aged 0 sent 0
 out 2 low offered 0 full 0 aged 0 sent 0
 ";
 
-/// The report where a frame of link 10 was passed, and its copy queued.
+/// The report if a frame of link 10 was passed, and its copy queued.
 const ONE_FRAME: &str =
     "in 1 seen 1 cut 0 short 0 long 0 foreign 0 no-link 0 wrong-port 0 too-big 0 clean 1
 in 2 seen 0 cut 0 short 0 long 0 foreign 0 no-link 0 wrong-port 0 too-big 0 clean 0
@@ -39,7 +39,7 @@ struct Reporting<'a> {
     step: &'a Step,
 }
 
-/// New counters of a table's ports and links.
+/// Makes new counters of a table's ports and links, once more if memory runs out.
 fn fresh<'a>(memory: &'a Memory, table: &Table, wants: &mut u64) -> Option<Counts<&'a Memory>> {
     match Counts::new(memory, table) {
         Ok(counts) => Some(counts),
@@ -50,7 +50,7 @@ fn fresh<'a>(memory: &'a Memory, table: &Table, wants: &mut u64) -> Option<Count
     }
 }
 
-/// Whether the report is this text; none where memory runs out.
+/// Returns whether the report is this text, or none if memory runs out.
 fn reports<A: Allocator + Copy>(counts: &Counts<A>, memory: &Memory, text: &str) -> Option<bool> {
     match counts.report(memory) {
         Ok(report) => Some(report.as_str() == text),
@@ -58,7 +58,7 @@ fn reports<A: Allocator + Copy>(counts: &Counts<A>, memory: &Memory, text: &str)
     }
 }
 
-/// Whether it is this text.
+/// Returns whether the report, which is made once more if memory runs out, is this text.
 fn reports_again<A: Allocator + Copy>(
     counts: &Counts<A>,
     memory: &Memory,
@@ -87,7 +87,7 @@ impl Calls for Reporting<'_> {
     }
 }
 
-/// The arrival of the frame.
+/// Returns the arrival of the frame.
 fn one_step() -> Step {
     let mut offers = Offers::new();
     offers.push((2, Offer::Queued));
@@ -100,7 +100,7 @@ fn one_step() -> Step {
     }
 }
 
-/// The counters are as before after each report, refused or not.
+/// Checks that the counters are as before after each report, refused or not.
 #[test]
 fn reports_before_and_after_a_frame(rt: HostRuntime) -> Result<(), Fail> {
     let alloc = rt.alloc();

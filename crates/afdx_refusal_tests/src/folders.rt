@@ -49,7 +49,7 @@ fn put_bytes<'a>(
     // end of example
 }
 
-/// Puts a file; none where the folder is out of memory.
+/// Puts a file, and returns whether it was put, or none if the folder is out of memory.
 fn put<'a>(folder: &mut MemoryFolder<&'a Memory>, name: &str, bytes: &[u8]) -> Option<bool> {
     match put_bytes(folder, name, bytes) {
         Ok(()) => Some(true),
@@ -58,7 +58,7 @@ fn put<'a>(folder: &mut MemoryFolder<&'a Memory>, name: &str, bytes: &[u8]) -> O
     }
 }
 
-/// Whether a file is got with these bytes; none where the folder is out of memory.
+/// Gets a file, and returns whether it has these bytes, or none if the folder is out of memory.
 fn get<'a>(
     folder: &mut MemoryFolder<&'a Memory>,
     memory: &'a Memory,
@@ -72,7 +72,7 @@ fn get<'a>(
     }
 }
 
-/// Whether no file is got; none where the folder is out of memory.
+/// Gets a file that is not there, and returns whether that is refused, or none if the folder is out of memory.
 fn get_none<'a>(folder: &mut MemoryFolder<&'a Memory>, memory: &'a Memory) -> Option<bool> {
     match folder.get(memory, NONE) {
         Ok(_) => Some(false),
@@ -81,7 +81,7 @@ fn get_none<'a>(folder: &mut MemoryFolder<&'a Memory>, memory: &'a Memory) -> Op
     }
 }
 
-/// Whether a folder's answer to a call is right; none where it is out of memory.
+/// Makes a call of a folder, and returns whether its answer is right, or none if it is out of memory.
 fn made<'a>(
     folder: &mut MemoryFolder<&'a Memory>,
     memory: &'a Memory,
@@ -101,7 +101,7 @@ fn made<'a>(
     }
 }
 
-/// How many of the calls a folder answers right, the second time where it was out of memory, and how often it was.
+/// Makes all the calls. Returns how many of them a folder answers right, the second time if it was out of memory, and how often it was.
 fn answered<'a>(
     folder: &mut MemoryFolder<&'a Memory>,
     memory: &'a Memory,
@@ -139,8 +139,8 @@ impl Calls for Calling<'_> {
     }
 }
 
-/// One allocation at least for the name and for the bytes of each file that is put, for the bytes of each that is got, and for the name
-/// of the one that is not there.
+/// Checks the calls of the folder, which allocate at least once for the name and for the bytes of each file that is put, for the
+/// bytes of each that is got, and for the name of the one that is not there.
 #[test]
 fn files_put_and_got(rt: HostRuntime) -> Result<(), Fail> {
     let alloc = rt.alloc();

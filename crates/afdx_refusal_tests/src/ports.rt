@@ -28,8 +28,8 @@ fn offer<A: Allocator + Copy>(port: &mut Port<A>, number: usize) -> Offer
     })
 }
 
-/// Two frames at once at a port with a buffer for one: the answers, and whether memory ran out for them first. It has room
-/// for none then, and nothing else has changed.
+/// Makes room for two frames, and offers both at once to a port with a buffer for one. Returns whether memory ran out first, and
+/// the answers. If it ran out, the port has room for none then, and nothing else has changed.
 fn offers(memory: &Memory) -> Result<(bool, Offer, Offer), AllocError> {
     let mut port = Port::new(memory, Speed::Hundred, 64, 500_000_000, 0);
     let wanted = port.reserve(2).is_err();
@@ -51,7 +51,7 @@ impl Calls for Reserving {
     }
 }
 
-/// One allocation at least for each queue and each list.
+/// Checks room for two frames, with one allocation at least for each queue and each list.
 #[test]
 fn room_for_two(rt: HostRuntime) -> Result<(), Fail> {
     refuse(&rt, rt.alloc(), "Port::reserve", &Reserving, 3)

@@ -54,7 +54,7 @@ struct Feeding<'a> {
     texts: &'a [Vec<u8>],
 }
 
-/// The text at a place.
+/// Returns the text at a place, or no bytes if there is none.
 fn text(texts: &[Vec<u8>], place: usize) -> &[u8] {
     match texts.get(place) {
         Some(text) => text,
@@ -62,7 +62,7 @@ fn text(texts: &[Vec<u8>], place: usize) -> &[u8] {
     }
 }
 
-/// A session over a table that is checked; none where it is out of memory.
+/// Opens a session over a table that is checked, or none if it is out of memory.
 fn open<'a>(
     alloc: Global,
     memory: &'a Memory,
@@ -84,14 +84,14 @@ fn bring<'a>(
     }
 }
 
-/// Appends what has gone out of port 3; whether it could.
+/// Appends what has gone out of port 3, and returns whether it could.
 fn take<'a>(session: &mut Session<&'a Memory>, taken: &mut Vec<u8>) -> bool {
     let bytes = session.take(3);
     taken.extend_from_slice(&bytes).is_ok()
 }
 
-/// Makes all the calls, and takes what has gone out after each. Answers whether each answer was right, and so many bytes were
-/// taken in all after it; none where the session is out of memory.
+/// Makes all the calls, and takes what has gone out after each. Returns whether each answer was right, and so many bytes were
+/// taken in all after it, or none if the session is out of memory.
 fn bring_all<'a>(
     session: &mut Session<&'a Memory>,
     texts: &[Vec<u8>],
@@ -108,7 +108,7 @@ fn bring_all<'a>(
     Some(right)
 }
 
-/// Whether each call but `take` answers that the session has failed.
+/// Returns whether each call but `take` answers that the session has failed.
 fn stays_failed<'a>(session: &mut Session<&'a Memory>) -> bool {
     let fed = session.feed(1, &HEADER);
     let closed = session.close(1);
@@ -116,14 +116,14 @@ fn stays_failed<'a>(session: &mut Session<&'a Memory>) -> bool {
     fed == failed && closed == failed
 }
 
-/// The end of a session.
+/// Finishes a session.
 fn finish<'a>(
     session: Session<&'a Memory>,
 ) -> Result<Outcome<&'a Memory>, (RunFault, Session<&'a Memory>)> {
     session.finish()
 }
 
-/// Whether a session that ended with this fault has failed, and what was taken in all are the text's first bytes.
+/// Returns whether a session that ended with this fault has failed, and the text begins with what was taken in all.
 fn fails_so<'a>(
     fault: RunFault,
     session: &mut Session<&'a Memory>,
@@ -133,7 +133,7 @@ fn fails_so<'a>(
     take(session, taken) && fault == RunFault::Failed && text.starts_with(taken)
 }
 
-/// Whether a session has failed at its end too, and what was taken in all are the text's first bytes.
+/// Returns whether a session has failed at its end too, and the text begins with what was taken in all.
 fn ends_failed<'a>(session: Session<&'a Memory>, taken: &mut Vec<u8>, text: &[u8]) -> bool {
     match finish(session) {
         Ok(_) => false,
@@ -141,8 +141,7 @@ fn ends_failed<'a>(session: Session<&'a Memory>, taken: &mut Vec<u8>, text: &[u8
     }
 }
 
-/// What comes once a session is out of memory: none where it stays failed, and what was taken in all are the text's first
-/// bytes.
+/// Returns what comes once a session is out of memory: none if it stays failed, and the text begins with what was taken in all.
 fn after_failure<'a>(
     mut session: Session<&'a Memory>,
     taken: &mut Vec<u8>,
@@ -153,7 +152,7 @@ fn after_failure<'a>(
     if failed && ended { None } else { Some(false) }
 }
 
-/// Whether what was taken, and then what is left of port 3, is this text.
+/// Returns whether what was taken, and then what is left of port 3, is this text.
 fn completes<'a>(outcome: &Outcome<&'a Memory>, taken: &[u8], text: &[u8]) -> bool {
     match outcome.captures.get(2) {
         Some((_, rest)) => {
@@ -165,7 +164,7 @@ fn completes<'a>(outcome: &Outcome<&'a Memory>, taken: &[u8], text: &[u8]) -> bo
     }
 }
 
-/// What comes after an end that was refused with this fault: where it is not out of memory, that is wrong.
+/// Returns what comes after an end that was refused with this fault. If the session is not out of memory, that is wrong.
 fn after_end<'a>(
     fault: RunFault,
     session: Session<&'a Memory>,
@@ -179,7 +178,7 @@ fn after_end<'a>(
     }
 }
 
-/// Whether a session ends with this text in all; none where it is out of memory, after which it stays failed.
+/// Returns whether a session ends with this text in all, or none if it is out of memory, after which it stays failed.
 fn ends<'a>(session: Session<&'a Memory>, taken: &mut Vec<u8>, text: &[u8]) -> Option<bool> {
     match finish(session) {
         Ok(outcome) => Some(completes(&outcome, taken, text)),
@@ -187,7 +186,7 @@ fn ends<'a>(session: Session<&'a Memory>, taken: &mut Vec<u8>, text: &[u8]) -> O
     }
 }
 
-/// What a session answers at its end, where its calls answered so.
+/// Returns what a session answers at its end, after its calls have answered so.
 fn after_calls<'a>(
     answered: Option<bool>,
     session: Session<&'a Memory>,
@@ -200,7 +199,7 @@ fn after_calls<'a>(
     }
 }
 
-/// What a session answers to these calls and its end.
+/// Returns what a session answers to these calls and its end.
 fn answers<'a>(
     mut session: Session<&'a Memory>,
     feeding: &Feeding<'_>,
@@ -224,7 +223,7 @@ impl Calls for Feeding<'_> {
     }
 }
 
-/// The capture of these frames of size 64.
+/// Returns the capture of these frames of size 64.
 fn of_small(alloc: Global, rows: &[(u8, u32)]) -> Result<Vec<u8>, AllocError> {
     let mut frames: Vec<Sample> = Vec::new(alloc);
     for (link, nanos) in rows {
@@ -233,7 +232,7 @@ fn of_small(alloc: Global, rows: &[(u8, u32)]) -> Result<Vec<u8>, AllocError> {
     capture(alloc, &frames)
 }
 
-/// The texts of all calls.
+/// Returns the texts of all calls.
 fn all_texts(alloc: Global) -> Result<Vec<Vec<u8>>, AllocError> {
     let mut texts = Vec::new(alloc);
     for rows in TEXTS {
@@ -242,7 +241,7 @@ fn all_texts(alloc: Global) -> Result<Vec<Vec<u8>>, AllocError> {
     Ok(texts)
 }
 
-/// Allocations for the switch and the counters, for what came, for the records that wait, and for what goes out.
+/// Checks a session that allocates for the switch and the counters, for what came, for the records that wait, and for what goes out.
 #[test]
 fn session_on_d(rt: HostRuntime) -> Result<(), Fail> {
     let alloc = rt.alloc();

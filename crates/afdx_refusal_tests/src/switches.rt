@@ -22,7 +22,7 @@ struct Switching<'a> {
     checked: bool,
 }
 
-/// A switch over a table, checked first or not; none where memory runs out.
+/// Makes a switch over a table, checked first or not, or none if memory runs out.
 fn made<'a>(
     calls: &Switching,
     memory: &'a Memory,
@@ -35,7 +35,7 @@ fn made<'a>(
     Ok(Switch::new(memory, table).ok())
 }
 
-/// The same, made once more where memory runs out; none where it does so again.
+/// Makes the same switch, once more if memory runs out, or none if it runs out again.
 fn made_or_again<'a>(
     calls: &Switching,
     memory: &'a Memory,
@@ -51,12 +51,12 @@ fn made_or_again<'a>(
 /// The fate and the first offer, or the fault.
 type Answer = (Option<Fate>, Option<(u8, Offer)>, Option<CoreFault>);
 
-/// What a step gives.
+/// Returns what a step gives.
 fn reported(step: &Step) -> Answer {
     (Some(step.fate), step.offers.first().copied(), None)
 }
 
-/// The answer to a record that comes in once more, where memory ran out before; else the fault.
+/// Returns the answer to a record that comes in once more, if memory ran out before, else the fault.
 fn answer_again<A: Allocator + Copy>(
     switch: &mut Switch<'static, A>,
     in_port: u8,
@@ -77,7 +77,7 @@ fn answer_again<A: Allocator + Copy>(
     reported(&step)
 }
 
-/// The answer to a record that comes in at a port.
+/// Returns the answer to a record that comes in at a port.
 fn answer_to<A: Allocator + Copy>(
     switch: &mut Switch<'static, A>,
     in_port: u8,
@@ -93,7 +93,7 @@ fn answer_to<A: Allocator + Copy>(
     reported(&step)
 }
 
-/// The answer to a small frame of link 10, whose record takes other memory; nothing where it is no record.
+/// Returns the answer to a small frame of link 10, whose record takes other memory, or nothing if it is no record.
 pub(crate) fn arrive<'a>(
     switch: &mut Switch<'static, &'a Memory>,
     ample: &'a Memory,
@@ -107,7 +107,7 @@ pub(crate) fn arrive<'a>(
     }
 }
 
-/// The end and the number of bytes of a record that was handed out.
+/// Returns the end and the number of bytes of a record that was handed out.
 fn sent_as<A: Allocator>(out: Option<Record<'static, A>>) -> Option<(u64, usize)> {
     match out {
         Some(frame) => Some((frame.stamp().ns(), frame.bytes().len())),
@@ -115,7 +115,7 @@ fn sent_as<A: Allocator>(out: Option<Record<'static, A>>) -> Option<(u64, usize)
     }
 }
 
-/// The next frame that a port hands out.
+/// Returns the next frame that a port hands out.
 fn next<A: Allocator + Copy>(
     switch: &mut Switch<'static, A>,
     port: u8,
@@ -128,7 +128,7 @@ fn next<A: Allocator + Copy>(
     Ok(sent_as(switch.next_out(port)?))
 }
 
-/// The same of a finished switch.
+/// Does the same for a finished switch.
 fn left<A: Allocator + Copy>(
     done: &mut Done<'static, A>,
     port: u8,
@@ -141,7 +141,7 @@ fn left<A: Allocator + Copy>(
     Ok(sent_as(done.next_out(port)?))
 }
 
-/// Whether the switch can advance to this instant.
+/// Advances the switch to this instant, and returns whether it could.
 pub(crate) fn advances<A: Allocator + Copy>(switch: &mut Switch<'static, A>, ns: u64) -> bool {
     match Stamp::from_ns(ns) {
         Some(to) => switch.advance(to).is_ok(),
@@ -149,7 +149,7 @@ pub(crate) fn advances<A: Allocator + Copy>(switch: &mut Switch<'static, A>, ns:
     }
 }
 
-/// Whether a switch over a table of one link takes two frames, and refuses one from no port and one that comes too early.
+/// Returns whether a switch over a table of one link takes two frames, and refuses one from no port and one that comes too early.
 fn takes_two<'a>(
     switch: &mut Switch<'static, &'a Memory>,
     ample: &'a Memory,
@@ -166,7 +166,7 @@ fn takes_two<'a>(
         && second == passed
 }
 
-/// Whether it hands out the first of them once it has begun, and not before.
+/// Returns whether the switch hands out the first of them once it has begun, and not before.
 fn hands_out_one<A: Allocator + Copy>(switch: &mut Switch<'static, A>, wants: &mut u64) -> bool {
     let goes_back = advances(switch, 4);
     let before = next(switch, 2, wants);
@@ -175,14 +175,14 @@ fn hands_out_one<A: Allocator + Copy>(switch: &mut Switch<'static, A>, wants: &m
     !goes_back && before == Ok(None) && goes_on && first == Ok(Some((6_725, 60)))
 }
 
-/// Whether the finished switch hands out the second, and no other.
+/// Returns whether the finished switch hands out the second, and no other.
 fn hands_out_the_last<A: Allocator + Copy>(done: &mut Done<'static, A>, wants: &mut u64) -> bool {
     let second = left(done, 2, wants);
     let third = left(done, 2, wants);
     second == Ok(Some((13_445, 60))) && third == Ok(None) && done.fates().len() == 2
 }
 
-/// Whether there is a switch, and answers these calls so.
+/// Returns whether there is a switch, and it answers these calls so.
 fn answers<'a>(
     made: Option<Switch<'static, &'a Memory>>,
     ample: &'a Memory,
@@ -207,7 +207,8 @@ impl Calls for Switching<'_> {
     }
 }
 
-/// One allocation at least for the accounts, the ports, each list of each arrival, and each frame that is handed out.
+/// Checks the calls of a switch, with one allocation at least for the accounts, the ports, each list of each arrival, and each
+/// frame that is handed out.
 #[test]
 fn switch_by_calls(rt: HostRuntime) -> Result<(), Fail> {
     let alloc = rt.alloc();

@@ -9,14 +9,14 @@ ghost use Rattle.std.specs.Prelude.{◌≡◌, ◌==◌, ◌-◌};
 use std::alloc::{AllocError, Allocator};
 use std::cell::Cell;
 
-/// Refuses one allocation, and passes every other call on to `inner`. A growth is an allocation.
+/// An allocator that refuses one allocation, and passes every other call on to `inner`. A growth is an allocation.
 pub struct Refusing<B: Allocator> {
     inner: B,
     left: Cell<u64>,
 }
 
 impl<B: Allocator> Refusing<B> {
-    /// Refuses the nth allocation from now on, counted from 1; none where n is 0. O(1).
+    /// Makes an allocator that refuses the nth allocation from now on, counted from 1; none if n is 0. O(1).
     pub fn new(inner: B, n: u64) -> Refusing<B> {
         Refusing {
             inner,
@@ -24,7 +24,7 @@ impl<B: Allocator> Refusing<B> {
         }
     }
 
-    /// Whether the allocation was refused, or none was to be. O(1).
+    /// Returns whether the allocation was refused, or none was to be. O(1).
     pub fn is_spent(&self) -> bool {
         self.left.get() == 0
     }
@@ -36,21 +36,21 @@ impl<B: Allocator> Drop for Refusing<B> {
     }
 }
 
-/// Whether an allocation is to be refused, where it is the last of so many; none is where they are 0.
+/// Returns whether an allocation is to be refused: the last of so many is, and none is if they are 0.
 fn is_last(left: u64) -> bool
     ensures { result ≡ (left == 1) }
 {
     left == 1
 }
 
-/// How many are left after one of so many; none after the last.
+/// Returns how many are left after one of so many; none after the last.
 fn left_after(left: u64) -> u64
     ensures { result ≡ left - 1 }
 {
     left.saturating_sub(1)
 }
 
-/// Counts an allocation, and answers whether it is the one to be refused.
+/// Counts an allocation, and returns whether it is the one to be refused.
 fn refuses(left: &Cell<u64>) -> bool {
     let n = left.get();
     left.set(left_after(n));

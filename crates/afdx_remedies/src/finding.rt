@@ -6,7 +6,7 @@ ghost use Rattle.afdx_remedies.specs.Entries.{entries, entry_of};
 
 use crate::entries::ENTRIES;
 
-/// The codes, each with its text.
+/// Returns the codes, each with its text.
 #[tactic(auto, unfolding(crate::specs::Entries::entries))]
 fn entries() -> &'static [(&'static str, &'static str)]
     ensures { map (λ pair. (pair.0.now, pair.1.now)) result.now ≡ entries }
@@ -14,7 +14,7 @@ fn entries() -> &'static [(&'static str, &'static str)]
     &ENTRIES
 }
 
-/// The first pair of a code.
+/// Returns the first pair of a code, if there is one.
 fn first_of<'a>(
     pairs: &'a [(&'static str, &'static str)],
     code: &str,
@@ -24,8 +24,8 @@ fn first_of<'a>(
     pairs.iter().find(|pair| pair.0 == code)
 }
 
-/// What MESSAGES says of the lines of a code: for each fault that it stands for what is wrong, and after `Remedy:` what to do, in
-/// lines that end with a line feed. Another word has `None`.
+/// Returns what MESSAGES says of the lines of a code: for each fault that it stands for, what is wrong and, after `Remedy:`, what
+/// to do, in lines that end with a line feed. Another word has `None`.
 ///
 /// O(codes).
 pub fn entry_of(code: &str) -> Option<&'static str>

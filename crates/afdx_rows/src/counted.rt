@@ -34,7 +34,7 @@ pub const RUN: &[&str] = &[
     "lost",
 ];
 
-/// Those of `network run`.
+/// The columns of `network run`.
 pub const NETWORK_RUN: &[&str] = &[
     "switch",
     "kind",

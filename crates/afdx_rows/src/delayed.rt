@@ -29,7 +29,7 @@ pub const MEASURE: &[&str] = &[
     "at",
 ];
 
-/// Those of `network measure`.
+/// The columns of `network measure`.
 pub const NETWORK_MEASURE: &[&str] = &[
     "switch",
     "kind",
@@ -49,7 +49,7 @@ pub const NETWORK_MEASURE: &[&str] = &[
     "at",
 ];
 
-/// Appends the row of a link at a port, whose bound for the link's priority is this, where one is promised.
+/// Appends the row of a link at a port, whose bound for the link's priority is this, if one is promised.
 fn put_delays<A: Allocator + Copy>(
     text: &mut String<A>,
     columns: &[&str],
@@ -109,7 +109,7 @@ fn put_buffer<A: Allocator + Copy>(
     )
 }
 
-/// Returns the port's bound for a priority, where bounds are promised.
+/// Returns the port's bound for a priority, if bounds are promised.
 fn bound_at(promised: bool, loads: &Loads<'_>, port: u8, priority: Priority) -> Option<u128>
     ensures { result ≡ bound_at promised loads.now port priority }
 {
@@ -202,7 +202,7 @@ pub fn put_buffers<A: Allocator + Copy, B: Allocator + Copy>(
 }
 
 /// Appends, under these columns, a row for each link of a finished switch and each of its output ports, with how much of the bound the
-/// greatest delay left, then one for each port. Bounds are reported where they are promised: where the table was checked, and accepted.
+/// greatest delay left, then one for each port. Bounds are reported if they are promised: if the table was checked, and accepted.
 ///
 /// An error says that memory ran out; the text is then of no use. O(ports) for each row, beside its columns.
 pub fn put_measures<A: Allocator + Copy, B: Allocator + Copy>(

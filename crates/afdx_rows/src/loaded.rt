@@ -26,7 +26,7 @@ pub const SIZE: &[&str] = &[
     "breaks",
 ];
 
-/// Those of `network size`.
+/// The columns of `network size`.
 pub const NETWORK_SIZE: &[&str] = &[
     "switch",
     "port",
@@ -117,7 +117,7 @@ fn letters(alloc: Global, row: &PortRow, load: &Load) -> Result<String, AllocErr
     Ok(letters)
 }
 
-/// Returns the greatest delay, for a priority that has so many links; none where it has none.
+/// Returns the greatest delay, for a priority that has so many links; none if it has none.
 fn limit_of(links: u32, row: &PortRow) -> Option<u128>
     ensures { result ≡ limit_of links row.now }
 {

@@ -46,7 +46,7 @@ pub const SURVEY: &[&str] = &[
     "frames",
 ];
 
-/// Those of `network survey`, in which `from` and `to` are ports.
+/// The columns of `network survey`, in which `from` and `to` are ports.
 pub const NETWORK_SURVEY: &[&str] = &[
     "switch",
     "kind",
@@ -86,7 +86,7 @@ pub const NETWORK_SURVEY: &[&str] = &[
     "frames",
 ];
 
-/// Returns a field with a stamp in nanoseconds, where there is one.
+/// Returns a field with a stamp in nanoseconds, if there is one.
 fn stamp(at: Option<Stamp>) -> Field<'static>
     ensures { result ≡ Field.Number at }
 {
@@ -125,7 +125,7 @@ fn put_spell<'x, A: Allocator + Copy>(
     )
 }
 
-/// Appends those of all its spells.
+/// Appends the rows of all spells of a link.
 fn put_spells<A: Allocator + Copy>(
     text: &mut String<A>,
     columns: &[&str],
@@ -143,7 +143,7 @@ fn put_spells<A: Allocator + Copy>(
     Ok(())
 }
 
-/// Appends those of all links, in the table's order.
+/// Appends the rows of the spells of all links, in the table's order.
 fn put_all_spells<A: Allocator + Copy, B: Allocator + Copy>(
     text: &mut String<A>,
     columns: &[&str],

@@ -6,7 +6,7 @@ use afdx_account::{Account, ByteAccount, FrameAccount, Meter, early_by};
 use afdx_units::{Bag, Police, Speed, Stamp};
 use std::test::Fail;
 
-/// An account of BAG 1 ms, no jitter and frames of at most 1518 bytes.
+/// Makes an account of BAG 1 ms, no jitter and frames of at most 1518 bytes.
 fn by_bytes() -> ByteAccount
     ensures since { ⟦<ByteAccount as Meter>⟧.since result ≡ 0 }
     ensures rate { (⟦<ByteAccount as Meter>⟧.terms result).rate ≡ 1518 }
@@ -14,8 +14,8 @@ fn by_bytes() -> ByteAccount
     ByteAccount::new(1518, Bag::Ms1, 0)
 }
 
-/// Of 1,518,000,000 units 1518 are credited in each ns, and 64 bytes cost 64,000,000. A frame that comes a nanosecond early is
-/// policed.
+/// Checks that an account of 1,518,000,000 units is credited 1518 in each ns, that 64 bytes cost 64,000,000, and that a frame
+/// that comes a nanosecond early is policed.
 #[test]
 fn an_account_by_bytes(rt: HostRuntime) -> Result<(), Fail> {
     let early = Stamp::from_ns(999_999).ok_or("an instant")?;
@@ -47,7 +47,7 @@ fn an_account_by_bytes(rt: HostRuntime) -> Result<(), Fail> {
     Ok(())
 }
 
-/// A frame of any size costs the gap; a jitter of one gap lets two pass at once, and the third comes a gap too early.
+/// Checks that a frame of any size costs the gap, that a jitter of one gap lets two pass at once, and that the third comes a gap too early.
 #[test]
 fn an_account_by_frames(rt: HostRuntime) {
     let plain = FrameAccount::new(1518, Bag::Ms1, 0);

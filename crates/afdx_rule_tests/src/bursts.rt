@@ -16,7 +16,7 @@ const THIRD: Link = Link { from: 3, ..OTHER };
 /// A high one from port 3.
 const THIRD_HIGH: Link = Link { from: 3, ..HIGH };
 
-/// The table of port 1, whose line is of so many Mbit/s, and of ports 2 and 3 at 100 Mbit/s, with these links.
+/// Makes the table of port 1, whose line is of so many Mbit/s, and of ports 2 and 3 at 100 Mbit/s, with these links.
 fn table_of(alloc: Global, mbit: u32, links: &[Link]) -> Result<Table, Fail> {
     let first = Port { mbit, ..port(1) };
     let rows = table(alloc, &[first, port(2), port(3)], links)?;
@@ -31,11 +31,11 @@ fn table_of(alloc: Global, mbit: u32, links: &[Link]) -> Result<Table, Fail> {
 /// Frames come one after the other, by exact stamps.
 const EXACT: Option<u16> = Some(0);
 
-/// They do by stamps of whole microseconds.
+/// Frames come one after the other, by stamps of whole microseconds.
 const ROUNDED: Option<u16> = Some(999);
 
-/// The bursts of port 2, where this is known of the lines of ports 1 and 3, and where latencies differ by so many nanoseconds; none past
-/// 100,000.
+/// Returns the bursts of port 2 for what is known of the lines of ports 1 and 3 and for latencies that differ by so many
+/// nanoseconds. Returns none past 100,000.
 fn bursts(
     table: &Table,
     first: Option<u16>,
@@ -85,7 +85,7 @@ const WORKED: &[(u32, &[Link], [Option<u16>; 2], (u128, u128))] = &[
     ),
     // no link, no burst
     (100, &[], [EXACT, EXACT], (0, 0)),
-    // where stamps may lack 999 ns, the first frame has come so much sooner: 124,039 * 2,048,000,000
+    // if stamps may lack 999 ns, the first frame has come so much sooner: 124,039 * 2,048,000,000
     (
         100,
         &[LOW, OTHER],
@@ -163,8 +163,8 @@ fn scattered_bursts(rt: HostRuntime) -> Result<(), Fail> {
     Ok(())
 }
 
-/// A table whose port 2 discards frames after a millisecond. Six links of 1518 bytes wait for 956,340 ns there, and for a tenth more
-/// where latencies differ by 100,000 ns.
+/// Checks the first fault of a table whose port 2 discards frames after a millisecond. Six links of 1518 bytes wait for 956,340
+/// ns there, and for a tenth more if latencies differ by 100,000 ns.
 #[test]
 fn scattered_faults(rt: HostRuntime) -> Result<(), Fail> {
     let late = Port {

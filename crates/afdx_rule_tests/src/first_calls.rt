@@ -11,7 +11,7 @@ use afdx_spells::{Excess, Spells};
 use afdx_units::{Speed, Stamp};
 use std::test::Fail;
 
-/// Of equal instants that at the lower place is the first.
+/// Checks that the one at the lower place is the first of two equal instants.
 #[test]
 fn first_of_three_places(rt: HostRuntime) {
     // example of afdx_earliest
@@ -29,7 +29,7 @@ fn first_of_three_places(rt: HostRuntime) {
     // end of example
 }
 
-/// The least frame takes 6,720 ns, so the next switch needs 13,440 ns and no whole microsecond less.
+/// Checks that the next switch needs 13,440 ns of jitter, 14 whole microseconds, since the least frame takes 6,720 ns.
 #[test]
 fn jitter_after_a_port(rt: HostRuntime) {
     // example of afdx_jitter
@@ -39,7 +39,7 @@ fn jitter_after_a_port(rt: HostRuntime) {
     // end of example
 }
 
-/// The second frame comes a gap after the first, the third a nanosecond later than that.
+/// Checks that a frame that comes a gap after another is of the same spell, and that one that comes a nanosecond later is not.
 #[test]
 fn two_spells(rt: HostRuntime) -> Result<(), Fail> {
     let mut counts = Vec::new(rt.alloc());
@@ -57,7 +57,7 @@ fn two_spells(rt: HostRuntime) -> Result<(), Fail> {
     Ok(())
 }
 
-/// A number that there is not is a dash.
+/// Checks that a number that is missing is written as a dash.
 #[test]
 fn words_with_numbers(rt: HostRuntime) -> Result<(), Fail> {
     // example of afdx_lines
@@ -68,7 +68,7 @@ fn words_with_numbers(rt: HostRuntime) -> Result<(), Fail> {
     Ok(())
 }
 
-/// The second item has the place that it had.
+/// Checks that the second item has the place that it had once the first is let go.
 #[test]
 fn first_item_let_go(rt: HostRuntime) -> Result<(), Fail> {
     // example of afdx_past
@@ -95,7 +95,7 @@ fn ports_of_recordings(rt: HostRuntime) -> Result<(), Fail> {
     Ok(())
 }
 
-/// The whole texts are those of the page, of which this is the first.
+/// Checks how the entry of `usage` begins, and that `C0` has none. The whole texts are those of the page, of which this is the first.
 #[test]
 fn entry_of_usage(rt: HostRuntime) -> Result<(), Fail> {
     // example of afdx_remedies
@@ -106,7 +106,7 @@ fn entry_of_usage(rt: HostRuntime) -> Result<(), Fail> {
     Ok(())
 }
 
-/// A column for which a row has no field is empty.
+/// Checks that a column is empty if a row has no field for it.
 #[test]
 fn a_heading_and_a_row(rt: HostRuntime) -> Result<(), Fail> {
     let mut text = String::new(rt.alloc());

@@ -22,7 +22,8 @@ fn constant_field_and_link(rt: HostRuntime) {
     // end of example
 }
 
-/// The verdict on a frame whose address begins so, of so many captured bytes and so many on the line; none where it is no record.
+/// Returns the verdict on a frame with this first byte of its address and this link, of so many captured bytes and so many on the
+/// line, or none if it is no record.
 fn verdict_on(
     alloc: Global,
     table: &Table,

@@ -16,7 +16,7 @@ const SMALL: Link = Link {
 /// Rate, least buffer, high and low bound of port 2.
 type Numbers = (u64, u128, Option<u128>, Option<u128>);
 
-/// The table of ports 1 and 2, of which the second sends so many Mbit/s, and of these links.
+/// Makes the table of ports 1 and 2, of which the second sends so many Mbit/s, and of these links.
 fn table_of(alloc: Global, mbit: u32, links: &[Link]) -> Result<Table, Fail> {
     let second = Port { mbit, ..port(2) };
     let text = table(alloc, &[port(1), second], links)?;
@@ -24,7 +24,7 @@ fn table_of(alloc: Global, mbit: u32, links: &[Link]) -> Result<Table, Fail> {
     Ok(table)
 }
 
-/// The numbers of port 2, where the loads of all ports have that rate and there is no port 3.
+/// Returns the numbers of port 2 if the loads of all ports have the same rate there and there is no port 3, else none.
 fn numbers(table: &Table) -> Option<Numbers> {
     // example of afdx_load
     let row = table.port(2)?;
@@ -43,7 +43,7 @@ fn numbers(table: &Table) -> Option<Numbers> {
     ))
 }
 
-/// The numbers before the check, those of a table that it accepts, and those of the table that comes back of it.
+/// Returns the numbers before the check, those of a table that it accepts, and those of the table that comes back from it.
 fn numbers_of(table: Table) -> [Option<Numbers>; 3] {
     let before = numbers(&table);
     match check(table) {
@@ -86,7 +86,7 @@ fn worked_numbers(rt: HostRuntime) -> Result<(), Fail> {
     Ok(())
 }
 
-/// The latency is part of the bound alone.
+/// Returns the numbers of port 2 at 1000 Mbit/s with a latency of 50 µs, which is part of the bound alone.
 fn numbers_later(alloc: Global) -> Result<Option<Numbers>, Fail> {
     let second = Port {
         mbit: 1000,
@@ -110,7 +110,7 @@ fn gigabit(rt: HostRuntime) -> Result<(), Fail> {
 /// What the links of a port ask for: rates and the longest times on the line, bursts, and how many links of each priority there are.
 type Sums = ([u64; 4], [u128; 2], [u32; 2]);
 
-/// The sums of a port.
+/// Returns the sums of a port, if the table has it.
 fn sums(table: &Table, port: u8) -> Option<Sums> {
     let load = load(table, port)?;
     let times = [
@@ -143,7 +143,7 @@ fn sums_of_a_mixed_port_and_of_one_without_links(rt: HostRuntime) -> Result<(), 
     Ok(())
 }
 
-/// Two ports that are too small and too hasty, the higher one first, and a link to both.
+/// Returns the text of a table with two ports that are too small and too hasty, the higher one first, and a link to both.
 fn small_ports(alloc: Global) -> Result<String, AllocError> {
     let small = Port {
         buffer: 0,
@@ -157,7 +157,7 @@ fn small_ports(alloc: Global) -> Result<String, AllocError> {
     table(alloc, &[Port { id: 3, ..small }, small, port(1)], &[wide])
 }
 
-/// The fault of a table, and how many ports and links the table has that comes back.
+/// Returns the fault of a table that is refused, and how many ports and links the table has that comes back.
 fn refused(table: Table) -> Option<(LoadFault, usize, usize)> {
     // example of afdx_load
     match check(table) {
@@ -167,7 +167,7 @@ fn refused(table: Table) -> Option<(LoadFault, usize, usize)> {
     // end of example
 }
 
-/// The lowest port is named, whatever the order of the text, and the table comes back.
+/// Checks that the lowest port is named, whatever the order of the text, and that the table comes back.
 #[test]
 fn first_fault_stands(rt: HostRuntime) -> Result<(), Fail> {
     let text = small_ports(rt.alloc())?;
@@ -182,7 +182,7 @@ fn first_fault_stands(rt: HostRuntime) -> Result<(), Fail> {
     Ok(())
 }
 
-/// The message of a fault begins with the name of its rule.
+/// Checks that the message of a fault begins with the name of its rule.
 #[test]
 fn messages(rt: HostRuntime) -> Result<(), Fail> {
     for (rule, message) in [

@@ -14,7 +14,7 @@ const PORT: PortRow = PortRow {
     max_delay: 500_000_000,
 };
 
-/// Whether a table has so many ports, from 1 on, each of them a port of the worked tables.
+/// Returns whether a table has so many ports, from 1 on, each of them a port of the worked tables.
 fn has_worked_ports(table: &Table, count: u8) -> bool {
     for id in 1..=count {
         if table.port(id).copied() != Some(PortRow { id, ..PORT }) {
@@ -27,7 +27,7 @@ fn has_worked_ports(table: &Table, count: u8) -> bool {
 /// A link of a worked table: its number, the port that it comes from, the one that it leads to, and its priority.
 type WorkedLink = (u16, u8, u8, Priority);
 
-/// Whether a row is that of a worked table's link.
+/// Returns whether a row is that of a worked table's link.
 fn is_worked_link(row: &LinkRow, link: &WorkedLink) -> bool {
     let (id, from, to, priority) = *link;
     row.id == id
@@ -40,7 +40,7 @@ fn is_worked_link(row: &LinkRow, link: &WorkedLink) -> bool {
         && row.police == Police::Byte
 }
 
-/// Whether a worked table's link is found by its number, and is at this place.
+/// Returns whether a worked table's link is found by its number, and is at this place.
 fn has_worked_link(table: &Table, place: usize, link: &WorkedLink) -> bool {
     let Some(row) = table.link(link.0) else {
         return false;
@@ -50,7 +50,7 @@ fn has_worked_link(table: &Table, place: usize, link: &WorkedLink) -> bool {
         && table.link_place(link.0) == Some(place)
 }
 
-/// Whether a table has exactly these links, in this order.
+/// Returns whether a table has exactly these links, in this order.
 fn has_worked_links(table: &Table, links: &[WorkedLink]) -> bool {
     for (place, link) in links.iter().enumerate() {
         if !has_worked_link(table, place, link) {
@@ -63,8 +63,8 @@ fn has_worked_links(table: &Table, links: &[WorkedLink]) -> bool {
         && table.link_place(13).is_none()
 }
 
-/// Whether a text is a table of so many worked ports and these links, with the constant field and the latency that it does not
-/// state.
+/// Returns whether a text is a table of so many worked ports and these links, with the constant field and the latency of a table
+/// that states none.
 fn is_worked(alloc: Global, text: &str, ports: u8, links: &[WorkedLink]) -> Result<bool, Fail> {
     let table = read(alloc, text.as_bytes())?;
     Ok(
@@ -103,7 +103,7 @@ link = [{ id = 0xffff, from = 2, to = [\r
 ], bag_ms = 128, jitter_us = 10_000, max_size = 64, priority = \"high\", police = \"frame\" }]\r
 ";
 
-/// Its ports.
+/// The ports of this text.
 const OTHER_PORTS: &[PortRow] = &[
     PortRow {
         id: 1,
@@ -119,7 +119,7 @@ const OTHER_PORTS: &[PortRow] = &[
     },
 ];
 
-/// Whether a row is that of its link.
+/// Returns whether a row is that of the link of `OTHER_FORMS`.
 fn is_other_link(row: &LinkRow) -> bool {
     row.from == 2
         && row.to.as_slice() == [1].as_slice()
@@ -130,7 +130,7 @@ fn is_other_link(row: &LinkRow) -> bool {
         && row.police == Police::Frame
 }
 
-/// Whether it is the table of these rows.
+/// Returns whether a table is that of `OTHER_FORMS`.
 fn is_other(table: &Table) -> bool {
     table.constant() == [7, 0, 0xaa, 0xff]
         && table.latency() == 100_000
@@ -193,7 +193,7 @@ fn push_links(alloc: Global, text: &mut String) -> Result<(), AllocError> {
     Ok(())
 }
 
-/// The greatest table: 24 ports, and 4096 links from the first to all others.
+/// Returns the text of the greatest table: 24 ports, and 4096 links from the first to all others.
 fn greatest(alloc: Global) -> Result<String, AllocError> {
     let mut text = String::new(alloc);
     push_ports(alloc, &mut text)?;
@@ -236,7 +236,7 @@ const TOO_MANY: &[(&str, usize, usize, &str, TableFault)] = &[
     ),
 ];
 
-/// A text between so many empty ports, then so many empty links, and another text.
+/// Joins a text, so many empty ports, so many empty links and another text.
 fn with_empty_rows(
     alloc: Global,
     head: &str,

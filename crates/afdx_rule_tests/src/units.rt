@@ -24,8 +24,8 @@ fn line_times(rt: HostRuntime) {
 /// Nanoseconds, seconds, nanoseconds of the second, and whether no capture has the instant.
 type Parts = (u64, u32, u32, bool);
 
-/// What an instant says of itself that lies so many nanoseconds after another one, where both are instants and it is made of its
-/// seconds and its nanoseconds again.
+/// Returns the parts of the instant that lies so many nanoseconds after another one. Returns none if either is no instant, or if
+/// its seconds and its nanoseconds do not make it again.
 fn parts(ns: u64, more: u64) -> Option<Parts> {
     let stamp = Stamp::from_ns(ns)?.plus(more)?;
     if Stamp::new(stamp.sec(), stamp.nanos()) != Some(stamp) {

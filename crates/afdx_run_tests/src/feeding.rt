@@ -6,7 +6,7 @@ use afdx_session::{Outcome, RunFault, Session, run};
 use std::alloc::{AllocError, Global};
 use std::test::*;
 
-/// A session over the table.
+/// Opens a session over the table of a setting.
 pub(crate) fn open(alloc: Global, setting: Setting) -> Result<Session<Global>, Fail> {
     let session = Session::new(alloc, plan(alloc, setting)?)?;
     Ok(session)
@@ -25,7 +25,7 @@ fn into_reported(alloc: Global, outcome: Outcome<Global>) -> Result<Reported, Al
     Ok(Reported { captures, report })
 }
 
-/// What a run over these whole captures gives.
+/// Returns what a run over these whole captures gives.
 pub(crate) fn whole(
     alloc: Global,
     setting: Setting,
@@ -36,29 +36,29 @@ pub(crate) fn whole(
     Ok(reported)
 }
 
-/// The next bytes of a port's capture.
+/// Feeds a session the next bytes of a port's capture.
 pub(crate) fn feed(session: &mut Session<Global>, port: u8, piece: &[u8]) -> Result<(), RunFault> {
     session.feed(port, piece)
 }
 
-/// The end of a port's capture.
+/// Closes a port's capture.
 pub(crate) fn close(session: &mut Session<Global>, port: u8) -> Result<(), RunFault> {
     session.close(port)
 }
 
-/// What has gone out of a port.
+/// Takes what has gone out of a port.
 pub(crate) fn take(session: &mut Session<Global>, port: u8) -> Vec<u8> {
     session.take(port)
 }
 
-/// The end of a session.
+/// Finishes a session.
 pub(crate) fn finish(
     session: Session<Global>,
 ) -> Result<Outcome<Global>, (RunFault, Session<Global>)> {
     session.finish()
 }
 
-/// What the end of a session gives, where it has an outcome.
+/// Finishes a session, and returns what that gives if it has an outcome.
 pub(crate) fn rest(alloc: Global, session: Session<Global>) -> Option<Reported> {
     match finish(session) {
         Ok(outcome) => into_reported(alloc, outcome).ok(),
@@ -75,7 +75,7 @@ pub(crate) struct Intake<'a> {
     taken: MemoryFile<Global>,
 }
 
-/// Nothing of these captures has come yet.
+/// Makes the intakes of these captures, of which nothing has come yet.
 pub(crate) fn intakes<'a>(
     alloc: Global,
     captures: &'a [(u8, Vec<u8>)],
@@ -95,7 +95,7 @@ pub(crate) fn intakes<'a>(
     Ok(intakes)
 }
 
-/// A piece of a port's capture, and its end where it is the last one.
+/// Feeds a piece of a port's capture, and ends the capture if it is the last one.
 fn bring(
     session: &mut Session<Global>,
     port: u8,
@@ -106,7 +106,7 @@ fn bring(
     if last { close(session, port) } else { Ok(()) }
 }
 
-/// The next bytes of a capture come, so many at most; with the last of them it ends.
+/// Feeds the next bytes of a capture that has not ended, so many at most, and ends it with the last of them.
 fn feed_more(
     session: &mut Session<Global>,
     intake: &mut Intake<'_>,
@@ -121,7 +121,7 @@ fn feed_more(
     bring(session, intake.port, piece, intake.closed)
 }
 
-/// The same of the capture at a place, if there is one; that of port 1 is the first.
+/// Feeds the capture at a place in the same way, if there is one; that of port 1 is the first.
 pub(crate) fn feed_at(
     session: &mut Session<Global>,
     intakes: &mut [Intake<'_>],
@@ -140,7 +140,7 @@ fn take_more(session: &mut Session<Global>, intake: &mut Intake<'_>) -> Result<(
     intake.taken.bytes.extend_from_slice(&bytes)
 }
 
-/// The same of the port at a place, if there is one.
+/// Takes what has gone out of the port at a place, if there is one.
 pub(crate) fn take_at(
     session: &mut Session<Global>,
     intakes: &mut [Intake<'_>],
@@ -156,7 +156,7 @@ pub(crate) fn are_closed(intakes: &[Intake<'_>]) -> bool {
     intakes.iter().all(|intake| intake.closed)
 }
 
-/// What has gone out of each port goes to its file; whether nothing is left to be taken then.
+/// Appends what has gone out of each port to its file, and returns whether nothing is left to be taken then.
 fn write_all(
     session: &mut Session<Global>,
     intakes: &mut [Intake<'_>],
@@ -175,8 +175,9 @@ fn are_others_closed(intakes: &[Intake<'_>], port: u8) -> bool {
         .all(|intake| intake.port == port || intake.closed)
 }
 
-/// Pieces of the capture that holds back the output, until all have ended, but no more than 100,000; after each, what has
-/// gone out goes to the files. Whether nothing is left of it, and the session says rightly when the capture is the last one.
+/// Feeds pieces of the capture that holds back the output, until all have ended, but no more than 100,000. After each, what has
+/// gone out goes to the files. Returns whether nothing is left of it, and the session says rightly when the capture is the last
+/// one.
 pub(crate) fn feed_waited(
     session: &mut Session<Global>,
     intakes: &mut [Intake<'_>],
@@ -194,12 +195,12 @@ pub(crate) fn feed_waited(
     Ok(right && are_closed(intakes))
 }
 
-/// Whether what was taken of a port and then this rest is this text.
+/// Returns whether what was taken of a port and then this rest is this text.
 fn is_joined(taken: &[u8], rest: &[u8], text: &[u8]) -> bool {
     text.len() == taken.len() + rest.len() && text.starts_with(taken) && text.ends_with(rest)
 }
 
-/// Whether what was taken of each port, and then what the end gives, is what the whole run gives.
+/// Returns whether what was taken of each port and then left at the end is what the whole run gives, and the reports are the same.
 pub(crate) fn agree(intakes: &[Intake<'_>], rest: &Reported, whole: &Reported) -> bool {
     if rest.captures.len() != intakes.len() || whole.captures.len() != intakes.len() {
         return false;

@@ -17,7 +17,7 @@ use std::test::Fail;
 /// A frame of size 64 at a port of a switch: the switch, the port, the frame's link and its nanoseconds.
 type At = (usize, u8, u8, u32);
 
-/// The capture of those of these frames that are at a port of a switch.
+/// Returns the capture of those of these frames that are at a port of a switch.
 fn capture_at(
     alloc: Global,
     frames: &[At],
@@ -33,7 +33,7 @@ fn capture_at(
     capture(alloc, &samples)
 }
 
-/// Readers of the captures of a network's ports without a wire, where these frames come in.
+/// Makes a reader for each port of a network without a wire, over the capture of those of these frames that come in there.
 fn readers_of(
     alloc: Global,
     network: &Network,
@@ -50,7 +50,7 @@ fn readers_of(
     Ok(readers)
 }
 
-/// A new file for each port of a network.
+/// Makes a new file for each port of a network.
 fn files_of(alloc: Global, network: &Network) -> Result<Vec<MemoryFile<Global>>, AllocError>
     ensures { IfOk result (λ files. length files.items ≡ length (all_ends network.now)) }
 {
@@ -72,7 +72,7 @@ struct Led {
     counts: Vec<Counts<Global>>,
 }
 
-/// Whether exactly these frames leave all ports.
+/// Returns whether exactly these frames leave all ports.
 fn all_leave(alloc: Global, led: &Led, left: &[At]) -> Result<bool, AllocError> {
     for (end, file) in led.ends.iter().zip(led.files.iter()) {
         let expected = capture_at(alloc, left, end.switch, end.port)?;
@@ -83,7 +83,7 @@ fn all_leave(alloc: Global, led: &Led, left: &[At]) -> Result<bool, AllocError> 
     Ok(true)
 }
 
-/// What the two switches with this jitter lead to, where these frames come in.
+/// Runs the two switches with this jitter over these frames that come in, and returns what leaves them and what they count.
 fn lead(alloc: Global, jitter_us: u32, came: &[At]) -> Result<Led, Fail> {
     // example of afdx_network
     let network = cleared(alloc, jitter_us)?;
@@ -129,7 +129,7 @@ fn four_frames_over_two_switches(rt: HostRuntime) -> Result<(), Fail> {
     Ok(())
 }
 
-/// The first frame of link 3 leaves each switch after those of the others, and the second one alone.
+/// Checks the delays of link 3, whose first frame leaves each switch after those of the others, and the second one alone.
 #[test]
 fn delays_from_end_to_end(rt: HostRuntime) -> Result<(), Fail> {
     let network = cleared(rt.alloc(), 14)?;

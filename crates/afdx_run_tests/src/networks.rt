@@ -8,7 +8,7 @@ use afdx_wiring::{Layout, NetworkFault, Short};
 use std::alloc::{AllocError, Global};
 use std::test::Fail;
 
-/// The layout of switches A and B, with a wire from A to B.
+/// Reads the layout of switches A and B, with a wire from A to B.
 fn layout(alloc: Global) -> Result<Layout, Fail> {
     // example of afdx_wiring
     let text = network_file(alloc, &["A", "B"], &[("A.4", "B.1", 0)])?;
@@ -19,7 +19,7 @@ fn layout(alloc: Global) -> Result<Layout, Fail> {
     // end of example
 }
 
-/// The tables of these texts.
+/// Reads the tables of these texts.
 fn tables(alloc: Global, texts: &[String]) -> Result<Vec<Table>, Fail> {
     let mut tables = Vec::new(alloc);
     for text in texts {
@@ -28,7 +28,7 @@ fn tables(alloc: Global, texts: &[String]) -> Result<Vec<Table>, Fail> {
     Ok(tables)
 }
 
-/// The network of switches A and B, of these tables, which fit together.
+/// Makes the network of switches A and B, of these tables, which have to fit together.
 fn fitting(alloc: Global, texts: &[String]) -> Result<Network, Fail> {
     let tables = tables(alloc, texts)?;
     let layout = layout(alloc)?;
@@ -43,13 +43,13 @@ fn fitting(alloc: Global, texts: &[String]) -> Result<Network, Fail> {
     // end of example
 }
 
-/// The tables of two switches in a row with this jitter at the second one; 13,440 ns of jitter arise at the first.
+/// Returns the texts of the tables of two switches in a row with this jitter at the second one; 13,440 ns of jitter arise at the first.
 fn two_tables(alloc: Global, jitter_us: u32) -> Result<Vec<String>, AllocError> {
     let [first, second] = two_switches(jitter_us);
     four_ports_each(alloc, &[&first, &second])
 }
 
-/// The network of these tables, where each load is accepted. Whether the jitters are enough is not asked.
+/// Makes the network of these tables, whose loads all have to be accepted. Whether the jitters are enough is not asked.
 pub(crate) fn cleared(alloc: Global, jitter_us: u32) -> Result<ClearedNetwork, Fail> {
     let texts = two_tables(alloc, jitter_us)?;
     let network = fitting(alloc, &texts)?;
@@ -57,7 +57,7 @@ pub(crate) fn cleared(alloc: Global, jitter_us: u32) -> Result<ClearedNetwork, F
     Ok(cleared)
 }
 
-/// What the check of that network says.
+/// Returns the fault that the check of that network finds, if any.
 fn shortage(alloc: Global, jitter_us: u32) -> Result<Option<NetworkFault>, Fail> {
     // example of afdx_network_check
     let network = cleared(alloc, jitter_us)?;

@@ -25,7 +25,7 @@ enum Pieces {
     Waited(usize),
 }
 
-/// The pieces come; whether none was refused, and the session says rightly what it waits for.
+/// Feeds a session the pieces, and returns whether none was refused and it says rightly what it waits for.
 fn come(session: &mut Session<Global>, intakes: &mut [Intake<'_>], pieces: Pieces) -> bool {
     match pieces {
         Pieces::Random(most, seed) => come_at_random(session, intakes, most, seed),
@@ -33,7 +33,7 @@ fn come(session: &mut Session<Global>, intakes: &mut [Intake<'_>], pieces: Piece
     }
 }
 
-/// Whether these captures in such pieces lead where the whole run does.
+/// Returns whether these captures in such pieces lead to the same as the whole run.
 fn lead(
     alloc: Global,
     setting: Setting,
@@ -50,7 +50,7 @@ fn lead(
     })
 }
 
-/// Whether these captures lead where the whole run does, in pieces of each of these kinds.
+/// Returns whether these captures lead to the same as the whole run, in pieces of each of these kinds.
 fn all_lead(
     alloc: Global,
     setting: Setting,
@@ -128,7 +128,7 @@ const ROWS: &[Row] = &[
     },
 ];
 
-/// Whether the captures of a row lead where the whole run does.
+/// Returns whether the captures of a row lead to the same as the whole run.
 fn row_leads(alloc: Global, row: &Row) -> Result<bool, Fail> {
     let captures = captures(alloc, row.came)?;
     all_lead(alloc, row.setting, &captures, KINDS)
@@ -216,7 +216,7 @@ const NETWORK: Setting = Setting {
 /// The links of the network.
 const LINKS: [u8; 7] = [100, 104, 200, 202, 30, 31, 40];
 
-/// A frame of one of the links, some time after the instant.
+/// Returns a random frame of one of the links, some time after the instant.
 fn any_frame(random: &mut SmallRng, nanos: u32) -> Sample {
     let place = random.random_range(0usize..7);
     let link = LINKS.get(place).copied().unwrap_or(100);
@@ -225,7 +225,7 @@ fn any_frame(random: &mut SmallRng, nanos: u32) -> Sample {
     frame(link, size, nanos.saturating_add(gap))
 }
 
-/// A capture of so many frames of these links, also of links from other ports.
+/// Returns a capture of so many frames of these links, also of links from other ports.
 fn traffic(alloc: Global, random: &mut SmallRng, count: usize) -> Result<Vec<u8>, AllocError> {
     let mut frames: Vec<Sample> = Vec::new(alloc);
     let mut nanos = 0u32;
@@ -237,7 +237,7 @@ fn traffic(alloc: Global, random: &mut SmallRng, count: usize) -> Result<Vec<u8>
     capture(alloc, &frames)
 }
 
-/// Captures of the four ports; nothing comes in at port 3.
+/// Returns random captures of the four ports; nothing comes in at port 3.
 fn random_captures(alloc: Global, random: &mut SmallRng) -> Result<Vec<(u8, Vec<u8>)>, AllocError> {
     let mut captures = Vec::new(alloc);
     for (port, count) in [(1u8, 40usize), (2, 25), (3, 0), (4, 60)] {
@@ -246,7 +246,7 @@ fn random_captures(alloc: Global, random: &mut SmallRng) -> Result<Vec<(u8, Vec<
     Ok(captures)
 }
 
-/// A piece of one capture comes, and what has gone out of one port is taken; whether neither was refused.
+/// Feeds a piece of one capture, and takes what has gone out of one port. Returns whether neither was refused.
 fn step_at_random(
     session: &mut Session<Global>,
     intakes: &mut [Intake<'_>],
@@ -258,7 +258,7 @@ fn step_at_random(
     take_at(session, intakes, random.random_range(0usize..4)).is_ok() && fed
 }
 
-/// So it goes until all captures have ended, but no more than 100,000 times; whether none was refused.
+/// Goes on so until all captures have ended, but no more than 100,000 times. Returns whether they have, and none was refused.
 fn come_at_random(
     session: &mut Session<Global>,
     intakes: &mut [Intake<'_>],
@@ -276,7 +276,7 @@ fn come_at_random(
     right && are_closed(intakes)
 }
 
-/// Whether random pieces of random ports lead where the whole captures do. The seed makes the captures too.
+/// Returns whether random pieces of random ports lead to the same as the whole captures. The seed makes the captures too.
 fn random_captures_lead(alloc: Global, seed: u64) -> Result<bool, Fail> {
     let mut random = SmallRng::seed_from_u64(seed);
     let captures = random_captures(alloc, &mut random)?;

@@ -65,7 +65,7 @@ fn trace_of_one_frame(rt: HostRuntime) -> Result<(), Fail> {
     Ok(())
 }
 
-/// The second frame had number 7 at its first switch; the first one came in here.
+/// Checks that the second frame has number 7, which it had at its first switch, and the first one none, since it came in here.
 #[test]
 fn numbers_at_first_switches(rt: HostRuntime) -> Result<(), Fail> {
     // example of afdx_network_trace
@@ -77,7 +77,7 @@ fn numbers_at_first_switches(rt: HostRuntime) -> Result<(), Fail> {
     Ok(())
 }
 
-/// A file with no bytes in memory.
+/// Makes a file with no bytes in memory.
 fn no_bytes(alloc: Global) -> MemoryFile<Global> {
     MemoryFile {
         bytes: Vec::new(alloc),
@@ -142,7 +142,7 @@ fn verdict_of_one_frame(rt: HostRuntime) -> Result<(), Fail> {
     Ok(())
 }
 
-/// The frame starts at 0, and the line is free again 6,720 ns later.
+/// Checks that the frame that starts at 0 goes out 6,720 ns later, when the line is free again.
 #[test]
 fn one_frame_by_time(rt: HostRuntime) -> Result<(), Fail> {
     // example of afdx_paced

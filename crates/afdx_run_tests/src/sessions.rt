@@ -37,7 +37,7 @@ struct Row {
     end: End,
 }
 
-/// Whether a session answers so to a piece of a port's capture, each of so many times.
+/// Returns whether a session answers so to a piece of a port's capture, each of so many times.
 fn feeds(
     session: &mut Session<Global>,
     times: usize,
@@ -52,7 +52,7 @@ fn feeds(
     right
 }
 
-/// Whether this is what has gone out of a port.
+/// Takes what has gone out of a port, and returns whether it is this text.
 fn takes(
     alloc: Global,
     session: &mut Session<Global>,
@@ -63,7 +63,7 @@ fn takes(
     Ok(take(session, port).as_slice() == wanted.as_slice())
 }
 
-/// Whether a session answers a call so.
+/// Returns whether a session answers a call as it should.
 fn answers(alloc: Global, session: &mut Session<Global>, call: Call) -> Result<bool, AllocError> {
     Ok(match call {
         Call::Feed(port, text, wanted) => feeds(session, 1, port, &bytes(alloc, text)?, wanted),
@@ -75,7 +75,7 @@ fn answers(alloc: Global, session: &mut Session<Global>, call: Call) -> Result<b
     })
 }
 
-/// How many of these calls it answers so, up to the first that it does not, or where memory runs out.
+/// Counts the calls that a session answers as it should, up to the first that it does not, or for which memory runs out.
 fn answered(alloc: Global, session: &mut Session<Global>, calls: &[Call]) -> usize {
     calls
         .iter()
@@ -83,13 +83,13 @@ fn answered(alloc: Global, session: &mut Session<Global>, calls: &[Call]) -> usi
         .count()
 }
 
-/// Whether exactly these texts are left of the ports from 1 on.
+/// Returns whether exactly these texts are left of the ports from 1 on.
 fn are_left(alloc: Global, outcome: &Outcome<Global>, texts: &[Text]) -> Result<bool, AllocError> {
     let wanted = captures(alloc, texts)?;
     Ok(are_same(&outcome.captures, &wanted))
 }
 
-/// Whether a session that has failed was to fail so, and answers the call so.
+/// Returns whether a session that has failed was to fail so, and answers the call of its end as it should.
 fn has_failed(
     alloc: Global,
     found: RunFault,
@@ -102,7 +102,7 @@ fn has_failed(
     }
 }
 
-/// Whether a session ends so.
+/// Returns whether a session ends so.
 fn ends(alloc: Global, session: Session<Global>, end: End) -> Result<bool, AllocError> {
     match finish(session) {
         Ok(outcome) => match end {
@@ -113,7 +113,7 @@ fn ends(alloc: Global, session: Session<Global>, end: End) -> Result<bool, Alloc
     }
 }
 
-/// How many of a row's calls a session answers so, and whether it then ends so.
+/// Returns how many of a row's calls a session answers as it should, and whether it then ends as it should.
 fn plays(alloc: Global, row: &Row) -> Result<(usize, bool), Fail> {
     let mut session = open(alloc, row.setting)?;
     let count = answered(alloc, &mut session, row.calls);

@@ -98,7 +98,7 @@ fn text_of(alloc: Global, setting: Setting) -> Result<String, AllocError> {
     }
 }
 
-/// The table.
+/// Reads the table of a setting.
 fn table_of(alloc: Global, setting: Setting) -> Result<Table, Fail> {
     let text = text_of(alloc, setting)?;
     let table = read(alloc, text.as_bytes())?;
@@ -110,7 +110,7 @@ fn cleared(table: Table) -> Result<Plan, Fail> {
     Ok(Plan::Cleared(cleared))
 }
 
-/// The plan of a table, which is accepted where it is checked.
+/// Makes the plan of a table, which has to be accepted if it is checked.
 pub(crate) fn plan(alloc: Global, setting: Setting) -> Result<Plan, Fail> {
     let table = table_of(alloc, setting)?;
     if setting.checked {

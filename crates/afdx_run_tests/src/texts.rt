@@ -51,13 +51,13 @@ fn of_frames(alloc: Global, frames: &[Frame]) -> Result<Vec<u8>, AllocError> {
     capture(alloc, &samples)
 }
 
-/// The bytes from the 24th on, where a capture's records begin.
+/// Returns the bytes from place 24 on, at which a capture's records begin.
 fn records(alloc: Global, frames: &[Frame]) -> Result<Vec<u8>, AllocError> {
     let whole = of_frames(alloc, frames)?;
     Vec::from_slice(alloc, whole.get(24..).unwrap_or(&[]))
 }
 
-/// The bytes of a text.
+/// Returns the bytes of a text.
 pub(crate) fn bytes(alloc: Global, text: Text) -> Result<Vec<u8>, AllocError> {
     match text {
         Text::Frames(frames) => of_frames(alloc, frames),
@@ -67,7 +67,7 @@ pub(crate) fn bytes(alloc: Global, text: Text) -> Result<Vec<u8>, AllocError> {
     }
 }
 
-/// These texts, of the ports from 1 on.
+/// Returns these texts as captures of the ports from 1 on.
 pub(crate) fn captures(alloc: Global, texts: &[Text]) -> Result<Vec<(u8, Vec<u8>)>, AllocError> {
     let mut captures = Vec::new(alloc);
     let mut port = 1u8;
@@ -78,7 +78,7 @@ pub(crate) fn captures(alloc: Global, texts: &[Text]) -> Result<Vec<(u8, Vec<u8>
     Ok(captures)
 }
 
-/// Whether these are the same ports with the same bytes.
+/// Returns whether these are the same ports with the same bytes.
 pub(crate) fn are_same(ours: &[(u8, Vec<u8>)], theirs: &[(u8, Vec<u8>)]) -> bool {
     if ours.len() != theirs.len() {
         return false;

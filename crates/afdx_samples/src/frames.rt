@@ -20,14 +20,14 @@ pub struct Sample {
 }
 
 impl Sample {
-    /// Destination, source and EtherType.
+    /// Returns the destination, the source and the EtherType.
     pub fn header(&self) -> [u8; 14] {
         let Sample { first, link, .. } = *self;
         [first, 0, 0, 0, 0, link, 2, 0, 0, 0, 0, 1, 8, 0]
     }
 }
 
-/// A frame of a link and of so many captured bytes, so many nanoseconds after the start of 1970.
+/// Makes a frame of a link and of so many captured bytes, so many nanoseconds after the start of 1970.
 pub fn frame(link: u8, captured: u32, nanos: u32) -> Sample {
     Sample {
         seconds: 0,
@@ -39,17 +39,17 @@ pub fn frame(link: u8, captured: u32, nanos: u32) -> Sample {
     }
 }
 
-/// A frame of size 64.
+/// Makes a frame of size 64.
 pub fn small(link: u8, nanos: u32) -> Sample {
     frame(link, 60, nanos)
 }
 
-/// A frame of size 1518.
+/// Makes a frame of size 1518.
 pub fn large(link: u8, nanos: u32) -> Sample {
     frame(link, 1514, nanos)
 }
 
-/// Frames of the table `narrow` that come in at port 1 at instant 0: cut, short, long, of another constant field, of no link,
+/// Makes frames for the table `narrow` that come in at port 1 at instant 0: cut, short, long, of another constant field, of no link,
 /// of a link from another port, too big, both short and of another constant field, and a clean one.
 pub fn one_of_each() -> [Sample; 9] {
     let whole = small(10, 0);
@@ -72,8 +72,8 @@ pub fn one_of_each() -> [Sample; 9] {
     ]
 }
 
-/// The record of a frame; none where its stamp is no stamp or in the last second, where it is too long, and where memory
-/// is out.
+/// Makes the record of a frame; none if its stamp is no stamp or in the last second, if the frame is too long, or if memory runs
+/// out.
 pub fn record<A: Allocator + Copy>(alloc: A, sample: Sample) -> Option<Record<'static, A>>
     ensures { IfSome result (λ frame. frame.stamp < last_second) }
 {

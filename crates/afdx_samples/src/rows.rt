@@ -10,7 +10,7 @@ pub struct Port {
 }
 
 /// A link as the table has it: milliseconds of gap, microseconds of jitter, bytes of the greatest size; the kind of its
-/// policing, which is not stated where it is empty.
+/// policing, which is not stated if it is empty.
 #[derive(Clone, Copy)]
 pub struct Link {
     pub id: u16,

@@ -4,7 +4,7 @@ use crate::rows::{Link, Port};
 use std::alloc::{AllocError, Global};
 use std::fmt::Write;
 
-/// A port at 100 Mbit/s with much room.
+/// Makes a port at 100 Mbit/s with much room.
 pub fn port(id: u8) -> Port {
     Port {
         id,
@@ -14,7 +14,7 @@ pub fn port(id: u8) -> Port {
     }
 }
 
-/// A low link without jitter, for frames of every size each millisecond, whose kind of policing is not stated.
+/// Makes a low link without jitter, for frames of every size each millisecond, whose kind of policing is not stated.
 pub fn link(id: u16, from: u8, to: &'static str) -> Link {
     Link {
         id,
@@ -28,7 +28,7 @@ pub fn link(id: u16, from: u8, to: &'static str) -> Link {
     }
 }
 
-/// The text of a table, of the second version where a link states the kind of its policing.
+/// Writes a table, in the second version if a link states the kind of its policing.
 pub fn table(alloc: Global, ports: &[Port], links: &[Link]) -> Result<String, AllocError> {
     let mut text = String::new(alloc);
     if links.iter().any(|link| !link.police.is_empty()) {
@@ -57,17 +57,17 @@ pub fn table(alloc: Global, ports: &[Port], links: &[Link]) -> Result<String, Al
     Ok(text)
 }
 
-/// This table, which states no version, in the third version and with this latency.
+/// Writes this table, which states no version, in the third version and with this latency.
 pub fn later(alloc: Global, table: &str, latency_us: u32) -> Result<String, AllocError> {
     format!(in alloc; "version = 3\nlatency_us = {latency_us}\n{table}")
 }
 
-/// Ports 1 and 2, and link 10 from 1 to 2.
+/// Writes a table with ports 1 and 2, and link 10 from 1 to 2.
 pub fn single(alloc: Global) -> Result<String, AllocError> {
     table(alloc, &[port(1), port(2)], &[link(10, 1, "[2]")])
 }
 
-/// Ports 1 and 2 and this one, and links 10 from 1 and 20 from 2, both to 3.
+/// Writes a table with ports 1 and 2 and this one, and links 10 from 1 and 20 from 2, both to 3.
 pub fn double(alloc: Global, third: Port) -> Result<String, AllocError> {
     table(
         alloc,
@@ -76,7 +76,7 @@ pub fn double(alloc: Global, third: Port) -> Result<String, AllocError> {
     )
 }
 
-/// Ports 1 and 2, and links 10 and 11 (low) and 12 (high) from 1 to 2.
+/// Writes a table with ports 1 and 2, and links 10 and 11 (low) and 12 (high) from 1 to 2.
 pub fn mixed(alloc: Global) -> Result<String, AllocError> {
     let high = Link {
         priority: "high",
@@ -89,7 +89,7 @@ pub fn mixed(alloc: Global) -> Result<String, AllocError> {
     )
 }
 
-/// The same as `double`, with frames of link 10 of at most 500 bytes.
+/// Writes the same table as `double`, with frames of link 10 of at most 500 bytes.
 pub fn narrow(alloc: Global) -> Result<String, AllocError> {
     let first = Link {
         max_size: 500,
@@ -102,7 +102,7 @@ pub fn narrow(alloc: Global) -> Result<String, AllocError> {
     )
 }
 
-/// Port 1, port 2 at 10 Mbit/s with room for one frame of size 64, port 3, and link 10 from 1 to the others.
+/// Writes a table with port 1, port 2 at 10 Mbit/s with room for one frame of size 64, port 3, and link 10 from 1 to the others.
 pub fn slow(alloc: Global) -> Result<String, AllocError> {
     let second = Port {
         mbit: 10,

@@ -71,7 +71,7 @@ fn push_output(
     Ok(())
 }
 
-/// Names the captures of what came, and of what left at the output ports that were recorded, each by rising port.
+/// Returns the names of the captures of what came, and of what left at the output ports that were recorded, each by rising port.
 fn names_of(
     alloc: Global,
     compare: &Compare<'_>,
@@ -87,7 +87,7 @@ fn names_of(
     Ok(names)
 }
 
-/// Returns the failure that a fault of captures leads to which were opened under these names.
+/// Returns the failure for a fault of captures that were opened under these names.
 fn compare_failure<F: Folder>(
     alloc: Global,
     folder: &mut F,
@@ -133,7 +133,7 @@ fn find<'t, F: Folder>(
     }
 }
 
-/// Lists the name of the file of differences in a folder, alone.
+/// Returns a list of one name, that of the file of differences in a folder.
 fn rows_names(alloc: Global, rows: &str) -> Result<Vec<String>, AllocError>
     ensures { IfOk result (λ names. map string_bytes names.items ≡ rows_name rows.now ∷ []) }
 {
@@ -142,7 +142,7 @@ fn rows_names(alloc: Global, rows: &str) -> Result<Vec<String>, AllocError>
     Ok(names)
 }
 
-/// Lists a text, alone.
+/// Returns a list of one text, this.
 fn alone(alloc: Global, text: String) -> Result<Vec<Vec<u8>>, AllocError>
     ensures { IfOk result (λ texts. map (λ text. text.items) texts.items ≡ string_bytes text ∷ []) }
 {
@@ -193,7 +193,7 @@ fn put_rows<F: Folder>(
 /// form.
 ///
 /// The table is got first and its load checked, as for a switch whose latency varies from the least to the table's. Then the captures of
-/// what came are opened, and those of what left, each by rising port; each is read once, in pieces. Where one cannot be read or has a
+/// what came are opened, and those of what left, each by rising port; each is read once, in pieces. If one cannot be read or has a
 /// fault, the others are read on to their ends, so that the failure is the first in this order. The report's text is made before the put.
 ///
 /// # Errors

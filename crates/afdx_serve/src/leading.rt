@@ -45,7 +45,7 @@ fn report_from<R: Read, N: NewFile>(
     }
 }
 
-/// Returns the failure that a fault of captures leads to which were opened under these names, those of a table's ports.
+/// Returns the failure for a fault of captures that were opened under these names, those of a table's ports.
 pub(crate) fn source_failure<F: Folder>(
     alloc: Global,
     folder: &mut F,

@@ -6,7 +6,7 @@ ghost use Rattle.afdx_serve.specs.Runs.{capture_name};
 use afdx_table::PortRow;
 use std::alloc::{AllocError, Global};
 
-/// Names a file in a folder.
+/// Returns the name of a file in a folder.
 pub(crate) fn name_in(alloc: Global, folder: &str, file: &str) -> Result<String, AllocError>
     ensures { IfOk result (λ name. string_bytes name ≡ folder.now ++ file.now) }
 {
@@ -15,7 +15,7 @@ pub(crate) fn name_in(alloc: Global, folder: &str, file: &str) -> Result<String,
     Ok(name)
 }
 
-/// Names a port's capture: the folder's name, `/port-`, the port's number, `.pcap`.
+/// Returns the name of a port's capture: the folder's name, `/port-`, the port's number, `.pcap`.
 pub(crate) fn capture_name(alloc: Global, folder: &str, port: u8) -> Result<String, AllocError>
     ensures { IfOk result (λ name. string_bytes name ≡ capture_name folder.now port) }
 {
@@ -24,7 +24,7 @@ pub(crate) fn capture_name(alloc: Global, folder: &str, port: u8) -> Result<Stri
     Ok(name)
 }
 
-/// Names the captures of these ports in a folder, in order.
+/// Returns the names of the captures of these ports in a folder, in order.
 pub(crate) fn port_names(
     alloc: Global,
     folder: &str,

@@ -18,7 +18,7 @@ use afdx_wiring::{NetworkFault, Short, Switch};
 use std::alloc::{AllocError, Global};
 use std::io::Write;
 
-/// Checks whether the tables of a network fit together, whose loads are accepted, and returns the rows whose jitter is not enough.
+/// Checks whether the tables of a network whose loads are accepted fit together, and returns the rows whose jitter is not enough.
 fn judge(alloc: Global, cleared: &ClearedNetwork) -> Result<Vec<Short>, NetworkFault>
     ensures first { Gives (λ shorts. shorts.items) result (judged cleared.now) }
     ensures fits { IfOk result (λ shorts. FitsTogether cleared.now × (shorts.items ≡ [] → HasJitters cleared.now)) }

@@ -16,7 +16,7 @@ use afdx_wiring::{Layout, NetworkFault, Switch};
 use std::alloc::{AllocError, Global};
 use std::path::PathBuf;
 
-/// Names a table's file, whose name in a network file is this: beside that file, unless it begins with `/`.
+/// Returns the name of a table's file, whose name in a network file is this: beside that file, unless it begins with `/`.
 fn table_name(alloc: Global, network: &str, table: &str) -> Result<String, AllocError>
     ensures { IfOk result (λ name. string_bytes name ≡ path_with_file_name network.now table.now) }
 {
@@ -25,7 +25,7 @@ fn table_name(alloc: Global, network: &str, table: &str) -> Result<String, Alloc
     Ok(path.into_string())
 }
 
-/// Copies the names of switches.
+/// Returns copies of the names of switches.
 pub(crate) fn names_of(alloc: Global, switches: &[Switch]) -> Result<Vec<String>, AllocError>
     ensures { IfOk result (λ names. map string_bytes names.items ≡ names_of switches.now) }
 {
@@ -49,7 +49,7 @@ fn switch_of(fault: NetworkFault) -> Option<usize>
     }
 }
 
-/// Copies the name at a place, if there is one.
+/// Returns a copy of the name at a place, if there is one.
 fn name_at(
     alloc: Global,
     names: &[String],

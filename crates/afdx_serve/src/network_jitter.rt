@@ -78,7 +78,8 @@ fn check_fit(alloc: Global, network: &Network) -> Result<(), NetworkFault>
     network.fit(alloc)
 }
 
-/// Returns the jitters that the rows of a network need, if its tables fit together.
+/// Returns the jitters that the rows of a network need: the least that are enough, if its tables fit together and no line is asked for
+/// too much.
 fn needs_of(alloc: Global, network: Network) -> Result<Needs, Failure>
     ensures { MatchResult result (λ needs. AreNeeds network needs.rows.items needs.past) (λ f. f ≡ Out) }
 {

@@ -38,7 +38,7 @@ use afdx_wiring::laws::{layouts_are_within_limits, no_port_has_two_wires};
 use std::alloc::{AllocError, Global};
 use std::io::{Read, Write};
 
-/// Names the folder of a switch's captures in a folder.
+/// Returns the name of the folder of a switch's captures in a folder.
 pub(crate) fn switch_folder(alloc: Global, folder: &str, name: &str) -> Result<String, AllocError>
     ensures { IfOk result (λ path. string_bytes path ≡ switch_folder folder.now name.now) }
 {
@@ -48,7 +48,7 @@ pub(crate) fn switch_folder(alloc: Global, folder: &str, name: &str) -> Result<S
     Ok(path)
 }
 
-/// Names the captures of these ports in a folder, each in that of its switch, which has its name.
+/// Returns the names of the captures of these ports in a folder, each in that of its switch, which has its name.
 pub(crate) fn names_at(
     alloc: Global,
     path: &str,
@@ -91,7 +91,7 @@ fn line_failure(alloc: Global, names: &[String], switch: usize, port: u8, number
     }
 }
 
-/// Returns the failure that a fault of a run leads to, over captures that were opened under these names.
+/// Returns the failure for a fault of a run over captures that were opened under these names.
 pub(crate) fn run_failure<F: Folder>(
     alloc: Global,
     folder: &mut F,

@@ -37,7 +37,7 @@ fn inputs_of<'a>(paths: &NetworkPaths<'a>) -> NetworkInputs<'a>
     }
 }
 
-/// Names the two files of each switch, in its folder.
+/// Returns the names of the two files of each switch, in its folder.
 fn all_names(alloc: Global, output: &str, names: &[String]) -> Result<Vec<String>, AllocError>
     ensures { IfOk result (λ all. map string_bytes all.items ≡ network_trace_names output.now (map string_bytes names.now)) }
 {

@@ -20,7 +20,7 @@ pub(crate) struct Report {
     pub(crate) is_found: bool,
 }
 
-/// Tells whether the verdict of a run bears on what is asked of it.
+/// Returns whether the verdict of a run bears on what is asked of it.
 fn needs_verdict(options: &RunOptions) -> bool
     ensures { result ≡ needs_verdict options.now }
 {
@@ -28,7 +28,7 @@ fn needs_verdict(options: &RunOptions) -> bool
     options.verdict || chosen.policed || chosen.filtered || chosen.lost
 }
 
-/// Tells whether there is one of what a run is to fail on.
+/// Returns whether there is one of what a run is to fail on.
 fn is_found(chosen: FailOn, verdict: &RunVerdict) -> bool
     ensures { result ≡ is_found chosen verdict.now }
 {

@@ -98,29 +98,35 @@ fn serve_arguments<R: Read, O: Write, F: Folder>(
     }
 }
 
-/// Serves what the arguments ask for, of which the first is the program's name, and gives how it ended. The status is 0 done,
+/// Serves what the arguments ask for, of which the first is the program's name, and returns how it ended. The status is 0 done,
 /// 1 done with one of what a run is to fail on or with what speaks against a switch that was recorded, 2 refused arguments, 3 a
-/// refused table, network or capture, 4 a refused load or jitter, 5 memory or a device.
+/// refused table, network or capture, 4 a refused load or jitter or a record that came too soon for a line, 5 memory or a device.
 ///
-/// `afdx alone` reads `input` to its end and writes its answer on `out`; `afdx check TABLE` and `afdx size TABLE` get TABLE
-/// from `folder` and write their lines on `out`; `afdx run TABLE IN OUT` gets TABLE, checks its load unless there is
+/// `afdx alone` reads `input` to its end and writes its answer on `out`. `afdx check TABLE` and `afdx size TABLE` get TABLE
+/// from `folder` and write their lines on `out`. `afdx run TABLE IN OUT` gets TABLE, checks its load unless there is
 /// `--unchecked`, gets IN/port-1.pcap and so on, puts OUT/port-1.pcap and so on and writes the report on `out`, with its
-/// verdict as the last line if there is `--verdict`; `afdx measure TABLE IN` does so too, but puts nothing and writes what
-/// delays and buffers were; `afdx survey TABLE IN` writes the report and these, and when links were policed; `afdx trace TABLE
+/// verdict as the last line if there is `--verdict`. `afdx measure TABLE IN` does so too, but puts nothing and writes what
+/// delays and buffers were. `afdx survey TABLE IN` writes the report and these, and when links were policed. `afdx trace TABLE
 /// IN OUT` puts OUT/arrivals.csv and OUT/departures.csv in place of the captures, with the lines of the links of `--link` alone
-/// if there is one, and writes nothing; `afdx compare TABLE IN OUT` gets TABLE, checks its load as of a switch whose latency varies,
+/// if there is one, and writes nothing. `afdx compare TABLE IN OUT` gets TABLE, checks its load as of a switch whose latency varies,
 /// gets IN/port-1.pcap and so on, and OUT/port-1.pcap and so on of the ports that were recorded, puts FOLDER/differences.csv if there is
-/// `--rows FOLDER`, and writes what it found out; `afdx network check NET`, `afdx network size NET` and `afdx network jitter NET` get NET
-/// and the tables that it names and write their lines; `afdx network run NET IN OUT` gets IN/A/port-1.pcap and so on for each
-/// switch A, puts OUT/A/port-1.pcap and so on and writes the reports; `afdx explain CODE` writes on `out` what MESSAGES says of
-/// CODE; `--help` and `--version` write the text of `clap` on `out`, the second that of `version` after the program's name. On
-/// a status above 1 one line goes to `err`, and after it what MESSAGES says of its code if `--explain` is the first argument
-/// after the program's name: whole, or it is said that it was not taken, and a prefix of it is there; a fault in writing it
-/// changes nothing else. All other arguments mean what they mean without `--explain`. What is met before the answer is written
-/// leaves `out` as it was; if writing fails, a prefix of the answer was written.
+/// `--rows FOLDER`, and writes what it found out.
+///
+/// `afdx network check NET`, `afdx network size NET` and `afdx network jitter NET` get NET and the tables that it names and write their
+/// lines. `afdx network run NET IN OUT` gets IN/A/port-1.pcap and so on for each switch A, puts OUT/A/port-1.pcap and so on and writes
+/// the reports. `afdx network measure NET IN` does so too, but puts nothing and writes what delays from end to end and buffers were.
+/// `afdx network survey NET IN` writes the reports and these, and when links were policed. `afdx network trace NET IN OUT` puts
+/// OUT/A/arrivals.csv and OUT/A/departures.csv in place of the captures, and writes nothing.
+///
+/// `afdx explain CODE` writes on `out` what MESSAGES says of CODE. `--help` and `--version` write the text of `clap` on `out`, the
+/// second that of `version` after the program's name. On a status above 1 the line of the failure, or its lines, go to `err`, and after
+/// them what MESSAGES says of their code if `--explain` is the first argument after the program's name: whole, or it is said that they
+/// were not taken, and a prefix of them is there; a fault in writing them changes nothing else. All other arguments mean what they mean
+/// without `--explain`. What is met before the answer is written leaves `out` as it was; if writing fails, a prefix of the answer was
+/// written.
 ///
 /// No contract knows why a reader, a writer or a folder fails, or whether memory is left: that 5 comes only then, and
-/// that it is said only of an `err` that fails that it has not taken its line, is shown by tests.
+/// that it is said only of an `err` that fails that it has not taken its lines, is shown by tests.
 ///
 /// O(arguments, input and files) beside the switch's own work, with at most 16,777,216 reads of `input`.
 pub fn serve<R: Read, O: Write, E: Write, F: Folder>(

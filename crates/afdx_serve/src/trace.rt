@@ -39,7 +39,7 @@ fn selection_of(options: &TraceOptions) -> Selection<'_>
     }
 }
 
-/// Names the two files in a folder.
+/// Returns the names of the two files in a folder.
 pub(crate) fn names_in(alloc: Global, folder: &str) -> Result<Vec<String>, AllocError>
     ensures { IfOk result (λ names. map string_bytes names.items ≡ trace_names folder.now) }
 {
@@ -49,7 +49,7 @@ pub(crate) fn names_in(alloc: Global, folder: &str) -> Result<Vec<String>, Alloc
     Ok(names)
 }
 
-/// Names the new files that are begun: the two files, and the second once more for each of so many ports.
+/// Returns the names of the new files that are begun: the two files, and the second once more for each of so many ports.
 fn names_to_begin(alloc: Global, folder: &str, ports: usize) -> Result<Vec<String>, AllocError>
     ensures { IfOk result (λ names. length names.items ≡ ports + 2) }
 {
@@ -146,11 +146,11 @@ fn traced<F: Folder>(
 /// each arrival, and then departures.csv, what became of each copy; both have a heading, and if the options name links, theirs are all
 /// lines. Nothing is written.
 ///
-/// The table is got first and, unless the run is unchecked, its load checked. Then new files are begun, one for the arrivals, one for the copies
-/// and beside that one for each port; the captures of the ports are opened, by rising number, and read once, in pieces, while the switch
-/// runs. A line goes to its file as soon as it is known. At the end the files of the ports are joined behind the heading of the copies. All names are made
-/// before the first put, and the device has both files by then: if it fails to take one, none is put. After a put that failed the file before it is
-/// there, and no later one is put. New files that are not put are let go.
+/// The table is got first and, unless the run is unchecked, its load checked. Then new files are begun, one for the arrivals, one for the
+/// copies and beside that one for each port; the captures of the ports are opened, by rising number, and read once, in pieces, while the
+/// switch runs. A line goes to its file as soon as it is known. At the end the files of the ports are joined after the heading of the
+/// copies. All names are made before the first put, and the device has both files by then: if it fails to take one, none is put. After a
+/// put that failed the file before it is there, and no later one is put. New files that are not put are let go.
 ///
 /// # Errors
 ///

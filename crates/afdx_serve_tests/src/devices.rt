@@ -4,7 +4,7 @@ use std::alloc::Global;
 use std::io;
 use std::io::{ErrorKind, Read, Write};
 
-/// Gives the bytes, at most 7 at once; one call answers an error instead.
+/// A reader that gives the bytes, at most 7 at once; one call answers an error instead.
 #[derive(Drop)]
 pub(crate) struct Source<'a> {
     pub(crate) bytes: &'a [u8],
@@ -45,7 +45,7 @@ impl Read for Interrupted {
     }
 }
 
-/// Takes at most so many bytes at once; the call of number `failing`, from 1, takes none or answers an error.
+/// A writer that takes at most so many bytes at once; the call of number `failing`, from 1, takes none or answers an error.
 #[derive(Drop)]
 pub(crate) struct Sink {
     pub(crate) bytes: Vec<u8>,

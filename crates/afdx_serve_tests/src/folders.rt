@@ -8,7 +8,7 @@ use afdx_folder::FolderFault;
 use afdx_samples::{capture, single};
 use std::alloc::{AllocError, Global};
 
-/// Whether the run of one frame is done where the sixth call would fail, which none makes.
+/// Returns whether the run of one frame is done over a folder whose sixth call would fail, which is never made.
 fn is_done(alloc: Global, arguments: &str) -> Result<bool, AllocError> {
     let run = OneFrame::new(alloc)?;
     let mut folder = run.folder(6, FolderFault::Device)?;
@@ -35,7 +35,7 @@ const ONE_ARRIVAL: &str = "frame,port,record,stamp,link,size,fate,early,full
 0,1,1,0,10,64,passed,,
 ";
 
-/// The arguments, the number of a call over the run of one frame, the name that it is for, the line where it fails, and how many
+/// The arguments, the number of a call over the run of one frame, the name that it is for, the line if it fails, and how many
 /// files are there then.
 type Failing = (&'static str, u64, &'static str, &'static str, usize);
 
@@ -160,7 +160,7 @@ const FAILING: &[Failing] = &[
     ("afdx size t", 1, "t", "afdx: device get t\n", 3),
 ];
 
-/// Whether a command stops where a call fails so, and leaves the first so many files.
+/// Returns whether a command stops if a call fails so, and leaves the first so many files.
 fn stops(
     alloc: Global,
     arguments: &str,
@@ -182,7 +182,7 @@ fn stops(
     )
 }
 
-/// Whether it stops where the call fails by its device, and where it is out of memory.
+/// Returns whether a command stops if the call fails by its device, and if it is out of memory.
 fn stops_at(alloc: Global, failing: &Failing) -> Result<bool, AllocError> {
     let (arguments, call, name, line, count) = *failing;
     let by_device = Broken {
@@ -224,7 +224,7 @@ const SETTLING: &[(&str, u64, &str)] = &[
     (TRACE, 2, "out/departures.csv"),
 ];
 
-/// Whether a command then names it and leaves all files as they were, and does so where memory runs out there.
+/// Returns whether a command then names the new file and leaves all files as they were, and leaves them so if memory runs out there.
 fn stops_settling(
     alloc: Global,
     arguments: &str,
@@ -240,7 +240,7 @@ fn stops_settling(
     Ok(is_device && is_memory)
 }
 
-/// A failure that is known before the first file is moved moves none.
+/// Checks that a failure that is known before the first file is moved moves none.
 #[test]
 fn failing_to_settle(rt: HostRuntime) {
     for (arguments, number, name) in SETTLING {
@@ -251,7 +251,7 @@ fn failing_to_settle(rt: HostRuntime) {
     }
 }
 
-/// Whether the run of one frame is done by five calls of the folder: the table is got, two captures are opened, and two are put.
+/// Returns whether the run of one frame is done by five calls of the folder: the table is got, two captures are opened, and two are put.
 fn is_done_once(alloc: Global, arguments: &str) -> Result<bool, AllocError> {
     let run = OneFrame::new(alloc)?;
     let mut folder = run.sound()?;
@@ -269,7 +269,7 @@ fn opens_each_capture_once(rt: HostRuntime) {
     }
 }
 
-/// Whether a command names the first capture, where none that is opened can be read.
+/// Returns whether a command names the first capture if none that is opened can be read.
 fn names_the_first(alloc: Global, arguments: &str) -> Result<bool, AllocError> {
     let run = OneFrame::new(alloc)?;
     let mut folder = run.sound()?;
@@ -290,17 +290,17 @@ fn says_which_capture_cannot_be_read(rt: HostRuntime) {
     }
 }
 
-/// So many bytes of the capture of one frame.
+/// Returns the first so many bytes of the capture of one frame.
 fn cut(alloc: Global, left: usize) -> Result<Vec<u8>, AllocError> {
     let mut bytes = capture(alloc, &[captured(60, 0, 0)])?;
     bytes.truncate(left);
     Ok(bytes)
 }
 
-/// How many bytes are left of a port's capture, where it is there.
+/// How many bytes are left of a port's capture, if it is there.
 type Left = Option<usize>;
 
-/// Adds what is left of a capture.
+/// Adds what is left of a capture, if it is there.
 fn add_left(
     alloc: Global,
     folder: &mut MemoryFolder<Global>,
@@ -313,7 +313,7 @@ fn add_left(
     }
 }
 
-/// A folder that opens files, where so much is left of each port's capture.
+/// Makes a folder that opens files, in which so much is left of each port's capture.
 fn opened(alloc: Global, first: Left, second: Left) -> Result<MemoryFolder<Global>, AllocError> {
     let table = single(alloc)?;
     let mut folder = folder_of(alloc, &table, &[])?;
@@ -322,7 +322,7 @@ fn opened(alloc: Global, first: Left, second: Left) -> Result<MemoryFolder<Globa
     Ok(folder)
 }
 
-/// Whether a command over such a folder has this status and line; it puts no capture and leaves no new file.
+/// Returns whether a command over such a folder has this status and line, puts no capture and leaves no new file.
 fn is_refused_opening(
     alloc: Global,
     arguments: &str,
@@ -337,7 +337,7 @@ fn is_refused_opening(
     Ok(is_said && folder.count() == files)
 }
 
-/// Whether each command does that reads captures in pieces.
+/// Returns whether each command that reads captures in pieces does so.
 fn are_refused_opening(
     alloc: Global,
     first: Left,

@@ -1,4 +1,4 @@
-//! Tests of the program's commands where folders, readers and writers fail, and of what no case of the built program sees.
+//! Tests of the program's commands if folders, readers and writers fail, and of what no case of the built program sees.
 //!
 //! They are in a crate of their own, since a crate with tests is proved twice.
 #![tactic(auto)]

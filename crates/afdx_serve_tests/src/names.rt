@@ -8,17 +8,17 @@ use afdx_pcap::PcapFault;
 use afdx_table::TableFault;
 use std::alloc::{AllocError, Global};
 
-/// Whether a folder's fault is printed so.
+/// Returns whether a folder's fault is printed as this name.
 fn is_of_folder(alloc: Global, fault: FolderFault, name: &str) -> Result<bool, AllocError> {
     Ok(format!(in alloc; "{fault}")?.as_str() == name)
 }
 
-/// Whether a fault of the policing of one link is printed so.
+/// Returns whether a fault of the policing of one link is printed as this name.
 fn is_of_alone(alloc: Global, fault: AloneFault, name: &str) -> Result<bool, AllocError> {
     Ok(format!(in alloc; "{fault}")?.as_str() == name)
 }
 
-/// Whether each of them is printed so.
+/// Returns whether each of these faults is printed as its name.
 fn faults_are_named(alloc: Global) -> Result<bool, AllocError> {
     let memory = is_of_folder(alloc, FolderFault::Memory, "Memory")?;
     let device = is_of_folder(alloc, FolderFault::Device, "Device")?;
@@ -32,7 +32,7 @@ fn folder_and_alone_faults_are_named(rt: HostRuntime) {
     assert!(rt; matches!(faults_are_named(rt.alloc()), Ok(true)));
 }
 
-/// Whether a failure is printed so.
+/// Returns whether a failure is printed as this name.
 fn is_named(alloc: Global, failure: Failure, name: &str) -> Result<bool, AllocError> {
     Ok(format!(in alloc; "{failure}")?.as_str() == name)
 }
@@ -45,14 +45,14 @@ const LOAD: LoadFault = LoadFault {
     limit: 1,
 };
 
-/// Whether what a folder fails to get or to put is printed so.
+/// Returns whether the failures of what a folder gets or puts are printed as their names.
 fn files_are_named(alloc: Global) -> Result<bool, AllocError> {
     let got = is_named(alloc, Failure::Get(String::from_str(alloc, "t")?), "Get")?;
     let put = is_named(alloc, Failure::Put(String::from_str(alloc, "t")?), "Put")?;
     Ok(got && put)
 }
 
-/// Whether the table and the captures that are none, and a load that is too high, are printed so.
+/// Returns whether the failures of a table and of captures that are none, and of a load that is too high, are printed as their names.
 fn inputs_are_named(alloc: Global) -> Result<bool, AllocError> {
     let magic = PcapFault::Magic;
     let table = is_named(alloc, Failure::Table(TableFault::Toml), "Table")?;
@@ -62,7 +62,7 @@ fn inputs_are_named(alloc: Global) -> Result<bool, AllocError> {
     Ok(table && load && capture && port)
 }
 
-/// Whether arguments, devices and memory that fail, and what a run is to fail on, are printed so.
+/// Returns whether the failures of arguments, devices and memory, and of what a run is to fail on, are printed as their names.
 fn others_are_named(alloc: Global) -> Result<bool, AllocError> {
     let found = is_named(alloc, Failure::Found, "Found")?;
     let usage = is_named(alloc, Failure::Usage, "Usage")?;

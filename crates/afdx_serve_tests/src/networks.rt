@@ -22,8 +22,8 @@ fn add_captures(alloc: Global, folder: &mut MemoryFolder<Global>) -> Result<(), 
     folder.add("in/B/port-2.pcap", &HEADER)
 }
 
-/// Whether the run fails with this line at the call of this number, after which none comes, and has put the captures of A or has
-/// put none.
+/// Returns whether the run fails with this line at the call of this number, after which none comes, and has put the captures of A
+/// or has put none, as it should.
 fn fails_at(alloc: Global, call: u64, line: &str, is_put: bool) -> Result<bool, AllocError> {
     let mut folder = MemoryFolder::new(alloc);
     add_network(alloc, &mut folder)?;
@@ -48,7 +48,7 @@ const FAILING: &[(u64, &str, bool)] = &[
     (9, "afdx: device put out/B/port-1.pcap\n", true),
 ];
 
-/// Whether the run fails with this line where the device does not take the new file of this number, and has put none.
+/// Returns whether the run fails with this line if the device does not take the new file of this number, and has put none.
 fn fails_to_settle(alloc: Global, number: u64, line: &str) -> Result<bool, AllocError> {
     let mut folder = MemoryFolder::new(alloc);
     add_network(alloc, &mut folder)?;

@@ -8,12 +8,12 @@ use afdx_samples::{capture, large, small};
 use std::alloc::{AllocError, Global};
 use std::test::*;
 
-/// Link 10, which may send a large frame each millisecond.
+/// Makes link 10, which may send a large frame each millisecond.
 fn link() -> Option<Alone> {
     Alone::of_numbers(10, 1, 0, 1518)
 }
 
-/// What these arguments ask for, where it is the policing of one link.
+/// Returns what these arguments ask for, if it is the policing of one link.
 fn link_in(alloc: Global, line: &str) -> Result<Option<Alone>, AllocError> {
     // example of afdx_arguments
     let arguments = split(alloc, line)?;
@@ -24,7 +24,7 @@ fn link_in(alloc: Global, line: &str) -> Result<Option<Alone>, AllocError> {
     // end of example
 }
 
-/// Whether the frame that comes a nanosecond early is policed, and no other.
+/// Returns whether the frame that comes a nanosecond early is policed, and no other.
 fn polices(alloc: Global, link: &Alone) -> Result<bool, AllocError> {
     // example of afdx_alone
     let early = large(10, 999_999);
@@ -45,7 +45,7 @@ fn polices_one_link(rt: HostRuntime) -> Result<(), Fail> {
     Ok(())
 }
 
-/// The fault of the first bytes of a capture of two small frames, by the format.
+/// Returns the fault of the first bytes of a capture of two small frames, by the format, if there is one.
 fn fault_in(length: usize) -> Option<PcapFault> {
     match length {
         0..=23 => Some(PcapFault::NoHeader),
@@ -57,7 +57,7 @@ fn fault_in(length: usize) -> Option<PcapFault> {
     }
 }
 
-/// Whether all of these bytes come out where they are whole, and else they are refused with the format's fault.
+/// Returns whether all of these bytes come out if they are whole, and are refused with the format's fault if not.
 fn is_right(alloc: Global, link: &Alone, cut: &[u8]) -> bool {
     let fault = fault_in(cut.len());
     match alone(alloc, link, cut) {
@@ -67,7 +67,7 @@ fn is_right(alloc: Global, link: &Alone, cut: &[u8]) -> bool {
     }
 }
 
-/// At how many places a capture may be cut so that what is left of it is answered right.
+/// Counts the places at which a capture may be cut so that what is left of it is answered right.
 fn right_cuts(alloc: Global, link: &Alone, input: &[u8]) -> usize {
     let mut cuts = 0usize;
     for length in 0..=input.len() {

@@ -4,7 +4,7 @@ use afdx_progress::{Progress, WatchedReader};
 use std::io::Read;
 use std::test::Fail;
 
-/// Standard error is no terminal here, so nothing is shown.
+/// Checks that a watched reader reads. Standard error is no terminal here, so nothing is shown.
 #[test]
 fn a_watched_reader_reads(rt: HostRuntime) -> Result<(), Fail> {
     let mut bytes = [0u8; 8];

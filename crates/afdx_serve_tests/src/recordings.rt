@@ -1,5 +1,5 @@
-//! The comparison of recordings over a folder in memory, where a call of the folder, a capture or a writer fails. Values from outside:
-//! captures, printed lines and rows.
+//! The comparison of recordings over a folder in memory, if a call of the folder, a capture or a writer fails. Values from
+//! outside: captures, printed lines and rows.
 
 use crate::devices::Sink;
 use afdx_fixtures::{
@@ -31,7 +31,7 @@ const ONE_FOREIGN: (&str, &[u8]) = (
 ",
 );
 
-/// A folder with the recordings of one frame. The call of number `failing` fails so.
+/// Makes a folder with the recordings of one frame. The call of number `failing` fails so.
 fn recorded(
     alloc: Global,
     run: &OneFrame,
@@ -56,7 +56,7 @@ const COMPARED: &[Compared] = &[
     (MISTAKEN, 1, DIFFERS, ONE_FOREIGN),
 ];
 
-/// Whether a comparison is done by six calls of the folder: the table is got, four captures are opened, and one file is put.
+/// Returns whether a comparison is done by six calls of the folder: the table is got, four captures are opened, and one file is put.
 fn is_done(alloc: Global, (arguments, status, report, rows): Compared) -> Result<bool, AllocError> {
     let run = OneFrame::new(alloc)?;
     let mut folder = recorded(alloc, &run, 7, FolderFault::Device)?;
@@ -75,7 +75,7 @@ fn compared_in_memory(rt: HostRuntime) {
     }
 }
 
-/// The number of a call of the comparison, the name that it is for, and the line where it fails.
+/// The number of a call of the comparison, the name that it is for, and the line if it fails.
 const FAILING: &[(u64, &str, &str)] = &[
     (1, "t", "afdx: device get t\n"),
     (2, "in/port-1.pcap", "afdx: device get in/port-1.pcap\n"),
@@ -89,7 +89,7 @@ const FAILING: &[(u64, &str, &str)] = &[
     ),
 ];
 
-/// Whether the comparison ends so where this call fails, which is its last, and leaves the recordings alone.
+/// Returns whether the comparison ends so if this call fails, which is its last, and leaves the recordings alone.
 fn stops(
     alloc: Global,
     call: u64,
@@ -104,7 +104,7 @@ fn stops(
     Ok(is_said && is_left && folder.last_failure() == name)
 }
 
-/// Whether it does where the call fails by its device, and where it is out of memory.
+/// Returns whether the comparison ends so if the call fails by its device, and if it is out of memory.
 fn stops_at(alloc: Global, (call, name, line): (u64, &str, &str)) -> Result<bool, AllocError> {
     let is_device = stops(alloc, call, FolderFault::Device, Some(name), line)?;
     let is_memory = stops(alloc, call, FolderFault::Memory, None, "afdx: memory\n")?;
@@ -118,7 +118,7 @@ fn failing_folder_of_recordings(rt: HostRuntime) {
     }
 }
 
-/// Whether the comparison ends so where the file of differences is not settled, and leaves the recordings alone.
+/// Returns whether the comparison ends so if the file of differences is not settled, and leaves the recordings alone.
 fn stops_settling(
     alloc: Global,
     fault: FolderFault,
@@ -143,7 +143,7 @@ fn differences_that_are_not_settled(rt: HostRuntime) {
     assert!(rt; by_memory == Ok(true));
 }
 
-/// Whether the comparison names the first capture, where none that is opened can be read.
+/// Returns whether the comparison names the first capture if none that is opened can be read.
 fn names_the_first(alloc: Global) -> Result<bool, AllocError> {
     let run = OneFrame::new(alloc)?;
     let mut folder = recorded(alloc, &run, 0, FolderFault::Device)?;
@@ -197,7 +197,7 @@ const REFUSED: &[Refused] = &[
     ),
 ];
 
-/// Whether a comparison ends so, and puts nothing.
+/// Returns whether a comparison ends so, and puts nothing.
 fn is_refused(
     alloc: Global,
     arguments: &str,
@@ -216,7 +216,7 @@ fn is_refused(
     Ok(is_said && folder.count() == files)
 }
 
-/// All captures are opened before one is read; what came is named before what left.
+/// Checks that all captures are opened before one is read, and what came is named before what left.
 #[test]
 fn says_which_recording_is_at_fault(rt: HostRuntime) {
     for (arguments, cuts, status, line) in REFUSED {
@@ -230,7 +230,7 @@ fn says_which_recording_is_at_fault(rt: HostRuntime) {
 /// How many bytes a writer takes at once, the write that fails, and how many bytes are written then.
 const WRITERS: &[(usize, u64, usize)] = &[(50, 1, 0), (50, 2, 50), (1, 8, 7)];
 
-/// Whether a comparison over such a writer names it, and has put its differences.
+/// Returns whether a comparison over such a writer names it, and has put its differences.
 fn is_cut(
     alloc: Global,
     (line, _, report, rows): Compared,

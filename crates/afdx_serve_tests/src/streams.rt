@@ -10,7 +10,7 @@ use std::alloc::{AllocError, Global};
 use std::io::{ErrorKind, Read};
 use std::test::Fail;
 
-/// Each command, and how many files of the run of one frame are there where it is done.
+/// Each command, and how many files of the run of one frame are there once it is done.
 const COMMANDS: &[(&str, usize)] = &[
     ("afdx --help", 3),
     (LINK_10, 3),
@@ -37,8 +37,7 @@ const SOUND_WRITER: LineWriter = (50, 0, true);
 
 const LINE_WRITERS: &[LineWriter] = &[(50, 0, true), (1, 0, true), (0, 0, false), (50, 1, false)];
 
-/// A writer for standard output: how many bytes it takes at once, the call that fails and how, and how many bytes are written where
-/// not all are.
+/// A writer for standard output: how many bytes it takes at once, the call that fails and how, and how many bytes are written if not all are.
 type OutWriter = (usize, u64, Option<ErrorKind>, Option<usize>);
 
 const BROKEN: Option<ErrorKind> = Some(ErrorKind::BrokenPipe);
@@ -60,7 +59,7 @@ const OUT_WRITERS: &[OutWriter] = &[
     (1, 24, None, Some(23)),
 ];
 
-/// How it ended, and what is on standard error.
+/// Serves a command, and returns how it ended and what is on standard error.
 fn served<R: Read>(
     alloc: Global,
     line: &str,
@@ -75,12 +74,12 @@ fn served<R: Read>(
     Ok((ending, err.bytes))
 }
 
-/// What a writer for the line holds then.
+/// Returns what a writer for the line holds then.
 fn reported(line: &'static str, writer: LineWriter) -> &'static [u8] {
     if writer.2 { line.as_bytes() } else { b"" }
 }
 
-/// How a command ends over a writer for the line: that took the line, if there is one.
+/// Returns how a command ends over a writer for the line: with this status, and whether the line, if there is one, was taken.
 fn ending(status: u8, writer: LineWriter) -> Ending {
     Ending {
         status,
@@ -99,7 +98,7 @@ struct Wanted<'a> {
 }
 
 impl Wanted<'_> {
-    /// Whether that is to be seen.
+    /// Returns whether a command ended as wanted, and standard output and the writer for the line took what is wanted.
     fn is_seen(&self, got: &(Ending, Vec<u8>), out: &Sink) -> bool {
         got.0 == self.ending
             && Some(out.bytes.as_slice()) == self.out
@@ -107,7 +106,7 @@ impl Wanted<'_> {
     }
 }
 
-/// Whether that is seen of a command over the run of one frame.
+/// Returns whether what is wanted is seen of a command over the run of one frame.
 fn shows<R: Read>(
     run: &OneFrame,
     alloc: Global,
@@ -124,13 +123,13 @@ fn shows<R: Read>(
     Ok(is_seen && is_left)
 }
 
-/// What a command writes, where nothing fails.
+/// Returns what a command writes if nothing fails.
 fn written(run: &OneFrame, alloc: Global, line: &str) -> Result<Vec<u8>, AllocError> {
     let mut folder = run.sound()?;
     Ok(answer_over(alloc, line, run.came(), &mut folder)?.out)
 }
 
-/// Whether a command over the run of one frame writes so much to this writer, and the line to that one.
+/// Returns whether a command over the run of one frame writes so much to this writer, and the line to that one.
 fn is_written(
     alloc: Global,
     (line, files): (&str, usize),
@@ -154,7 +153,7 @@ fn is_written(
     shows(&run, alloc, line, &mut reader, out, writer, &wanted)
 }
 
-/// Whether it does so beside each writer for the line.
+/// Returns whether it does so beside each writer for the line.
 fn is_written_beside_each(
     alloc: Global,
     command: (&str, usize),
@@ -196,7 +195,7 @@ const READERS: &[(u64, ErrorKind, bool)] = &[
     (16, ErrorKind::BrokenPipe, false),
 ];
 
-/// Whether the policing of a link, where this read fails so, is answered for or not, and this writer takes the line.
+/// Returns whether the policing of a link is answered for as it should be if this read fails so, and this writer takes the line if it should.
 fn is_read(
     alloc: Global,
     failing: u64,
@@ -221,7 +220,7 @@ fn is_read(
     shows(&run, alloc, LINK_10, &mut reader, out, writer, &wanted)
 }
 
-/// Whether it is so with each writer for the line.
+/// Returns whether it is so with each writer for the line.
 fn is_read_beside_each(
     alloc: Global,
     failing: u64,
@@ -246,7 +245,7 @@ fn failing_streams_at_a_reader(rt: HostRuntime) -> Result<(), Fail> {
     Ok(())
 }
 
-/// Whether a command that reads nothing is done over a reader whose first read fails.
+/// Returns whether a command that reads nothing is done over a reader whose first read fails.
 fn reads_nothing(alloc: Global, line: &str, files: usize) -> Result<bool, AllocError> {
     let run = OneFrame::new(alloc)?;
     let whole = written(&run, alloc, line)?;
@@ -270,7 +269,7 @@ fn reads_for_alone_only(rt: HostRuntime) -> Result<(), Fail> {
     Ok(())
 }
 
-/// Whether the policing of a link gives up over such a reader.
+/// Returns whether the policing of a link gives up over a reader of which every read is interrupted.
 fn gives_up(alloc: Global) -> Result<bool, AllocError> {
     let run = OneFrame::new(alloc)?;
     let wanted = Wanted {
@@ -298,7 +297,7 @@ fn failing_streams_where_every_read_is_interrupted(rt: HostRuntime) -> Result<()
     Ok(())
 }
 
-/// A capture of sixty records of 1530 bytes, a gap apart.
+/// Returns a capture of sixty records of 1530 bytes, a gap apart.
 fn sixty_frames(alloc: Global) -> Result<Vec<u8>, AllocError> {
     let mut came = Vec::new(alloc);
     for number in 0..60u32 {
@@ -310,8 +309,8 @@ fn sixty_frames(alloc: Global) -> Result<Vec<u8>, AllocError> {
 /// The write that fails, the status, how many writes there are and how many bytes are written.
 const TURNS: &[(u64, u8, u64, usize)] = &[(0, 0, 2, 91_824), (1, 5, 1, 0), (2, 5, 2, 65_536)];
 
-/// Whether the policing of a capture, where the write of this number fails, has this status and so many writes, and exactly the first
-/// so many of its bytes are written.
+/// Returns whether the policing of a capture, if the write of this number fails, has this status and so many writes, and exactly
+/// the first so many of its bytes are written.
 fn is_in_turns(
     alloc: Global,
     failing: u64,
@@ -329,7 +328,7 @@ fn is_in_turns(
     Ok(is_written && got.0.status == status && out.calls == calls)
 }
 
-/// The writer takes 65,536 bytes at a time, and the answer has more.
+/// Checks an answer that is written in turns: the writer takes 65,536 bytes at a time, and the answer has more.
 #[test]
 fn writes_a_long_answer_in_turns(rt: HostRuntime) -> Result<(), Fail> {
     for (failing, status, calls, written) in TURNS {
@@ -341,7 +340,7 @@ fn writes_a_long_answer_in_turns(rt: HostRuntime) -> Result<(), Fail> {
     Ok(())
 }
 
-/// Whether no words at all, not even the program's name, are wrong arguments.
+/// Returns whether no words at all, not even the program's name, are wrong arguments.
 fn refuses_no_words(alloc: Global) -> Result<bool, AllocError> {
     let mut folder = MemoryFolder::new(alloc);
     let got = answer_over(alloc, "", b"", &mut folder)?;

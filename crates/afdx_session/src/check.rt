@@ -12,7 +12,7 @@ use crate::plan::RunFault;
 use afdx_pcap::{PcapFault, Reader};
 use std::alloc::Allocator;
 
-/// Whether a text is a capture, or its first fault. It takes no memory. O(records).
+/// Fails with the first fault of a text that is no capture. It takes no memory. O(records).
 fn check_text<A: Allocator + Copy>(alloc: A, text: &[u8]) -> Result<(), PcapFault>
     ensures ok { OnOk result ((records : List Record) × IsCapture text.now records) }
     ensures err { IfErr result (IsFault text.now) }
@@ -22,7 +22,7 @@ fn check_text<A: Allocator + Copy>(alloc: A, text: &[u8]) -> Result<(), PcapFaul
     Ok(())
 }
 
-/// The fault of the first of these captures that has one. It takes no memory. O(records).
+/// Fails with the fault of the first of these captures that has one. It takes no memory. O(records).
 pub(crate) fn check_texts<A: Allocator + Copy>(
     alloc: A,
     captures: &[(u8, Vec<u8, A>)],

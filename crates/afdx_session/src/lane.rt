@@ -45,7 +45,7 @@ const AHEAD: usize = 4_096;
 pub(crate) struct Lane<'a, A: Allocator> {
     pub(crate) port: u8,
     pub(crate) reader: Reader<'a, A>,
-    /// The stamp of the last record that was read, 0 where there is none.
+    /// The stamp of the last record that was read, 0 if there is none.
     pub(crate) last: Stamp,
     /// All records were read, and none comes any more.
     pub(crate) ended: bool,
@@ -62,7 +62,7 @@ pub(crate) struct Lane<'a, A: Allocator> {
 }
 
 impl<'a, A: Allocator + Copy> Lane<'a, A> {
-    /// A port of which nothing has come.
+    /// Makes the lane of a port of which nothing has come.
     pub(crate) fn new(alloc: A, port: u8) -> Result<Lane<'a, A>, AllocError>
         ensures { IfOk result (λ l. IsFreshLane port l) }
     {
@@ -82,7 +82,7 @@ impl<'a, A: Allocator + Copy> Lane<'a, A> {
         })
     }
 
-    /// The reader's next whole record.
+    /// Reads the next whole record, if there is one.
     fn next(&mut self) -> Result<Option<Record<'a, A>>, RunFault>
         requires { self.old.reader.fault ≡ None }
         ensures read_on { IsReadOn self.old self.new }
@@ -101,7 +101,8 @@ impl<'a, A: Allocator + Copy> Lane<'a, A> {
         }
     }
 
-    /// The next whole record joins those that wait. Whether there was one. O(its bytes), and O(1) where these are lent.
+    /// Reads the next whole record, which joins those that wait. Returns whether there was one. O(its bytes), and O(1) if
+    /// these are lent.
     pub(crate) fn draw(&mut self) -> Result<bool, RunFault>
         requires { self.old.reader.fault ≡ None }
         ensures read_on { IsReadOn self.old self.new }
@@ -122,7 +123,7 @@ impl<'a, A: Allocator + Copy> Lane<'a, A> {
         }
     }
 
-    /// Whole records that are there join those that wait. O(their bytes).
+    /// Reads all whole records that are there, which join those that wait. O(their bytes).
     fn read_on(&mut self) -> Result<(), RunFault>
         requires { self.old.reader.fault ≡ None }
         ensures read_on { IsReadOn self.old self.new }
@@ -133,7 +134,7 @@ impl<'a, A: Allocator + Copy> Lane<'a, A> {
         Ok(())
     }
 
-    /// The next piece comes.
+    /// Takes the next piece of the capture, and reads the records that are whole now.
     pub(crate) fn feed(&mut self, piece: &[u8]) -> Result<(), RunFault>
         requires still_open { self.old.reader.closed ≡ false }
         requires no_fault { self.old.reader.fault ≡ None }
@@ -153,7 +154,7 @@ impl<'a, A: Allocator + Copy> Lane<'a, A> {
         self.read_on()
     }
 
-    /// The capture ends.
+    /// Ends the capture, and reads the whole records that are left.
     pub(crate) fn close(&mut self) -> Result<(), RunFault>
         requires { self.old.reader.fault ≡ None }
         ensures still { IsStill self.old self.new }
@@ -167,7 +168,7 @@ impl<'a, A: Allocator + Copy> Lane<'a, A> {
         self.read_on()
     }
 
-    /// The next piece comes, and its records go nowhere: its fault, if it has one.
+    /// Takes the next piece, whose records go nowhere, and returns its fault, if it has one.
     pub(crate) fn skim(&mut self, piece: &[u8]) -> Result<Option<PcapFault>, AllocError>
         requires still_open { self.old.reader.closed ≡ false }
         requires may { MayReadOn self.old }
@@ -184,7 +185,7 @@ impl<'a, A: Allocator + Copy> Lane<'a, A> {
         }
     }
 
-    /// The capture ends: its fault, if it has one.
+    /// Ends the capture, and returns its fault, if it has one.
     pub(crate) fn end(&mut self) -> Result<Option<PcapFault>, AllocError>
         requires { MayReadOn self.old }
         ensures { IfOk result (λ found. IsEndOf self.old.reader.bytes found) }
@@ -196,7 +197,7 @@ impl<'a, A: Allocator + Copy> Lane<'a, A> {
         }
     }
 
-    /// The whole capture comes, and stays where it is; its first record is read. O(1).
+    /// Takes the whole capture, which stays where it is, and reads its first record. O(1).
     pub(crate) fn lend(&mut self, alloc: A, text: &'a [u8]) -> Result<(), RunFault>
         requires fresh { IsFreshLane self.old.port self.old }
         ensures still { IsStill self.old self.new }
@@ -210,7 +211,7 @@ impl<'a, A: Allocator + Copy> Lane<'a, A> {
         Ok(())
     }
 
-    /// The call has answered Ok.
+    /// Notes that the call has answered Ok: all that it brought counts, and all of the output has gone out.
     pub(crate) fn settle(&mut self)
         ensures { IsSettledLane self.old self.new }
     {
@@ -219,7 +220,7 @@ impl<'a, A: Allocator + Copy> Lane<'a, A> {
         self.ready = self.out.len();
     }
 
-    /// What has gone out and was not taken. It takes no memory.
+    /// Returns what has gone out and was not taken. It takes no memory.
     pub(crate) fn take(&mut self, alloc: A) -> Vec<u8, A>
         requires bound { self.old.taken + self.old.ready < 2 ^ 128 }
         ensures gives { result.items ≡ take self.old.ready self.old.out.items }
@@ -235,9 +236,9 @@ impl<'a, A: Allocator + Copy> Lane<'a, A> {
         bytes
     }
 
-    /// What has gone out and was not taken goes to a file. The room of the output stays for what comes next. O(bytes).
+    /// Appends what has gone out and was not taken to a file. The room of the output stays for what comes next. O(bytes).
     ///
-    /// An error is out of memory: nothing was taken then.
+    /// Fails only if memory runs out: nothing was taken then.
     pub(crate) fn take_into<F: NewFile>(&mut self, file: &mut F) -> Result<(), AllocError>
         requires bound { self.old.taken + self.old.ready < 2 ^ 128 }
         requires ready { self.old.ready ≤ length self.old.out.items }
@@ -255,7 +256,7 @@ impl<'a, A: Allocator + Copy> Lane<'a, A> {
         Ok(())
     }
 
-    /// What there is of the output goes to a file, where it is a part at least. O(bytes).
+    /// Appends what there is of the output to a file, if it is at least a part. O(bytes).
     pub(crate) fn hand_over<F: NewFile>(&mut self, file: &mut F) -> Result<(), AllocError>
         requires bound { self.old.taken + length self.old.out.items < 2 ^ 128 }
         ensures { OnOk result ((bytes : List ℕ) × HandsOver bytes self.old self.new × Appends (F.contents file.old) (F.contents file.new) bytes) }
@@ -269,7 +270,7 @@ impl<'a, A: Allocator + Copy> Lane<'a, A> {
     }
 }
 
-/// A lane for each port.
+/// Makes a lane for each port.
 pub(crate) fn lanes_of<'a, A: Allocator + Copy>(
     alloc: A,
     ports: &[PortRow],
@@ -284,8 +285,8 @@ pub(crate) fn lanes_of<'a, A: Allocator + Copy>(
     Ok(lanes)
 }
 
-/// The readers look at what comes next, each for itself, so that the processor waits for the memory of all of them at once.
-/// O(ports).
+/// Lets the readers look at what comes next, each for itself, so that the processor waits for the memory of all of them at
+/// once. O(ports).
 pub(crate) fn look_ahead<A: Allocator + Copy>(lanes: &mut [Lane<'_, A>])
     ensures { lanes.new ≡ lanes.old }
 {
@@ -294,28 +295,28 @@ pub(crate) fn look_ahead<A: Allocator + Copy>(lanes: &mut [Lane<'_, A>])
     }
 }
 
-/// The place of a port's lane. O(ports).
+/// Returns the place of a port's lane, if there is one. O(ports).
 pub(crate) fn place_of<A: Allocator>(lanes: &[Lane<'_, A>], port: u8) -> Option<usize>
     ensures { result ≡ position (λ l. l.port == port) lanes.now }
 {
     lanes.iter().position(|lane| lane.port == port)
 }
 
-/// Whether a lane is of this port, or its capture has ended.
+/// Returns whether a lane is of this port, or its capture has ended.
 fn is_own_or_closed<A: Allocator>(lane: &Lane<'_, A>, port: u8) -> bool
     ensures { result ≡ ((lane.now.port == port) || lane.now.closed) }
 {
     lane.port == port || lane.closed
 }
 
-/// Whether the captures of all other ports have ended. O(ports).
+/// Returns whether the captures of all other ports have ended. O(ports).
 pub(crate) fn is_last<A: Allocator>(lanes: &[Lane<'_, A>], port: u8) -> bool
     ensures { result ≡ list_all (λ l. (l.port == port) || l.closed) lanes.now }
 {
     lanes.iter().all(|lane| is_own_or_closed(lane, port))
 }
 
-/// The place of the lane of a port that may be fed or closed. O(ports).
+/// Returns the place of the lane of a port that may be fed or closed. O(ports).
 pub(crate) fn open_place<A: Allocator>(lanes: &[Lane<'_, A>], port: u8) -> Result<usize, RunFault>
     ensures ok { IfOk result (λ place. IsOpenAt lanes.now port place) }
     ensures err { IfErr result (λ fault. refusal_at (find (λ i. i.port == port) (intakes_of lanes.now)) ≡ Some fault) }
@@ -331,7 +332,7 @@ pub(crate) fn open_place<A: Allocator>(lanes: &[Lane<'_, A>], port: u8) -> Resul
     }
 }
 
-/// Of two places in the order by stamp the first; the former where the stamps are equal.
+/// Returns the first of two places in the order by stamp; the former if the stamps are equal.
 fn first_place(former: Option<(Stamp, u8)>, place: (Stamp, u8)) -> (Stamp, u8)
     ensures { result ≡ best_place former place }
 {
@@ -347,8 +348,8 @@ fn first_place(former: Option<(Stamp, u8)>, place: (Stamp, u8)) -> (Stamp, u8)
     }
 }
 
-/// The place in the order by stamp and port that nothing can come before any more: the least of the last
-/// records' of captures that have not ended; none where all have. O(ports).
+/// Returns the place in the order by stamp and port before which nothing can come any more: the least among those of the last
+/// records of captures that have not ended. None if all have ended. O(ports).
 pub(crate) fn limit_of<A: Allocator + Copy>(lanes: &[Lane<'_, A>]) -> Option<(Stamp, u8)>
     ensures { result ≡ limit_at lanes.now }
 {
@@ -361,7 +362,8 @@ pub(crate) fn limit_of<A: Allocator + Copy>(lanes: &[Lane<'_, A>]) -> Option<(St
     limit
 }
 
-/// The greatest stamp that was read. Where a run goes on from there is for speed alone, so no contract speaks of it. O(ports).
+/// Returns the greatest stamp that was read. A run goes on from there for the sake of speed alone, so no contract speaks of
+/// it. O(ports).
 pub(crate) fn latest_of<A: Allocator>(lanes: &[Lane<'_, A>]) -> Stamp {
     let mut latest = Stamp::ZERO;
     for lane in lanes {
@@ -370,7 +372,7 @@ pub(crate) fn latest_of<A: Allocator>(lanes: &[Lane<'_, A>]) -> Stamp {
     latest
 }
 
-/// The stamp of the first record that waits at a lane. O(1).
+/// Returns the stamp of the first record that waits at a lane, if there is one. O(1).
 pub(crate) fn head_of<A: Allocator>(lane: &Lane<'_, A>) -> Option<Stamp>
     ensures { result ≡ head_of lane.now.waiting.items }
 {
@@ -380,7 +382,7 @@ pub(crate) fn head_of<A: Allocator>(lane: &Lane<'_, A>) -> Option<Stamp>
     }
 }
 
-/// The stamps of the first records that wait, by the lanes' places. O(lanes).
+/// Returns the stamps of the first records that wait, by the lanes' places. O(lanes).
 pub(crate) fn heads_of<A: Allocator>(lanes: &[Lane<'_, A>]) -> Instants
     requires { length lanes.now ≤ 24 }
     ensures { result ≡ heads_of lanes.now }
@@ -392,7 +394,7 @@ pub(crate) fn heads_of<A: Allocator>(lanes: &[Lane<'_, A>]) -> Instants
     heads
 }
 
-/// Whether an arrival at this stamp and port lies at the limit or before it.
+/// Returns whether an arrival at this stamp and port lies at the limit or before it.
 pub(crate) fn is_within(limit: Option<(Stamp, u8)>, stamp: Stamp, port: u8) -> bool
     ensures { IsTrue result ↔ IsWithin limit stamp port }
 {
@@ -402,8 +404,8 @@ pub(crate) fn is_within(limit: Option<(Stamp, u8)>, stamp: Stamp, port: u8) -> b
     }
 }
 
-/// Takes the first of all records that wait, which is that of the lane at this place and has this stamp, where it lies
-/// within the limit. O(1).
+/// Takes the first of all records that wait, which is that of the lane at this place and has this stamp, if it lies within the
+/// limit. O(1).
 pub(crate) fn take_settled<'a, A: Allocator>(
     lanes: &mut [Lane<'a, A>],
     place: usize,

@@ -47,7 +47,7 @@ use std::alloc::{AllocError, Allocator};
 /// How many records of captures that come whole go to the switch before what has left goes out.
 const RECORDS_BETWEEN_DRAINS: usize = 256;
 
-/// So many frames are few enough to be at hand for all ports that send them, in a processor's second cache.
+/// How many frames are few enough to be at hand for all ports that send them, in a processor's second cache.
 const FRAMES_AT_HAND: usize = 1024;
 
 /// How many nanoseconds the switch goes on at once when no record comes any more: in so many a port of 100 Mbit/s sends less
@@ -72,7 +72,7 @@ pub(crate) struct Machine<'a, A: Allocator> {
     pub(crate) lanes: Vec<Lane<'a, A>, A>,
 }
 
-/// The fault that an arrival is refused for where its port is the table's and its stamp does not go back.
+/// Returns the fault of an arrival that was refused, though its port is the table's and its stamp does not go back: memory ran out.
 fn out_of_memory(fault: CoreFault) -> AllocError
     requires { not_of_memory fault ≡ None }
 {
@@ -82,8 +82,8 @@ fn out_of_memory(fault: CoreFault) -> AllocError
     }
 }
 
-/// The instant that the switch comes to where this place in the merge is the least that a capture has come to: the last one, before which
-/// whatever is sent starts, where all have ended.
+/// Returns the instant that the switch comes to if this place in the merge is the least that a capture has come to. If all captures have
+/// ended, it is the last instant, before which whatever is sent starts.
 fn instant_of(limit: Option<(Stamp, u8)>) -> Stamp
     ensures { result ≡ come_to (option_map (λ p. p.0) limit) }
 {
@@ -93,7 +93,7 @@ fn instant_of(limit: Option<(Stamp, u8)>) -> Stamp
     }
 }
 
-/// Where a capture has this fault, that of the lowest port that has one; else the same fault. O(bytes).
+/// Returns the fault of the lowest port that has one, if a capture has this fault; else the same fault. O(bytes).
 fn first_fault<A: Allocator + Copy>(
     alloc: A,
     captures: &[(u8, Vec<u8, A>)],
@@ -114,7 +114,7 @@ fn first_fault<A: Allocator + Copy>(
 }
 
 impl<'a, A: Allocator + Copy> Machine<'a, A> {
-    /// A switch over a plan that took nothing.
+    /// Makes a machine over a plan, whose switch took nothing.
     pub(crate) fn new(alloc: A, plan: Plan, wanted: Wanted) -> Result<Machine<'a, A>, AllocError>
         ensures fresh { IfOk result (λ m. (m.switch ≡ fresh_state (is_cleared plan) (keeps_lists wanted) (table_in plan)) × (m.counts ≡ fresh (table_in plan))
             × AreFreshLanes (table_in plan).ports m.lanes.items) }
@@ -131,7 +131,7 @@ impl<'a, A: Allocator + Copy> Machine<'a, A> {
         })
     }
 
-    /// A record goes to the switch, and is counted.
+    /// Gives a record to the switch, and counts it.
     fn give(&mut self, port: u8, frame: Record<'a, A>) -> Result<(), AllocError>
         requires early { frame.stamp < last_second }
         requires none_else { refusal_of self.old.switch.run port frame.stamp ≡ None }
@@ -149,7 +149,7 @@ impl<'a, A: Allocator + Copy> Machine<'a, A> {
         Ok(())
     }
 
-    /// The first of all records that wait goes to the switch where it lies within the limit. The place of its lane. O(1).
+    /// Gives the switch the first of all records that wait, if it lies within the limit. Returns the place of its lane. O(1).
     fn give_next(
         &mut self,
         heads: &mut Instants,
@@ -183,7 +183,7 @@ impl<'a, A: Allocator + Copy> Machine<'a, A> {
         }
     }
 
-    /// All records whose place is settled go to the switch, by stamp and then by port.
+    /// Gives the switch all records whose place is settled, by stamp and then by port.
     fn give_settled(&mut self) -> Result<(), AllocError>
         requires of { AreOfTable self.old.switch.run.table self.old.lanes.items }
         requires going { IsGoing self.old.switch.run.table self.old.lanes.items self.old.switch self.old.counts }
@@ -198,7 +198,7 @@ impl<'a, A: Allocator + Copy> Machine<'a, A> {
         Ok(())
     }
 
-    /// What is settled goes to the switch, which comes to the frontier. O(ports), and O(1) for each record that goes, beside the
+    /// Gives the switch what is settled, and lets it come to the frontier. O(ports), and O(1) for each record that goes, beside the
     /// switch's own work.
     fn reach_frontier(&mut self) -> Result<(), AllocError>
         requires of { AreOfTable self.old.switch.run.table self.old.lanes.items }
@@ -216,7 +216,7 @@ impl<'a, A: Allocator + Copy> Machine<'a, A> {
         Ok(())
     }
 
-    /// What is settled goes to the switch, which comes to the frontier; what then has left goes out.
+    /// Gives the switch what is settled, and lets it come to the frontier; what has left then goes out.
     ///
     /// O(ports), O(1) for each record that goes, and O(bytes) of what goes out, beside the switch's own work.
     pub(crate) fn make_round(&mut self) -> Result<(), AllocError>
@@ -231,7 +231,7 @@ impl<'a, A: Allocator + Copy> Machine<'a, A> {
         drain_all(&mut self.switch, &mut self.lanes)
     }
 
-    /// All that has left goes out to the lanes, and from there to the files of the ports, in parts.
+    /// Moves all that has left to the lanes, and from there to the files of the ports, in parts.
     fn drain_into_files<F: NewFile>(&mut self, files: &mut [F]) -> Result<(), AllocError>
         requires of { AreOfTable self.old.switch.run.table self.old.lanes.items }
         requires handed { length self.old.switch.run.handed ≡ length self.old.switch.run.table.ports }
@@ -248,10 +248,10 @@ impl<'a, A: Allocator + Copy> Machine<'a, A> {
         Ok(())
     }
 
-    /// Goes on as [`Machine::make_round`] does; of what goes out, what is a part at least goes to the files of the ports.
+    /// Goes on as [`Machine::make_round`] does; an output of at least a part goes to its port's file.
     ///
-    /// After a gap of the traffic all that waited at the ports may go out at once. So each port is drained in parts: no text has
-    /// more than one, however much it is.
+    /// After a gap of the traffic all that waited at the ports may go out at once. So each port is drained in parts: no text has more
+    /// than a part, however much goes out.
     fn make_round_into<F: NewFile>(&mut self, files: &mut [F]) -> Result<(), AllocError>
         requires of { AreOfTable self.old.switch.run.table self.old.lanes.items }
         requires going { IsGoing self.old.switch.run.table self.old.lanes.items self.old.switch self.old.counts }
@@ -263,7 +263,7 @@ impl<'a, A: Allocator + Copy> Machine<'a, A> {
         self.drain_into_files(files)
     }
 
-    /// All that was read so far counts.
+    /// Notes that all that was read so far counts.
     fn settle(&mut self)
         ensures lanes { AreSettledLanes self.old.lanes.items self.new.lanes.items }
         ensures switch { self.new.switch ≡ self.old.switch }
@@ -274,7 +274,7 @@ impl<'a, A: Allocator + Copy> Machine<'a, A> {
         }
     }
 
-    /// The next piece comes to the lane at a place.
+    /// Feeds the next piece to the lane at a place; what has left then goes out.
     pub(crate) fn feed(&mut self, place: usize, piece: &[u8]) -> Result<(), RunFault>
         requires of { AreOfTable self.old.switch.run.table self.old.lanes.items }
         requires handed { length self.old.switch.run.handed ≡ length self.old.switch.run.table.ports }
@@ -294,7 +294,7 @@ impl<'a, A: Allocator + Copy> Machine<'a, A> {
         Ok(())
     }
 
-    /// The capture of the lane at a place ends.
+    /// Ends the capture of the lane at a place; what has left then goes out.
     pub(crate) fn close(&mut self, place: usize) -> Result<(), RunFault>
         requires of { AreOfTable self.old.switch.run.table self.old.lanes.items }
         requires handed { length self.old.switch.run.handed ≡ length self.old.switch.run.table.ports }
@@ -314,7 +314,8 @@ impl<'a, A: Allocator + Copy> Machine<'a, A> {
         Ok(())
     }
 
-    /// The next piece comes to the lane at a place; of what goes out, what is a part at least goes to the files of the ports.
+    /// Feeds the next piece to the lane at a place; what has left then goes out, and an output of at least a part goes to its port's
+    /// file.
     pub(crate) fn feed_into<F: NewFile>(
         &mut self,
         place: usize,
@@ -338,7 +339,7 @@ impl<'a, A: Allocator + Copy> Machine<'a, A> {
         Ok(())
     }
 
-    /// The capture of the lane at a place ends; of what goes out, what is a part at least goes to the files of the ports.
+    /// Ends the capture of the lane at a place; what has left then goes out, and an output of at least a part goes to its port's file.
     pub(crate) fn close_into<F: NewFile>(
         &mut self,
         place: usize,
@@ -361,8 +362,7 @@ impl<'a, A: Allocator + Copy> Machine<'a, A> {
         Ok(())
     }
 
-    /// The captures of all ports come whole, in the order of the lanes, and stay where they are. The first record of
-    /// each is read.
+    /// Takes the whole captures of all ports, in the order of the lanes. They stay where they are, and the first record of each is read.
     fn lend_all(&mut self, alloc: A, captures: &'a [(u8, Vec<u8, A>)]) -> Result<(), RunFault>
         requires of { AreOfTable self.old.switch.run.table self.old.lanes.items }
         requires ports { AreOfPorts self.old.switch.run.table (texts_of captures.now) }
@@ -383,11 +383,10 @@ impl<'a, A: Allocator + Copy> Machine<'a, A> {
         Ok(())
     }
 
-    /// The first of all records that wait goes to the switch, and the next one of its capture is read. Whether there
-    /// was one. O(1).
+    /// Gives the switch the first of all records that wait, and reads the next one of its capture. Returns whether there was one. O(1).
     ///
-    /// One of each capture that has not ended waits, so the first of them comes before whatever is still to be read. The
-    /// next one is read before it goes, so that the processor gets its bytes while the switch works.
+    /// One of each capture that has not ended waits, so the first of them comes before whatever is still to be read. The next one is read
+    /// before the first one goes, so that the processor gets its bytes while the switch works.
     fn carry_one(&mut self, heads: &mut Instants) -> Result<bool, RunFault>
         requires carrying { IsCarrying self.old }
         requires heads { heads.old ≡ heads_of self.old.lanes.items }
@@ -418,7 +417,7 @@ impl<'a, A: Allocator + Copy> Machine<'a, A> {
         }
     }
 
-    /// What has left goes out, or stays in the switch.
+    /// Lets what has left go out, or keeps it in the switch.
     fn drain_or_keep(&mut self, frames: Leaving) -> Result<(), AllocError>
         requires { IsCarrying self.old }
         ensures same { IsOfSameTable self.old.switch self.new.switch }
@@ -430,7 +429,8 @@ impl<'a, A: Allocator + Copy> Machine<'a, A> {
         }
     }
 
-    /// Some records go to the switch, by stamp and then by port. Whether more may be left. O(ports), and O(1) for each of them.
+    /// Gives some records to the switch, by stamp and then by port. Returns whether more may be left. O(ports), and O(1) for each of
+    /// them.
     fn carry_some(&mut self) -> Result<bool, RunFault>
         requires { IsCarrying self.old }
         ensures same { IsOfSameTable self.old.switch self.new.switch }
@@ -447,7 +447,7 @@ impl<'a, A: Allocator + Copy> Machine<'a, A> {
         Ok(true)
     }
 
-    /// All records go to the switch, by stamp and then by port.
+    /// Gives all records to the switch, by stamp and then by port.
     fn carry_all(&mut self, frames: Leaving) -> Result<(), RunFault>
         requires { IsCarrying self.old }
         ensures same { IsOfSameTable self.old.switch self.new.switch }
@@ -460,8 +460,7 @@ impl<'a, A: Allocator + Copy> Machine<'a, A> {
         Ok(())
     }
 
-    /// What the lanes have of their outputs goes to the files, of each port where it is a part at least. O(ports), and
-    /// O(bytes) of what goes.
+    /// Moves the outputs of the lanes to the files of the ports, each one that is at least a part. O(ports), and O(bytes) of what goes.
     fn hand_over<F: NewFile>(&mut self, files: &mut [F]) -> Result<(), AllocError>
         requires carrying { IsCarrying self.old }
         requires files { length files.old ≡ length self.old.lanes.items }
@@ -482,7 +481,7 @@ impl<'a, A: Allocator + Copy> Machine<'a, A> {
         Ok(())
     }
 
-    /// What has left goes out to the lanes, and from there to the files.
+    /// Moves what has left to the lanes, and from there to the files.
     fn drain_and_hand_over<F: NewFile>(&mut self, files: &mut [F]) -> Result<(), AllocError>
         requires carrying { IsCarrying self.old }
         requires files { length files.old ≡ length self.old.lanes.items }
@@ -492,7 +491,7 @@ impl<'a, A: Allocator + Copy> Machine<'a, A> {
         self.hand_over(files)
     }
 
-    /// The switch comes to an instant, unless it is past it. Whether it did.
+    /// Lets the switch come to an instant, unless it is past it. Returns whether it did.
     fn advance_to(&mut self, instant: Stamp) -> bool
         requires instant { instant < stamp_end }
         requires carrying { IsCarrying self.old }
@@ -503,9 +502,9 @@ impl<'a, A: Allocator + Copy> Machine<'a, A> {
         self.switch.advance(instant).is_ok()
     }
 
-    /// Where all records have gone to the switch and many frames are still held, they go out step by step, so that a frame that
-    /// several ports send is at hand for all of them. Port by port, each would fetch it from memory once more. There are some
-    /// 500 steps at most, since nothing waits for longer than half a second. O(ports) for each, and O(bytes) of what goes out.
+    /// Lets the frames that are still held go out step by step, if they are many, after all records have gone to the switch: so a frame
+    /// that several ports send is at hand for all of them. Port by port, each would fetch it from memory once more. There are about 500
+    /// steps at most, since nothing waits for longer than half a second. O(ports) for each, and O(bytes) of what goes out.
     fn drain_by_steps<F: NewFile>(&mut self, files: &mut [F]) -> Result<(), AllocError>
         requires carrying { IsCarrying self.old }
         requires all { left_in self.old.lanes.items ≡ 0 }
@@ -526,7 +525,7 @@ impl<'a, A: Allocator + Copy> Machine<'a, A> {
         Ok(())
     }
 
-    /// The captures of all ports come whole, and all their records go to the switch, unless one has a fault.
+    /// Takes the whole captures of all ports, and gives all their records to the switch, unless one has a fault.
     fn lend_and_carry(
         &mut self,
         alloc: A,
@@ -547,7 +546,7 @@ impl<'a, A: Allocator + Copy> Machine<'a, A> {
         self.carry_all(frames)
     }
 
-    /// The captures of all ports come whole, and stay where they are; all their records go to the switch.
+    /// Takes the whole captures of all ports, which stay where they are, and gives all their records to the switch.
     ///
     /// A fault is met when its record is reached. The one that is answered is that of the lowest port that has one.
     pub(crate) fn carry_captures(
@@ -572,7 +571,7 @@ impl<'a, A: Allocator + Copy> Machine<'a, A> {
         }
     }
 
-    /// The captures of all ports come whole, and stay where they are; what they lead to goes out.
+    /// Takes the whole captures of all ports, which stay where they are; what they lead to goes out.
     pub(crate) fn lend(
         &mut self,
         alloc: A,
@@ -593,7 +592,7 @@ impl<'a, A: Allocator + Copy> Machine<'a, A> {
         Ok(())
     }
 
-    /// All captures that have not ended end, by rising port.
+    /// Ends all captures that have not ended, by rising port.
     fn close_all(&mut self) -> Result<(), RunFault>
         requires of { AreOfTable self.old.switch.run.table self.old.lanes.items }
         requires ready { (begun : Bool) × IsReady self.old begun }
@@ -615,7 +614,7 @@ impl<'a, A: Allocator + Copy> Machine<'a, A> {
         Ok(())
     }
 
-    /// All captures end, and all goes out; room for as many outputs as there are ports.
+    /// Ends all captures, and lets all go out. Returns room for as many outputs as there are ports.
     pub(crate) fn end(&mut self, alloc: A) -> Result<Vec<(u8, Vec<u8, A>), A>, RunFault>
         requires of { AreOfTable self.old.switch.run.table self.old.lanes.items }
         requires handed { length self.old.switch.run.handed ≡ length self.old.switch.run.table.ports }
@@ -632,7 +631,8 @@ impl<'a, A: Allocator + Copy> Machine<'a, A> {
         Ok(Vec::with_capacity(alloc, self.lanes.len())?)
     }
 
-    /// All captures end, and all their records go to the switch; of what leaves, what there is much of goes to the files, as in a run.
+    /// Ends all captures, and gives all their records to the switch. If it still holds many frames, they go to the files in parts, as in
+    /// a run.
     pub(crate) fn end_into<F: NewFile>(&mut self, files: &mut [F]) -> Result<(), RunFault>
         requires of { AreOfTable self.old.switch.run.table self.old.lanes.items }
         requires handed { length self.old.switch.run.handed ≡ length self.old.switch.run.table.ports }
@@ -648,7 +648,7 @@ impl<'a, A: Allocator + Copy> Machine<'a, A> {
         Ok(())
     }
 
-    /// What there is of each port.
+    /// Returns what there is of each port.
     pub(crate) fn into_lanes(self) -> Vec<Lane<'a, A>, A>
         ensures { result ≡ self.entry.lanes }
     {
@@ -656,7 +656,7 @@ impl<'a, A: Allocator + Copy> Machine<'a, A> {
         lanes
     }
 
-    /// The switch carries out all that is left, and all counts.
+    /// Lets the switch carry out all that is left, and counts it.
     pub(crate) fn into_rest(self) -> Rest<'a, A>
         ensures run { result.state.run ≡ after_finish self.entry.switch.run }
         ensures keeps { Keeps self.entry.switch result.state }
@@ -679,7 +679,7 @@ impl<'a, A: Allocator + Copy> Machine<'a, A> {
         }
     }
 
-    /// What is left of each port, and the counts.
+    /// Returns what is left of each port, and the counts.
     pub(crate) fn into_outcome(self, room: Vec<(u8, Vec<u8, A>), A>) -> Outcome<A>
         requires none { room.items ≡ [] }
         requires room { length self.lanes.items ≤ vec_capacity room }

@@ -51,7 +51,7 @@ impl From<AllocError> for SourceFault {
     }
 }
 
-/// The same fault of a session that has the port, is open there, and of which no call has failed.
+/// Turns a fault of the session into one of the run: the session has the port, is open there, and no call of it has failed.
 fn source_fault(fault: RunFault) -> SourceFault
     requires { IsOfBytes fault }
     ensures { result ≡ source_fault fault }
@@ -63,7 +63,7 @@ fn source_fault(fault: RunFault) -> SourceFault
     }
 }
 
-/// The numbers of these ports.
+/// Lists the numbers of these ports.
 fn numbers_of<A: Allocator + Copy>(alloc: A, ports: &[PortRow]) -> Result<Vec<u8, A>, AllocError>
     ensures { IfOk result (λ numbers. numbers.items ≡ map (λ p. p.id) ports.now) }
 {
@@ -74,14 +74,14 @@ fn numbers_of<A: Allocator + Copy>(alloc: A, ports: &[PortRow]) -> Result<Vec<u8
     Ok(numbers)
 }
 
-/// The place of a number. O(numbers).
+/// Returns the place of a number, if it is there. O(numbers).
 fn place_of(numbers: &[u8], port: u8) -> Option<usize>
     ensures { result ≡ position (λ n. n == port) numbers.now }
 {
     numbers.iter().position(|number| *number == port)
 }
 
-/// The place and the port of the capture that holds back the output; none where all have ended. O(ports).
+/// Returns the place and the port of the capture that holds back the output; none if all have ended. O(ports).
 fn next_place<A: Allocator + Copy>(session: &Session<A>, ports: &[u8]) -> Option<(usize, u8)>
     requires of { IsOfTable session.now.table session.now }
     requires ports { ports.now ≡ map (λ p. p.id) session.now.table.ports }
@@ -97,9 +97,9 @@ fn next_place<A: Allocator + Copy>(session: &Session<A>, ports: &[u8]) -> Option
     Some((place, port))
 }
 
-/// One more read of the capture at a place, which holds back the output: what it gives goes to the session, and of what then goes out,
-/// what is a part at least goes to the files. Whether any read is still to be made; at the end of the last capture that has not ended,
-/// which the session is to end itself, none is.
+/// Reads once more from the capture at a place, which holds back the output. What it gives goes to the session; of what goes out then,
+/// an output of at least a part goes to its port's file. Returns whether any read is still to be made. None is left at the end of the
+/// last capture that has not ended, which the session is to end itself.
 fn read_on<A: Allocator + Copy, R: Read, F: NewFile>(
     session: Session<A>,
     ports: &[u8],
@@ -143,7 +143,7 @@ fn read_on<A: Allocator + Copy, R: Read, F: NewFile>(
     }
 }
 
-/// All captures are read to their ends, and but for the last they have ended. What goes out goes to the files, in parts.
+/// Reads all captures to their ends, and ends all but the last. What goes out goes to the files, in parts.
 fn read_all<A: Allocator + Copy, R: Read, F: NewFile>(
     start: Session<A>,
     ports: &[u8],
@@ -178,18 +178,18 @@ fn read_all<A: Allocator + Copy, R: Read, F: NewFile>(
     }
 }
 
-/// The run of [`run`](crate::run) over captures that readers give, of the table's ports by rising number, whose outputs go to the files
-/// of the ports, in parts while it goes on. It answers the counts. Of each capture no more is kept than a piece and those that records
-/// which wait came in.
+/// Makes the run of [`run`](crate::run) over captures that readers give, of the table's ports by rising number. The outputs go to the
+/// files of the ports, in parts while it goes on. Returns the counts. Of each capture no more is kept than a piece and the pieces that
+/// records which wait came in.
 ///
 /// Of the captures that have not ended, the one whose last record is the earliest is read next, by at most 16,384 bytes (profile).
 ///
 /// # Errors
 ///
-/// `Memory` where memory ran out. Else, where a read fails or a capture has a fault, the other captures are read on to their ends, by
-/// rising port, and this is answered: `Read` with the place of the first reader that fails; else `Capture` with the lowest port whose
-/// text is no capture, and its first fault. No capture is read twice. Nothing is said then of what the files have, of which some
-/// may have parts of an output. A file that fails is no error here: it answers when it is settled.
+/// `Memory` if memory ran out. Else, if a read fails or a capture has a fault, the other captures are read on to their ends, by rising
+/// port, up to the first that cannot be read, and this is answered: `Read` with the place of the first reader that fails; else
+/// `Capture` with the lowest port whose text is no capture, and its first fault. No capture is read twice. Nothing is said then of what
+/// the files have, of which some may have parts of an output. A file that fails is no error here: it answers when it is settled.
 ///
 /// A frame's bytes are copied when they come, and when it goes out, once for each port that sends it. O(links + ports), O(1)
 /// for each record, O(ports) for each read, and O(bytes), beside the switch's own work.
@@ -209,7 +209,7 @@ pub fn run_from<A: Allocator + Copy, R: Read, F: NewFile>(
     Ok(counts)
 }
 
-/// The same run, of which this is wanted beside its output, with the switch that is left.
+/// Makes the run of [`run_from`], of which this is wanted beside its output, and returns the switch that is left.
 fn run_all<A: Allocator + Copy, R: Read, F: NewFile>(
     alloc: A,
     plan: Plan,
@@ -251,7 +251,7 @@ impl NewFile for Nowhere {
     }
 }
 
-/// One for each of so many ports.
+/// Makes a file that keeps nothing for each of so many ports.
 fn to_nowhere<A: Allocator + Copy>(alloc: A, count: usize) -> Result<Vec<Nowhere, A>, AllocError>
     ensures { IfOk result (λ files. length files.items ≡ count) }
 {
@@ -262,7 +262,7 @@ fn to_nowhere<A: Allocator + Copy>(alloc: A, count: usize) -> Result<Vec<Nowhere
     Ok(files)
 }
 
-/// The run of [`run_from`], of which nothing goes out: its counts, and what was wanted of it.
+/// Makes the run of [`run_from`], of which nothing goes out. Returns its counts, and what was wanted of it.
 ///
 /// The errors are those of [`run_from`], in its order; so is the cost.
 pub fn measured_from<A: Allocator + Copy, R: Read>(

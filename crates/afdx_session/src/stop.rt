@@ -26,7 +26,7 @@ pub(crate) enum Stop<A: Allocator> {
     Capture(usize, PcapFault, Vec<Lane<'static, A>, A>),
 }
 
-/// Where a run stopped for this fault of the capture at a place.
+/// Returns where a run stopped for this fault of the capture at a place.
 pub(crate) fn stop_of<A: Allocator>(
     place: usize,
     fault: RunFault,
@@ -80,7 +80,7 @@ fn read_all_out<R: Read>(
     Ok(())
 }
 
-/// Reads a capture on to its end: its first fault, if it has one. O(what is left of it).
+/// Reads a capture on to its end, and returns its first fault, if it has one. O(what is left of it).
 fn read_through<A: Allocator + Copy, R: Read>(
     place: usize,
     lane: &mut Lane<'static, A>,
@@ -116,7 +116,7 @@ fn read_through<A: Allocator + Copy, R: Read>(
     Err(SourceFault::Read(place))
 }
 
-/// The first of two faults, the second of which may be this one of a port.
+/// Returns the first of two faults: the one that was found, else this one of a port, if there is one.
 fn first_found(
     found: Option<(u8, PcapFault)>,
     port: u8,
@@ -130,7 +130,7 @@ fn first_found(
     }
 }
 
-/// The first fault of the captures before a place, each of which is read on to its end.
+/// Reads the captures before a place on to their ends, and returns the first fault, if one of them has one.
 fn fault_before<A: Allocator + Copy, R: Read>(
     lanes: &mut [Lane<'static, A>],
     readers: &mut [R],
@@ -156,8 +156,8 @@ fn fault_before<A: Allocator + Copy, R: Read>(
     Ok(found)
 }
 
-/// The first fault of all captures, where that at a place has this one: those before it are read on to their ends, and of those
-/// after it the rest is read.
+/// Returns the first fault of all captures, of which the one at a place has this fault. Those before it are read on to their
+/// ends, and the rest of it and of those after it is read.
 fn fault_of_all<A: Allocator + Copy, R: Read>(
     lanes: &mut [Lane<'static, A>],
     readers: &mut [R],
@@ -179,9 +179,11 @@ fn fault_of_all<A: Allocator + Copy, R: Read>(
 }
 
 impl<A: Allocator + Copy> Stop<A> {
-    /// Which failure is answered: the first capture that cannot be read; else the first that has a fault, and its first one.
+    /// Returns the failure that is answered: the first capture that cannot be read; else the first that has a fault, with its
+    /// first one.
     ///
-    /// So each capture is read on to its end, by rising place, and none is read again. O(what is left of them).
+    /// So each capture is read on to its end, by rising place, up to the first that cannot be read, and none is read again.
+    /// O(what is left of them).
     pub(crate) fn first_failure<R: Read>(self, readers: &mut [R], piece: &mut [u8]) -> SourceFault
         requires room { 0 < length piece.old }
         requires stopped { (t : Content) × (first : List R) × IsStop R.remaining t first readers.old self }

@@ -30,7 +30,7 @@ pub struct Spell {
 }
 
 impl Spell {
-    /// That of one frame.
+    /// Makes the spell of one frame.
     pub(crate) fn of(frame: &Excess) -> Spell
         ensures { result ≡ spell_from frame.now [] }
     {
@@ -43,7 +43,7 @@ impl Spell {
         }
     }
 
-    /// Whether a frame that comes after it belongs to it: at most one gap of the link lies between its last frame and that one.
+    /// Returns whether a frame that comes after it belongs to it: at most one gap of the link lies between its last frame and that one.
     pub(crate) fn takes(&self, gap: u64, frame: &Excess) -> bool
         requires { gap ≤ 128000000 }
         ensures { result ≡ nat_le frame.now.at (self.now.last + gap) }
@@ -51,7 +51,7 @@ impl Spell {
         frame.at.ns() <= self.last.ns() + gap
     }
 
-    /// The same with one frame more.
+    /// Adds one frame.
     pub(crate) fn with(self, frame: &Excess) -> Spell
         requires { self.count < 2 ^ 64 - 1 }
         ensures { (x : Frame) (xs : List Frame) → self ≡ spell_from x xs → result ≡ spell_from x (xs ++ frame.now ∷ []) }

@@ -28,7 +28,7 @@ impl<A: Allocator> Model for Spells<A> {
     ghost invariant = { λ s. s.gap ≤ 128000000 };
 }
 
-/// Notes a frame after these spells and one more, the last one.
+/// Notes a frame after these spells and one more, which is the last.
 fn note_after<A: Allocator + Copy>(
     all: &mut Vec<Spell, A>,
     gap: u64,
@@ -51,7 +51,7 @@ fn note_after<A: Allocator + Copy>(
 }
 
 impl<A: Allocator + Copy> Spells<A> {
-    /// Of a link of which nothing was policed yet, with a gap of at most 128,000,000. It takes no memory. O(1).
+    /// Makes the spells of a link of which nothing was policed yet, with a gap of at most 128,000,000 ns. It takes no memory. O(1).
     pub fn new(alloc: A, gap: u64) -> Spells<A>
         requires { gap ≤ 128000000 }
         ensures gap { result.gap ≡ gap }
@@ -81,7 +81,7 @@ impl<A: Allocator + Copy> Spells<A> {
         }
     }
 
-    /// The spells, in order. O(1).
+    /// Returns the spells, in order. O(1).
     pub fn as_slice(&self) -> &[Spell]
         ensures { result.now ≡ self.now.spells }
     {

@@ -27,8 +27,8 @@ const CALLS: [Call; 8] = [
 
 const QUEUED: Answer = (Some(Fate::Passed(10)), Some((2, Offer::Queued)), None, 0);
 
-/// Whether a switch was checked, how many of the calls it answers as it should, whether it then hands out the rest, and what it gives
-/// at the end.
+/// Returns whether a switch was checked, how many of the calls it answers as it should, whether it then hands out the rest, and what it
+/// gives at the end.
 fn answers_calls(
     alloc: Global,
     mut switch: Switch<'static, Global>,
@@ -40,7 +40,7 @@ fn answers_calls(
     (accepted, count, is_left, reported_at_the_end(&done))
 }
 
-/// A switch over the table of a text, which is checked first or not.
+/// Makes a switch over the table of a text, which is checked first or not.
 fn made(alloc: Global, text: &str, is_checked: bool) -> Result<Switch<'static, Global>, Fail> {
     if is_checked {
         checked(alloc, text)
@@ -62,7 +62,7 @@ fn switch_by_calls(rt: HostRuntime) -> Result<(), Fail> {
     Ok(())
 }
 
-/// The frame starts at once, and the line is free again 6,720 ns later.
+/// Checks that the frame starts at once, and that the line is free again 6,720 ns later.
 #[test]
 fn one_frame_through_a_switch(rt: HostRuntime) -> Result<(), Fail> {
     // example of afdx_core
@@ -77,20 +77,20 @@ fn one_frame_through_a_switch(rt: HostRuntime) -> Result<(), Fail> {
     Ok(())
 }
 
-/// What a switch says of port 2, how many frames it sent and discarded, and of all arrivals, how many fates.
+/// Returns how many frames port 2 of a switch sent and discarded, and how many fates the switch has of all arrivals.
 fn reported(switch: &Switch<'static, Global>) -> (usize, usize, usize) {
     let sent = switch.sent(2).len();
     let aged = switch.aged(2).len();
     (sent, aged, switch.fates().len())
 }
 
-/// The same of a finished switch.
+/// Returns the same of a finished switch.
 fn reported_at_the_end(done: &Done<'static, Global>) -> (usize, usize, usize) {
     (done.sent(2).len(), done.aged(2).len(), done.fates().len())
 }
 
-/// Whether a switch says what it did after the first frame has begun and at the end, and appends each of two frames to a capture
-/// once: the first begins at once, the second when the first has left.
+/// Returns whether a switch says what it did after the first frame has begun and at the end, and appends each of two frames to a
+/// capture once: the first begins at once, the second when the first has left.
 fn appends_two(alloc: Global, mut switch: Switch<'static, Global>, capture: &mut Vec<u8>) -> bool {
     let _first = arrive(alloc, &mut switch, 1, small(10, 0));
     let _second = arrive(alloc, &mut switch, 1, small(10, 6_720));
@@ -110,7 +110,7 @@ fn appends_two(alloc: Global, mut switch: Switch<'static, Global>, capture: &mut
         && nowhere == Ok(false)
 }
 
-/// The bytes of the output capture: stamps 6,720 and 13,440 ns, 60 bytes captured and on the line.
+/// Checks the bytes of the output capture: stamps 6,720 and 13,440 ns, 60 bytes captured and on the line.
 #[test]
 fn two_frames_as_a_capture(rt: HostRuntime) -> Result<(), Fail> {
     let first = [0, 0, 0, 0, 0x40, 0x1a, 0, 0, 60, 0, 0, 0, 60, 0, 0, 0];

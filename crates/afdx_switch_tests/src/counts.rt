@@ -10,7 +10,7 @@ use afdx_units::Priority;
 use std::alloc::Global;
 use std::test::*;
 
-/// More frames at one instant than port 2 of the table `hasty` takes, and than link 10 may send.
+/// Makes more frames at one instant than port 2 of the table `hasty` takes, and than link 10 may send.
 fn crowded() -> [(u8, Sample); 4] {
     [
         (1, small(10, 0)),
@@ -20,8 +20,8 @@ fn crowded() -> [(u8, Sample); 4] {
     ]
 }
 
-/// Ports 1 and 2, and from 1 to 2 the high link 30 and then the low link 10; port 2 has room for two small frames, none of
-/// which may wait for another.
+/// Writes a table with ports 1 and 2, and from 1 to 2 the high link 30 and then the low link 10. Port 2 has room for two small
+/// frames, none of which may wait for another.
 fn hasty(alloc: Global) -> Result<String, Fail> {
     let second = Port {
         buffer: 128,
@@ -36,13 +36,13 @@ fn hasty(alloc: Global) -> Result<String, Fail> {
     Ok(text)
 }
 
-/// The counters of a table's ports and links, before any frame.
+/// Makes the counters of a table's ports and links, before any frame.
 fn fresh(alloc: Global, text: &str) -> Result<Counts<Global>, Fail> {
     let counts = Counts::new(alloc, &read(alloc, text.as_bytes())?)?;
     Ok(counts)
 }
 
-/// The counters of a switch over a table that took these frames, each with its port, and then was finished.
+/// Returns the counters of a switch over a table that took these frames, each with its port, and then was finished.
 fn counts_of(alloc: Global, text: &str, arrivals: &[(u8, Sample)]) -> Result<Counts<Global>, Fail> {
     // example of afdx_count
     let mut counts = fresh(alloc, text)?;
@@ -58,7 +58,7 @@ fn counts_of(alloc: Global, text: &str, arrivals: &[(u8, Sample)]) -> Result<Cou
     Ok(counts)
 }
 
-/// What the readers give of these counters.
+/// Returns what the readers give of these counters.
 fn numbers_of(counts: &Counts<Global>) -> [Option<u64>; 9] {
     [
         counts.input(1).map(|count| count.clean),
@@ -102,7 +102,7 @@ out 2 high offered 0 full 0 aged 0 sent 0
 out 2 low offered 0 full 0 aged 0 sent 0
 ";
 
-/// The report of a switch's table of which this step was noted.
+/// Writes the report of a switch's table after this step was noted.
 fn report_of_step(alloc: Global, step: &Step) -> Result<String, Fail> {
     let mut counts = fresh(alloc, &single(alloc)?)?;
     counts.note(step);

@@ -8,7 +8,7 @@ use afdx_held_frames::Store;
 use afdx_samples::{frame, record, single, small};
 use std::test::*;
 
-/// A frame is held until the last of its copies is discarded.
+/// Checks that a frame is held until the last of its copies is discarded.
 #[test]
 fn copies_of_one_frame(rt: HostRuntime) -> Result<(), Fail> {
     // example of afdx_held_frames
@@ -25,7 +25,7 @@ fn copies_of_one_frame(rt: HostRuntime) -> Result<(), Fail> {
     Ok(())
 }
 
-/// The captured bytes of the frame of this number, by which it is known from the others in flight.
+/// Returns the number of captured bytes of the frame with this number, by which it is told from the others in flight.
 fn length(number: u32) -> u32
     requires { number < 1000 }
     ensures { result < 67 }
@@ -33,7 +33,8 @@ fn length(number: u32) -> u32
     60 + number % 7
 }
 
-/// A frame each 0.1 ms, handed out when two more have come: no more than three are held, so each slot is used some hundred times.
+/// Checks that, if a frame comes each 0.1 ms and is handed out when two more have come, no more than three are held; so each slot is used
+/// hundreds of times.
 #[test]
 fn keys_used_again(rt: HostRuntime) -> Result<(), Fail> {
     let alloc = rt.alloc();

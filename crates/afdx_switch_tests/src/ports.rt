@@ -34,7 +34,7 @@ fn offer(port: &mut Port<Global>, number: usize, at: u64, size: u32, priority: P
     // end of example
 }
 
-/// How many items a port sent, with the number and the end of the last of them.
+/// Returns how many items a port sent, with the number and the end of the last of them.
 fn sent(port: &Port<Global>) -> (usize, Option<(usize, u64)>) {
     let last = port.sent().last();
     (
@@ -43,7 +43,7 @@ fn sent(port: &Port<Global>) -> (usize, Option<(usize, u64)>) {
     )
 }
 
-/// The instant at which something is due at a port, if anything is.
+/// Returns the instant at which something is due at a port, if anything is.
 fn due(port: &Port<Global>) -> Option<u64> {
     port.due().map(|at| at.ns())
 }

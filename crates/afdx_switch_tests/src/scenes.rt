@@ -116,7 +116,8 @@ fn text_of(alloc: Global, content: Content) -> Result<String, AllocError> {
     }
 }
 
-/// How many of a scene's calls a switch answers so, up to the first that it does not, and whether exactly the rest is left then.
+/// Returns how many of a scene's calls a switch answers as it should, up to the first that it does not, and whether exactly the rest is
+/// left then.
 fn plays(alloc: Global, scene: &Scene) -> Result<(usize, bool), Fail> {
     let mut switch = switch_of(alloc, &text_of(alloc, scene.content)?)?;
     let count = answered(alloc, &mut switch, scene.calls);

@@ -15,13 +15,13 @@ fn table_of(alloc: Global, text: &str) -> Result<Table, Fail> {
     Ok(table)
 }
 
-/// A switch over the table of a text, which is not checked.
+/// Makes a switch over the table of a text, which is not checked.
 pub(crate) fn switch_of(alloc: Global, text: &str) -> Result<Switch<'static, Global>, Fail> {
     let switch = Switch::new(alloc, table_of(alloc, text)?)?;
     Ok(switch)
 }
 
-/// A switch over the table of a text, which is checked.
+/// Makes a switch over the table of a text, which is checked.
 pub(crate) fn checked(alloc: Global, text: &str) -> Result<Switch<'static, Global>, Fail> {
     let cleared = check(table_of(alloc, text)?)
         .ok()
@@ -33,7 +33,7 @@ pub(crate) fn checked(alloc: Global, text: &str) -> Result<Switch<'static, Globa
 /// The fate and the first offer, or the fault and the stamp of the record that came back.
 pub(crate) type Answer = (Option<Fate>, Option<(u8, Offer)>, Option<CoreFault>, u64);
 
-/// The answer to a frame; nothing where it is no record.
+/// Has a frame arrive, and returns the answer; nothing if it is no record.
 pub(crate) fn arrive(
     alloc: Global,
     switch: &mut Switch<'static, Global>,
@@ -50,7 +50,7 @@ pub(crate) fn arrive(
     (Some(step.fate), step.offers.first().copied(), None, 0)
 }
 
-/// The first two offers, in the link's order.
+/// Has a frame arrive, and returns the first two offers, in the link's order.
 fn offers(
     alloc: Global,
     switch: &mut Switch<'static, Global>,
@@ -68,7 +68,7 @@ fn offers(
     (offers.first().copied(), offers.get(1).copied())
 }
 
-/// The end and the number of bytes of the next frame that a port hands out.
+/// Has a port hand out its next frame, and returns its end and its number of bytes.
 pub(crate) fn next(
     switch: &mut Switch<'static, Global>,
     port: u8,
@@ -77,18 +77,18 @@ pub(crate) fn next(
     Ok(sent_as(out))
 }
 
-/// The same of a finished switch.
+/// Does the same with a finished switch.
 fn left(done: &mut Done<'static, Global>, port: u8) -> Result<Option<(u64, usize)>, AllocError> {
     let out = done.next_out(port)?;
     Ok(sent_as(out))
 }
 
-/// The switch, finished.
+/// Finishes the switch.
 pub(crate) fn finished(switch: Switch<'static, Global>) -> Done<'static, Global> {
     switch.finish()
 }
 
-/// The end and the number of bytes of a record that was handed out.
+/// Returns the end and the number of bytes of a record that was handed out.
 fn sent_as(out: Option<Record<'static, Global>>) -> Option<(u64, usize)> {
     match out {
         Some(record) => Some((record.stamp().ns(), record.bytes().len())),
@@ -96,7 +96,7 @@ fn sent_as(out: Option<Record<'static, Global>>) -> Option<(u64, usize)> {
     }
 }
 
-/// Whether a port of a finished switch hands out these, by their ends and numbers of bytes, and nothing more.
+/// Returns whether a port of a finished switch hands out these, by their ends and numbers of bytes, and nothing more.
 pub(crate) fn leaves(
     done: &mut Done<'static, Global>,
     port: u8,
@@ -110,7 +110,7 @@ pub(crate) fn leaves(
     left(done, port) == Ok(None)
 }
 
-/// Whether the switch can advance to this instant.
+/// Returns whether the switch advances to this instant.
 fn advances(switch: &mut Switch<'static, Global>, ns: u64) -> bool {
     match Stamp::from_ns(ns) {
         Some(to) => switch.advance(to).is_ok(),
@@ -151,7 +151,7 @@ pub(crate) enum Call {
     Held(usize),
 }
 
-/// Whether a switch answers this call so.
+/// Returns whether a switch answers this call as it should.
 fn answers(alloc: Global, switch: &mut Switch<'static, Global>, call: Call) -> bool {
     match call {
         Call::Arrive(port, frame, expected) => {
@@ -167,7 +167,7 @@ fn answers(alloc: Global, switch: &mut Switch<'static, Global>, call: Call) -> b
     }
 }
 
-/// How many of these calls it answers so, up to the first that it does not.
+/// Returns how many of these calls a switch answers as it should, up to the first that it does not.
 pub(crate) fn answered(
     alloc: Global,
     switch: &mut Switch<'static, Global>,

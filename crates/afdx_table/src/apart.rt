@@ -17,11 +17,11 @@ use afdx_toml_split::laws::links_are_read_apart;
 use std::alloc::Global;
 use toml::{Table as Tree, Value};
 
-/// The header of a link, behind the line before it.
+/// The header of a link, after the line before it.
 const HEADER: &str = "\n[[link]]";
 
-/// A text up to the first header of a link, and what is behind that header; all of the text where there is none, or where that
-/// header shares its line.
+/// Splits a text at the first header of a link, into what comes before and what comes after it. If there is no header, or if it
+/// shares its line, returns all of the text, and nothing after it.
 pub(crate) fn cut(text: &str) -> (&str, Option<&str>)
     ensures { MatchOption result.1 (result.0.now ≡ text.now)
         (λ behind. (text.now ≡ joined result.0.now (behind.now ∷ [])) × (ends_line behind.now ≡ true)) }
@@ -32,7 +32,7 @@ pub(crate) fn cut(text: &str) -> (&str, Option<&str>)
     }
 }
 
-/// Whether a value is neither a table nor an array that ends in one.
+/// Returns whether a value is neither a table nor an array that ends in one.
 fn is_plain(value: &Value) -> bool
     ensures { result ≡ is_plain (view value.now) }
 {
@@ -45,7 +45,7 @@ fn is_plain(value: &Value) -> bool
     }
 }
 
-/// Whether each value of a table is plain.
+/// Returns whether each value of a table is plain.
 fn are_plain(tree: &Tree) -> bool
     ensures { result ≡ are_plain (table_view tree.now) }
 {
@@ -57,7 +57,7 @@ fn are_plain(tree: &Tree) -> bool
     true
 }
 
-/// The link of its own text, after the ports and the links before it; none where it is not read so.
+/// Reads a link from its own text, after the ports and the links before it; none if it is not read so.
 fn read_one(
     alloc: Global,
     version: u64,
@@ -77,8 +77,8 @@ fn read_one(
     read_link(alloc, version, at, &tree, ports, before).ok()
 }
 
-/// The links of these texts, which stand one after another with a header before each but the first; none where they are not read
-/// so.
+/// Reads the links of these texts, which stand one after another with a header before each but the first; none if they are not
+/// read so.
 pub(crate) fn read_apart(
     alloc: Global,
     version: u64,

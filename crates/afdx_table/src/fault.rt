@@ -87,7 +87,7 @@ pub enum TableFault {
 }
 
 impl Key {
-    /// The key as it is written in the table. O(1).
+    /// Returns the key as it is written in the table. O(1).
     pub fn as_str(self) -> &'static str
         ensures { result.now ≡ key_text self }
     {

@@ -18,7 +18,7 @@ use crate::values::Values;
 use std::alloc::Global;
 use toml::{Table, Value};
 
-/// The number that a value is.
+/// Returns the number that a value is.
 #[tactic(auto, unfolding(crate::specs::Fields::number_in))]
 fn number_in(at: At, key: Key, value: &Value) -> Result<u64, TableFault>
     ensures number { Gives (λ n. n) result (number_in at key (view value.now)) }
@@ -30,7 +30,7 @@ fn number_in(at: At, key: Key, value: &Value) -> Result<u64, TableFault>
     natural(number).ok_or(TableFault::Range(at, key))
 }
 
-/// The text that a value is.
+/// Returns the text that a value is.
 #[tactic(auto, unfolding(crate::specs::Fields::text_in))]
 fn text_in(at: At, key: Key, value: &Value) -> Result<&str, TableFault>
     ensures text { Gives (λ s. s.now) result (text_in at key (view value.now)) }
@@ -39,7 +39,7 @@ fn text_in(at: At, key: Key, value: &Value) -> Result<&str, TableFault>
     value.as_str().ok_or(TableFault::Kind(at, key))
 }
 
-/// A number from `low` to `high`.
+/// Returns a number from `low` to `high`, and refuses any other.
 #[tactic(auto, unfolding(crate::specs::Fields::bounded))]
 pub(crate) fn bounded(at: At, key: Key, low: u64, high: u64, number: u64) -> Result<u64, TableFault>
     ensures value { result ≡ bounded at key low high number }
@@ -53,7 +53,7 @@ pub(crate) fn bounded(at: At, key: Key, low: u64, high: u64, number: u64) -> Res
     }
 }
 
-/// A whole number from `low` to `high`.
+/// Returns a whole number from `low` to `high`, and refuses any other.
 #[tactic(auto, unfolding(crate::specs::Fields::bounded_natural))]
 fn bounded_natural(
     at: At,
@@ -73,7 +73,7 @@ fn bounded_natural(
     }
 }
 
-/// The numbers of an array, each from `low` to `high`. O(items).
+/// Returns the numbers of an array, each from `low` to `high`. O(items).
 fn numbers_of(
     alloc: Global,
     at: At,
@@ -110,7 +110,7 @@ pub(crate) struct Fields<'a> {
 }
 
 impl<'a> Fields<'a> {
-    /// The fields of a table, which refuses a key that is none of these.
+    /// Reads the fields of a table, and refuses a key that is none of these.
     #[tactic(auto, unfolding(crate::specs::Fields::known_at))]
     pub(crate) fn read(at: At, keys: &[Key], table: &'a Table) -> Result<Fields<'a>, TableFault>
         ensures known { Gives (λ _. tt) result (known_at at keys.now (table_view table.now)) }
@@ -123,7 +123,7 @@ impl<'a> Fields<'a> {
         }
     }
 
-    /// The value of a key, where it is there.
+    /// Returns the value of a key, if it is there.
     fn find(&self, key: Key) -> Option<&'a Value>
         requires { AreValues self.now.values.slots (table_view self.now.table.now) }
         ensures { option_map (λ v. view v.now) result ≡ get_member (key_text key) (table_view self.now.table.now) }
@@ -131,7 +131,7 @@ impl<'a> Fields<'a> {
         self.values.get(key)
     }
 
-    /// The value of a required key.
+    /// Returns the value of a required key.
     #[tactic(auto, unfolding(crate::specs::Fields::value_at))]
     fn value(&self, key: Key) -> Result<&'a Value, TableFault>
         requires { AreValues self.now.values.slots (table_view self.now.table.now) }
@@ -140,7 +140,7 @@ impl<'a> Fields<'a> {
         self.find(key).ok_or(TableFault::MissingKey(self.at, key))
     }
 
-    /// A required number.
+    /// Reads a required number.
     #[tactic(auto, unfolding(crate::specs::Fields::number_at))]
     pub(crate) fn number(&self, key: Key) -> Result<u64, TableFault>
         requires { AreValues self.now.values.slots (table_view self.now.table.now) }
@@ -149,7 +149,7 @@ impl<'a> Fields<'a> {
         number_in(self.at, key, self.value(key)?)
     }
 
-    /// An optional number.
+    /// Reads an optional number.
     #[tactic(auto, unfolding(crate::specs::Fields::optional_number_at))]
     pub(crate) fn optional_number(&self, key: Key) -> Result<Option<u64>, TableFault>
         requires { AreValues self.now.values.slots (table_view self.now.table.now) }
@@ -162,7 +162,7 @@ impl<'a> Fields<'a> {
         Ok(Some(number_in(self.at, key, value)?))
     }
 
-    /// A required number from `low` to `high`.
+    /// Reads a required number from `low` to `high`.
     #[tactic(auto, unfolding(crate::specs::Fields::bounded_at))]
     pub(crate) fn bounded(&self, key: Key, low: u64, high: u64) -> Result<u64, TableFault>
         requires { AreValues self.now.values.slots (table_view self.now.table.now) }
@@ -173,7 +173,7 @@ impl<'a> Fields<'a> {
         bounded(self.at, key, low, high, number)
     }
 
-    /// A required number of a port.
+    /// Reads a required number of a port.
     pub(crate) fn port_id(&self, key: Key) -> Result<u8, TableFault>
         requires { AreValues self.now.values.slots (table_view self.now.table.now) }
         ensures { Gives (λ n. n) result (bounded_at self.now.at key 1 24 (table_view self.now.table.now)) }
@@ -182,7 +182,7 @@ impl<'a> Fields<'a> {
         Ok(number as u8)
     }
 
-    /// A required text.
+    /// Reads a required text.
     #[tactic(auto, unfolding(crate::specs::Fields::text_at))]
     pub(crate) fn text(&self, key: Key) -> Result<&'a str, TableFault>
         requires { AreValues self.now.values.slots (table_view self.now.table.now) }
@@ -191,7 +191,7 @@ impl<'a> Fields<'a> {
         text_in(self.at, key, self.value(key)?)
     }
 
-    /// An optional text.
+    /// Reads an optional text.
     #[tactic(auto, unfolding(crate::specs::Fields::optional_text_at))]
     pub(crate) fn optional_text(&self, key: Key) -> Result<Option<&'a str>, TableFault>
         requires { AreValues self.now.values.slots (table_view self.now.table.now) }
@@ -204,7 +204,7 @@ impl<'a> Fields<'a> {
         Ok(Some(text_in(self.at, key, value)?))
     }
 
-    /// An optional array of tables.
+    /// Reads an optional array of tables.
     #[tactic(auto, unfolding(crate::specs::Fields::tables_at))]
     pub(crate) fn tables(&self, alloc: Global, key: Key) -> Result<Vec<&'a Table>, TableFault>
         requires { AreValues self.now.values.slots (table_view self.now.table.now) }
@@ -220,7 +220,7 @@ impl<'a> Fields<'a> {
         tables_of(alloc, items)?.ok_or(TableFault::Kind(self.at, key))
     }
 
-    /// A required array of numbers, each from `low` to `high`.
+    /// Reads a required array of numbers, each from `low` to `high`.
     #[tactic(auto, unfolding(crate::specs::Fields::numbers_at))]
     pub(crate) fn numbers(
         &self,

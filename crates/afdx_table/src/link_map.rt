@@ -9,8 +9,9 @@ use indexmap::IndexMap;
 use std::alloc::{AllocError, Global};
 use std::marker::Model;
 
-/// Links of different numbers, kept in the file's order under their numbers. Each call is O(1); look-ups by number and `push` are so on
-/// average, since the hash has a fixed seed: if the numbers of a table were chosen against it, one look-up reads up to about 340 groups of 12 places.
+/// Links of different numbers, kept in the file's order under their numbers. Each call but `copy` is O(1); look-ups by number and `push` are so on
+/// average, since the hash has a fixed seed: if the numbers of a table were chosen against it, one look-up reads up to about 340 groups of 12
+/// places.
 ///
 /// Contracts see the list of their rows in order.
 #[derive(Drop)]
@@ -39,7 +40,7 @@ impl LinkMap {
         }
     }
 
-    /// The same links once more. O(n) for n links.
+    /// Returns a copy of these links. O(n) for n links.
     pub(crate) fn copy(&self) -> Result<LinkMap, AllocError>
         ensures { IfOk result (λ l. l ≡ self.now) }
     {
@@ -62,7 +63,7 @@ impl LinkMap {
         self.rows.len()
     }
 
-    /// The link at a place in the order, from 0.
+    /// Returns the link at a place in the order, from 0, if there is one.
     pub(crate) fn at(&self, index: usize) -> Option<&LinkRow>
         ensures { option_copied result ≡ slice_get self.now index }
     {
@@ -70,7 +71,7 @@ impl LinkMap {
         Some(row)
     }
 
-    /// Whether there is a link of this number.
+    /// Returns whether there is a link of this number.
     #[tactic(auto, using(crate::proofs::LinkLemmas::contained))]
     pub(crate) fn contains(&self, id: u16) -> bool
         ensures { result ≡ has_link self.now id }
@@ -78,7 +79,7 @@ impl LinkMap {
         self.rows.contains_key(&id)
     }
 
-    /// The link of a number.
+    /// Returns the link of a number, if there is one.
     #[tactic(auto, using(crate::proofs::LinkLemmas::looked_up))]
     pub(crate) fn get(&self, id: u16) -> Option<&LinkRow>
         ensures { option_copied result ≡ find (λ l. l.id == id) self.now }
@@ -86,7 +87,7 @@ impl LinkMap {
         self.rows.get(&id)
     }
 
-    /// The place of a number in the order, from 0.
+    /// Returns the place of a number in the order, from 0, if it is there.
     #[tactic(auto, using(crate::proofs::LinkLemmas::placed))]
     pub(crate) fn place(&self, id: u16) -> Option<usize>
         ensures { result ≡ position (λ l. l.id == id) self.now }

@@ -20,7 +20,7 @@ use afdx_units::{GREATEST_SIZE, LEAST_SIZE, MAX_JITTER, MAX_LINK_ID, Police};
 use std::alloc::Global;
 use toml::Table;
 
-/// The ports that a link leads to.
+/// Checks the ports that a link leads to: refuses one that is not there, the link's own, and one that is named twice.
 #[tactic(auto, unfolding(crate::specs::Links::targets))]
 fn check_targets(at: At, ports: &[PortRow], from: u8, to: &[u8]) -> Result<(), TableFault>
     ensures { result ≡ targets at ports.now from [] to.now }
@@ -39,7 +39,7 @@ fn check_targets(at: At, ports: &[PortRow], from: u8, to: &[u8]) -> Result<(), T
     Ok(())
 }
 
-/// The fields of a link, which refuses a key that no link has in this version.
+/// Reads the fields of a link, and refuses a key that no link has in this version.
 fn link_fields<'a>(version: u64, at: At, table: &'a Table) -> Result<Fields<'a>, TableFault>
     ensures known { Gives (λ _. tt) result (known_at at (link_keys version) (table_view table.now)) }
     ensures fields { IfOk result (λ f. (f.at ≡ at) × (f.table.now ≡ table.now) × AreValues f.values.slots (table_view table.now)) }
@@ -76,7 +76,7 @@ fn link_fields<'a>(version: u64, at: At, table: &'a Table) -> Result<Fields<'a>,
     }
 }
 
-/// The kind of policing that is stated; where it is missing, by bytes.
+/// Returns the kind of policing that is stated; by bytes if it is missing.
 fn police_from(at: At, stated: Option<&str>) -> Result<Police, TableFault>
     ensures { Gives (λ p. p) result (police_from at (option_map (λ s. s.now) stated.entry)) }
 {
@@ -86,7 +86,7 @@ fn police_from(at: At, stated: Option<&str>) -> Result<Police, TableFault>
     }
 }
 
-/// The row of a link's fields, which leads nowhere yet, and the ports that it is to lead to.
+/// Reads a link's fields into a row that leads nowhere yet, and the ports that it is to lead to.
 #[tactic(auto, unfolding(crate::specs::Links::row_at))]
 fn read_row(
     alloc: Global,
@@ -124,7 +124,7 @@ fn read_row(
     Ok((row, to))
 }
 
-/// A row that is to lead to these ports, beside the ports of the table and the links before it.
+/// Makes a row lead to these ports, if it fits the ports of the table and the links before it.
 #[tactic(auto, unfolding(crate::specs::Links::fitting))]
 fn fit(
     at: At,
@@ -154,7 +154,7 @@ fn fit(
     Ok(row)
 }
 
-/// A link, after the ports and the links before it.
+/// Reads a link, after the ports and the links before it.
 #[tactic(auto, unfolding(crate::specs::Links::link_at))]
 pub(crate) fn read_link(
     alloc: Global,
@@ -172,7 +172,7 @@ pub(crate) fn read_link(
     fit(at, ports, before, row, &to)
 }
 
-/// The links, in file order.
+/// Reads the links, in file order.
 #[tactic(auto, unfolding(crate::specs::Links::links_from))]
 pub(crate) fn read_links(
     alloc: Global,

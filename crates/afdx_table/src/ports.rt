@@ -14,28 +14,28 @@ use crate::rows::{PortRow, nanos, speed_from_mbit};
 use std::alloc::{AllocError, Global};
 use toml::Table;
 
-/// Whether there is a port of this number.
+/// Returns whether there is a port of this number.
 pub(crate) fn has_port(ports: &[PortRow], id: u8) -> bool
     ensures { result ≡ has_port ports.now id }
 {
     ports.iter().any(|port| port.id == id)
 }
 
-/// The port of a number.
+/// Returns the port of a number, if there is one.
 pub(crate) fn port_of(ports: &[PortRow], id: u8) -> Option<&PortRow>
     ensures { option_copied result ≡ find (λ p. p.id == id) ports.now }
 {
     ports.iter().find(|port| port.id == id)
 }
 
-/// The place of the first port above a number.
+/// Returns the place of the first port above a number, if there is one.
 fn first_above(ports: &[PortRow], id: u8) -> Option<usize>
     ensures { result ≡ position (λ p. nat_lt id p.id) ports.now }
 {
     ports.iter().position(|port| id < port.id)
 }
 
-/// The place at which a port of a new number belongs.
+/// Returns the place at which a port of a new number belongs.
 fn place_of(ports: &[PortRow], id: u8) -> usize
     ensures place { result ≡ position_or_len (λ p. nat_lt id p.id) ports.now }
     ensures within { result ≤ length ports.now }
@@ -51,7 +51,7 @@ fn insert_port(ports: &mut Vec<PortRow>, row: PortRow) -> Result<(), AllocError>
     Ok(())
 }
 
-/// A port, after the ports before it.
+/// Reads a port, after the ports before it.
 #[tactic(auto, unfolding(crate::specs::Ports::port_at))]
 fn read_port(version: u64, at: At, table: &Table, before: &[PortRow]) -> Result<PortRow, TableFault>
     ensures { Gives (λ r. r) result (port_at version at before.now (table_view table.now)) }
@@ -73,7 +73,7 @@ fn read_port(version: u64, at: At, table: &Table, before: &[PortRow]) -> Result<
     })
 }
 
-/// The ports, by rising number.
+/// Reads the ports, and returns them by rising number.
 #[tactic(auto, unfolding(crate::specs::Ports::ports_from))]
 pub(crate) fn read_ports(
     alloc: Global,

@@ -26,7 +26,7 @@ pub struct PortRow {
     pub max_delay: u64,
 }
 
-/// The place of the port of a number among these. O(ports).
+/// Returns the place of the port of a number among these, if it is there. O(ports).
 pub fn port_place(ports: &[PortRow], id: u8) -> Option<usize>
     ensures { result ≡ position (λ p. p.id == id) ports.now }
 {
@@ -74,7 +74,7 @@ impl Model for LinkRow {
 }
 
 impl LinkRow {
-    /// The same row once more.
+    /// Returns a copy of the row.
     pub(crate) fn copy(&self) -> LinkRow
         ensures { result ≡ self.now }
     {
@@ -102,7 +102,7 @@ impl Clone for LinkRow {
     }
 }
 
-/// Nanoseconds of so many microseconds.
+/// Returns the nanoseconds of so many microseconds.
 pub(crate) fn nanos(micros: u64) -> u64
     requires { micros ≤ 500000 }
     ensures { result ≡ micros * 1000 }
@@ -110,7 +110,7 @@ pub(crate) fn nanos(micros: u64) -> u64
     micros * MICROSECOND
 }
 
-/// The speed of a line of so many Mbit/s, which a table of this version may have.
+/// Returns the speed of a line of so many Mbit/s, if a table of this version may have one.
 pub(crate) fn speed_from_mbit(version: u64, mbit: u64) -> Option<Speed>
     ensures { result ≡ speed_of version mbit }
 {
@@ -122,14 +122,14 @@ pub(crate) fn speed_from_mbit(version: u64, mbit: u64) -> Option<Speed>
     }
 }
 
-/// The gap of so many milliseconds.
+/// Returns the gap of so many milliseconds, if there is one.
 pub(crate) fn bag_from_ms(ms: u64) -> Option<Bag>
     ensures { result ≡ bag_of ms }
 {
     Bag::from_ms(ms)
 }
 
-/// The priority of a name.
+/// Returns the priority of a name, if there is one.
 pub(crate) fn priority_from_text(text: &str) -> Option<Priority>
     ensures { result ≡ priority_of text.now }
 {
@@ -142,7 +142,7 @@ pub(crate) fn priority_from_text(text: &str) -> Option<Priority>
     }
 }
 
-/// The kind of policing of a name.
+/// Returns the kind of policing of a name, if there is one.
 pub(crate) fn police_from_text(text: &str) -> Option<Police>
     ensures { result ≡ police_of text.now }
 {

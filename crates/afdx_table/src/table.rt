@@ -51,7 +51,7 @@ impl Model for Table {
 }
 
 impl Table {
-    /// The same table once more. O(p + n) for p ports and n links.
+    /// Returns a copy of the table. O(p + n) for p ports and n links.
     pub fn copy(&self, alloc: Global) -> Result<Table, AllocError>
         ensures { IfOk result (λ t. t ≡ self.now) }
     {
@@ -74,8 +74,7 @@ impl Table {
         self.links.set_jitter(index, jitter);
     }
 
-    /// The constant field: the first four bytes of the destination address of each link's frames (ARINC 664 Part 7).
-    /// O(1).
+    /// Returns the constant field: the first four bytes of the destination address of each link's frames (ARINC 664 Part 7). O(1).
     pub fn constant(&self) -> [u8; 4]
         ensures constant { result ≡ self.now.constant }
         ensures well_formed { IsWellFormed self.now }
@@ -83,7 +82,8 @@ impl Table {
         self.constant
     }
 
-    /// The latency: nanoseconds from the instant at which a frame has come until its copies are queued, at most 100,000. O(1).
+    /// Returns the latency: nanoseconds from the instant at which a frame has come until its copies are queued, at most 100,000.
+    /// O(1).
     pub fn latency(&self) -> u64
         ensures latency { result ≡ self.now.latency }
         ensures well_formed { IsWellFormed self.now }
@@ -91,7 +91,7 @@ impl Table {
         self.latency
     }
 
-    /// The ports, by rising number. O(1).
+    /// Returns the ports, by rising number. O(1).
     pub fn ports(&self) -> &[PortRow]
         ensures ports { result.now ≡ self.now.ports }
         ensures well_formed { IsWellFormed self.now }
@@ -99,7 +99,7 @@ impl Table {
         self.ports.as_slice()
     }
 
-    /// The port of a number. O(ports), at most 24.
+    /// Returns the port of a number, if there is one. O(ports), at most 24.
     pub fn port(&self, id: u8) -> Option<&PortRow>
         ensures port { option_copied result ≡ port_row self.now id }
         ensures limits { IfSome result (λ p. IsPort p.now) }
@@ -108,7 +108,7 @@ impl Table {
         port_of(&self.ports, id)
     }
 
-    /// The number of links, at most 4096. O(1).
+    /// Returns the number of links, at most 4096. O(1).
     pub fn link_count(&self) -> usize
         ensures count { result ≡ length self.now.links }
         ensures well_formed { IsWellFormed self.now }
@@ -116,7 +116,7 @@ impl Table {
         self.links.len()
     }
 
-    /// The link at a place in file order, from 0. O(1).
+    /// Returns the link at a place in file order, from 0, if there is one. O(1).
     pub fn link_at(&self, index: usize) -> Option<&LinkRow>
         ensures link { option_copied result ≡ slice_get self.now.links index }
         ensures limits { IfSome result (λ l. IsLink self.now.ports l.now) }
@@ -143,7 +143,7 @@ impl Table {
     }
 }
 
-/// The table of a tree.
+/// Reads the table of a tree.
 #[tactic(auto, unfolding(crate::specs::Text::content_of))]
 fn read_tree(alloc: Global, tree: &Tree) -> Result<Table, TableFault>
     ensures table { Gives (λ t. t) result (content_of (table_view tree.now)) }
@@ -161,7 +161,7 @@ fn read_tree(alloc: Global, tree: &Tree) -> Result<Table, TableFault>
     })
 }
 
-/// The tree that a text is.
+/// Reads a text as a tree.
 #[tactic(auto, using(crate::proofs::TextLemmas::no_tree, crate::proofs::TextLemmas::tree))]
 fn read_text(alloc: Global, bytes: &[u8]) -> Result<Tree, TableFault>
     ensures tree { Gives (λ t. table_view t) result (tree_of bytes.now) }
@@ -177,8 +177,8 @@ fn read_text(alloc: Global, bytes: &[u8]) -> Result<Tree, TableFault>
     }
 }
 
-/// The table of a text whose links are read one by one; none where the text is refused, or its links are not written so that each
-/// can be read by itself.
+/// Reads the table of a text, with its links one by one; none if the text is refused, or its links are not written so that each can
+/// be read by itself.
 fn read_by_links(alloc: Global, bytes: &[u8]) -> Option<Table>
     ensures { IfSome result (λ t. table_of bytes.now ≡ Ok t) }
 {
@@ -213,8 +213,8 @@ fn read_by_links(alloc: Global, bytes: &[u8]) -> Option<Table>
 
 /// Reads a configuration table, a text of TOML 1.1.
 ///
-/// The first refusal in this order is given, and `Memory` where memory ran out, before every test that comes
-/// later; never for bytes that are not UTF-8, nor for a text of white space and comments alone:
+/// The first refusal in this order is given, or `Memory` if memory ran out before it; `Memory` is never given for bytes that are
+/// not UTF-8, nor for a text of white space and comments alone:
 ///
 /// 1. `Toml`: bytes that are not UTF-8, or a text that the library `toml` refuses for another cause than memory.
 /// 2. At the top: `UnknownKey`; of `version` `Kind`, `Range`; in versions 1 and 2 `UnknownKey` of `latency_us`; of
@@ -227,12 +227,12 @@ fn read_by_links(alloc: Global, bytes: &[u8]) -> Option<Table>
 ///    `TwiceLink`; `NoSuchPort` of `from`; `ToEmpty`; then, of
 ///    each member of `to` from the left, `NoSuchPort`, `ToOwnPort`, `ToTwice`.
 ///
-/// Links at the end of a text, each behind a line `[[link]]`, are read one by one, so that no tree of the whole text is made, which
-/// takes some 14 times its memory. All else is read whole: links that are written otherwise, lines that end in a carriage return,
+/// Links at the end of a text, each after a line `[[link]]`, are read one by one, so that no tree of the whole text is made, which
+/// takes about 14 times its memory. All else is read whole: links that are written otherwise, lines that end in a carriage return,
 /// and a text that is refused, for its first refusal.
 ///
-/// O(n) time and memory in the length of the text; only where a text has many keys at one place does their sorting add a
-/// factor of O(log n).
+/// O(n) time and memory in the length of the text; only if a text has many keys at one place does their sorting add a factor of
+/// O(log n).
 #[tactic(auto, unfolding(crate::specs::Text::table_of))]
 pub fn read(alloc: Global, bytes: &[u8]) -> Result<Table, TableFault>
     ensures table { Gives (λ t. t) result (table_of bytes.now) }

@@ -29,7 +29,7 @@ pub(crate) struct Top<'a> {
     pub(crate) links: Vec<&'a Tree>,
 }
 
-/// The version that is stated; a missing one is the first.
+/// Returns the version that is stated; a missing one is the first.
 fn version_from(stated: Option<u64>) -> Result<u64, TableFault>
     ensures version { Gives (λ n. n) result (version_from stated) }
     ensures no_memory { IfErr result (λ e. e ≢ Memory) }
@@ -40,7 +40,7 @@ fn version_from(stated: Option<u64>) -> Result<u64, TableFault>
     }
 }
 
-/// The four bytes that a text is, of which the first has its two lowest bits set (ARINC 664 Part 7).
+/// Returns the four bytes that a text is, of which the first has its two lowest bits set (ARINC 664 Part 7).
 fn group_address(text: &str) -> Result<[u8; 4], TableFault>
     ensures constant { Gives (λ c. c) result (group_address (decode_sized text.now 4)) }
     ensures no_memory { IfErr result (λ e. e ≢ Memory) }
@@ -51,7 +51,7 @@ fn group_address(text: &str) -> Result<[u8; 4], TableFault>
     }
 }
 
-/// The constant field that is stated; a missing one is 03 00 00 00.
+/// Returns the constant field that is stated; a missing one is 03 00 00 00.
 fn constant_from(stated: Option<&str>) -> Result<[u8; 4], TableFault>
     ensures constant { Gives (λ c. c) result (constant_from (option_map (λ s. s.now) stated.entry)) }
     ensures no_memory { IfErr result (λ e. e ≢ Memory) }
@@ -62,7 +62,7 @@ fn constant_from(stated: Option<&str>) -> Result<[u8; 4], TableFault>
     }
 }
 
-/// The fields of the top, which refuses a key that the top has not in this version.
+/// Reads the fields of the top, and refuses a key that the top does not have in this version.
 fn top_fields<'a>(version: u64, tree: &'a Tree) -> Result<Fields<'a>, TableFault>
     ensures known { Gives (λ _. tt) result (known_at place.Top (top_keys version) (table_view tree.now)) }
     ensures fields { IfOk result (λ f. (f.at ≡ place.Top) × (f.table.now ≡ tree.now) × AreValues f.values.slots (table_view tree.now)) }
@@ -89,7 +89,7 @@ fn top_fields<'a>(version: u64, tree: &'a Tree) -> Result<Fields<'a>, TableFault
     }
 }
 
-/// The latency in microseconds that is stated; a missing one is 0.
+/// Returns the latency in microseconds that is stated; a missing one is 0.
 fn latency_from(stated: Option<u64>) -> Result<u64, TableFault>
     ensures latency { Gives (λ n. n) result (latency_from stated) }
     ensures no_memory { IfErr result (λ e. e ≢ Memory) }
@@ -101,7 +101,7 @@ fn latency_from(stated: Option<u64>) -> Result<u64, TableFault>
     }
 }
 
-/// Refuses more tables than these.
+/// Refuses more tables than the limit.
 #[tactic(auto, unfolding(crate::specs::Top::at_most))]
 fn at_most(limit: usize, key: Key, tables: &[&Tree]) -> Result<(), TableFault>
     ensures tables { result ≡ at_most limit key (map (λ t. table_view t.now) tables.now) }
@@ -113,7 +113,7 @@ fn at_most(limit: usize, key: Key, tables: &[&Tree]) -> Result<(), TableFault>
     Ok(())
 }
 
-/// The top.
+/// Reads the top.
 #[tactic(auto, unfolding(crate::specs::Top::top_at))]
 pub(crate) fn read_top<'a>(alloc: Global, tree: &'a Tree) -> Result<Top<'a>, TableFault>
     ensures top { Gives (λ t. record {

@@ -12,7 +12,7 @@ use toml::{Table, Value};
 /// How many keys there are.
 const KEYS: usize = 16;
 
-/// The place of a key.
+/// Returns the place of a key.
 fn place_of(key: Key) -> usize
     ensures place { result ≡ key_place key }
     ensures within { result < 16 }
@@ -37,7 +37,7 @@ fn place_of(key: Key) -> usize
     }
 }
 
-/// The key that is written so; those of links are tried first, of which there are most.
+/// Returns the key that is written so, if there is one; those of links, of which there are most, are tried first.
 fn key_named(text: &str) -> Option<Key>
     ensures { result ≡ key_named text.now }
 {
@@ -62,7 +62,7 @@ fn key_named(text: &str) -> Option<Key>
     }
 }
 
-/// Which places are those of these keys. O(keys).
+/// Returns which places are those of these keys. O(keys).
 fn places_of(keys: &[Key]) -> [bool; KEYS]
     ensures { (n : ℕ) → n < 16 → slice_index_or result n false ≡ list_any (λ k. key_place k == n) keys.now }
 {
@@ -80,7 +80,7 @@ pub(crate) struct Values<'a> {
 }
 
 impl<'a> Values<'a> {
-    /// The values of a table; none where a key is there that is none of these.
+    /// Reads the values of a table; none if it has a key that is none of these.
     pub(crate) fn read(keys: &[Key], table: &'a Table) -> Option<Values<'a>>
         ensures { MatchOption result (are_known keys.now (table_view table.now) ≡ false)
             (λ v. (are_known keys.now (table_view table.now) ≡ true) × AreValues v.slots (table_view table.now)) }
@@ -99,7 +99,7 @@ impl<'a> Values<'a> {
         Some(Values { slots })
     }
 
-    /// The value in the place of a key. O(1).
+    /// Returns the value in the place of a key, if there is one. O(1).
     pub(crate) fn get(&self, key: Key) -> Option<&'a Value>
         ensures { option_map (λ v. view v.now) result ≡ value_in self.now.slots key }
     {

@@ -11,10 +11,10 @@ use std::alloc::{AllocError, Allocator};
 /// The names of the fields.
 pub(crate) const HEADING: &str = "frame,port,record,stamp,link,size,fate,early,full\n";
 
-/// A line for each arrival that is selected, in the order in which the switch took them, after a heading.
+/// Writes a heading, and then a line for each arrival that is selected, in the order in which the switch took them.
 ///
-/// An error says that memory ran out. O(arrivals), for each one as many steps as links are selected, and each port of the table that was offered copies with a byte for
-/// each arrival.
+/// An error says that memory ran out. O(arrivals); each one takes as many steps as links are selected. Each port of the table that was
+/// offered copies takes a byte for each arrival.
 pub fn arrivals<A: Allocator + Copy, B: Allocator + Copy>(
     alloc: A,
     done: &Done<'_, B>,

@@ -20,14 +20,14 @@ use std::alloc::{AllocError, Allocator};
 /// The names of the fields.
 const HEADING: &str = "port,record,frame,link,priority,size,came,start,left,delay,outcome\n";
 
-/// The first line of what [`crate::departures`] gives. O(1).
+/// Returns the first line of what [`crate::departures`] gives. O(1).
 pub fn departures_heading() -> &'static str
     ensures { result.now ≡ departures_heading }
 {
     HEADING
 }
 
-/// What a port of a switch of this latency is set to.
+/// Returns what a port of a switch with this latency is set to.
 pub(crate) fn settings_of(latency: u64, port: &PortRow) -> Settings
     ensures { result ≡ settings_of latency port.now }
 {
@@ -110,7 +110,7 @@ pub(crate) fn put_aged<A: Allocator + Copy>(
     put_word(text, ",,aged\n")
 }
 
-/// Whether the next event is one of those that were discarded.
+/// Returns whether the next event is that of a copy that was discarded.
 fn ages_next(sent: &[Sent], aged: &[Aged]) -> bool
     ensures { result ≡ ages_next sent.now aged.now }
 {
@@ -121,7 +121,7 @@ fn ages_next(sent: &[Sent], aged: &[Aged]) -> bool
     }
 }
 
-/// Whether an event is left.
+/// Returns whether an event is left.
 fn some_left(sent: &[Sent], aged: &[Aged]) -> bool
     ensures some { IsTrue result → 0 < length sent.now + length aged.now }
     ensures none { result ≡ false → (length sent.now ≡ 0) × (length aged.now ≡ 0) }
@@ -129,7 +129,7 @@ fn some_left(sent: &[Sent], aged: &[Aged]) -> bool
     !sent.is_empty() || !aged.is_empty()
 }
 
-/// The first of some, and the others.
+/// Splits items, of which there is one at least, into the first and the others.
 fn split<T>(items: &[T]) -> (&T, &[T])
     requires { 0 < length items.now }
     ensures parts { items.now ≡ result.0.now ∷ result.1.now }
@@ -189,9 +189,10 @@ fn put_port<A: Allocator + Copy, B: Allocator + Copy>(
     )
 }
 
-/// A line for each copy of a selected link that a port sent or discarded, after a heading: for each port by rising number its events in order.
+/// Writes a heading, and then a line for each copy of a selected link that a port sent or discarded. Ports come by rising number, and the
+/// events of each in order.
 ///
-/// An error says that memory ran out. O(copies + ports), for each copy as many steps as links are selected.
+/// An error says that memory ran out. O(copies + ports^2); each copy takes as many steps as links are selected.
 pub fn departures<A: Allocator + Copy, B: Allocator + Copy>(
     alloc: A,
     done: &Done<'_, B>,

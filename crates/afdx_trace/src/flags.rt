@@ -11,7 +11,7 @@ use afdx_table::Table;
 use std::alloc::{AllocError, Allocator};
 use std::marker::Model;
 
-/// For the number of each arrival, from 0, whether a port took its copy; no flag means false.
+/// Flags by the numbers of the arrivals, from 0: whether a port took the copy. No flag means false.
 #[derive(Drop)]
 pub(crate) struct Flags<A: Allocator> {
     all: Vec<bool, A>,
@@ -54,7 +54,7 @@ fn mark_aged(flags: &mut [bool], aged: &[Aged])
     }
 }
 
-/// The flags of the arrivals so far whose copies a port sent or discarded; none where it did neither.
+/// Makes a flag for each of so many arrivals, set if a port sent or discarded its copy; no flags if the port sent and discarded nothing.
 fn flags_of<A: Allocator + Copy>(
     alloc: A,
     count: usize,
@@ -75,14 +75,14 @@ fn flags_of<A: Allocator + Copy>(
     Ok(Flags { all })
 }
 
-/// The table is well formed.
+/// Proves that the table is well formed.
 fn know_the_table(table: &Table)
     ensures { IsWellFormed table.now }
 {
     table.constant();
 }
 
-/// The copies that each port took, by the ports' numbers from 0 to 24. O(arrivals) for each port that was offered some.
+/// Makes the flags of the copies that each port took, by the ports' numbers from 0 to 24. O(arrivals) for each port that was offered copies.
 pub(crate) fn all_taken<A: Allocator + Copy, B: Allocator + Copy>(
     alloc: A,
     done: &Done<'_, B>,
@@ -99,7 +99,7 @@ pub(crate) fn all_taken<A: Allocator + Copy, B: Allocator + Copy>(
     Ok(all)
 }
 
-/// Whether a port took the copy of an arrival.
+/// Returns whether a port took the copy of an arrival.
 fn has_taken<A: Allocator>(taken: &[Flags<A>], port: u8, number: usize) -> bool
     ensures { result ≡ flag_at taken.now port number }
 {
@@ -109,7 +109,7 @@ fn has_taken<A: Allocator>(taken: &[Flags<A>], port: u8, number: usize) -> bool
     }
 }
 
-/// The ports that refused the copy of an arrival, of those that it was offered to.
+/// Returns which of the ports that were offered the copy of an arrival refused it.
 pub(crate) fn refusing<A: Allocator + Copy>(
     alloc: A,
     taken: &[Flags<A>],

@@ -5,16 +5,16 @@ ghost use Rattle.afdx_trace.specs.Inner.Told.{LinesAreTold};
 
 use afdx_port::laws::{each_has_one_event, feeds_are_admitted_in_parts, starts_in_time_are_sent};
 
-/// The events of a port are in order of their instants, and a copy that is discarded at the instant at which another starts
-/// comes before it.
+/// Proves that the events of a port are in order of their instants, and that a copy that is discarded at the instant at which
+/// another starts comes before it.
 pub fn events_are_in_order()
     ensures { EventsAreInOrder }
 {
     starts_in_time_are_sent();
 }
 
-/// Once all is carried out, the ports that are reported to have refused a copy are those that answered `Full` to it: whose
-/// buffer had no room for it.
+/// Proves that, once all is carried out, the ports that are reported to have refused a copy are those that answered `Full` to it:
+/// those whose buffer had no room for it.
 pub fn full_is_exact()
     ensures { FullIsExact }
 {
@@ -22,7 +22,7 @@ pub fn full_is_exact()
     feeds_are_admitted_in_parts();
 }
 
-/// Once all is carried out, the lines of arrivals are those that could be told when these were taken.
+/// Proves that, once all is carried out, the lines of arrivals are those that could be told when the arrivals were taken.
 pub fn lines_are_told()
     ensures { LinesAreTold }
 {

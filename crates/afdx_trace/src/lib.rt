@@ -1,7 +1,7 @@
 //! What became of each arrival and of each copy of a run, as comma-separated values (profile).
 //!
 //! [`arrivals`] has a line for each arrival, and [`departures`] one for each copy that a port sent or discarded. Both are made
-//! of the finished switch, after the run. [`Tracing`] tells the same while a run goes on, into files: it keeps no frame, and no
+//! from the finished switch, after the run. [`Tracing`] tells the same while a run goes on, into files: it keeps no frame, and no
 //! line that went to its file. Contracts say that the texts are those of the definitions.
 //!
 //! # Example

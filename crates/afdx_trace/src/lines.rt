@@ -10,7 +10,7 @@ use std::alloc::{AllocError, Allocator};
 /// How many bytes go to a file at once at least, but for the last (profile).
 const PART: usize = 32_768;
 
-/// Lines, of which those that went to a file were let go.
+/// Lines; those that went to a file were let go.
 #[derive(Drop)]
 pub(crate) struct Lines<A: Allocator> {
     pub(crate) gone: Gone<u8>,

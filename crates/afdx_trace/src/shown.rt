@@ -25,7 +25,7 @@ pub(crate) struct Shown<'a> {
 }
 
 impl<'a> Shown<'a> {
-    /// What a selection shows of these arrivals. O(1).
+    /// Returns what a selection shows of these arrivals. O(1).
     pub(crate) fn of(selection: &Selection<'a>, rows: &[Row]) -> Shown<'a>
         ensures { result ≡ shown_of selection.now rows.now }
     {
@@ -39,7 +39,7 @@ impl<'a> Shown<'a> {
         }
     }
 
-    /// What a selection shows of arrivals of which the first came at this stamp. O(1).
+    /// Returns what a selection shows of arrivals, the first of which came at this stamp. O(1).
     pub(crate) fn starting_at(selection: &Selection<'a>, first: Stamp) -> Shown<'a>
         ensures { (rows : List Arrived) → first_stamp rows ≡ first → result ≡ shown_of selection.now rows }
     {
@@ -49,7 +49,7 @@ impl<'a> Shown<'a> {
         }
     }
 
-    /// Whether the lines of a frame with this link are written. O(links that were selected).
+    /// Returns whether the lines of a frame with this link are written. O(links that were selected).
     pub(crate) fn has(&self, link: Option<u16>) -> bool
         ensures { result ≡ is_shown self.now link }
     {
@@ -59,7 +59,7 @@ impl<'a> Shown<'a> {
         }
     }
 
-    /// An instant as it is written.
+    /// Returns an instant as it is written: in nanoseconds after the stamp that counts as 0.
     pub(crate) fn since(&self, nanos: u64) -> u64
         ensures { result ≡ nanos - self.now.origin }
     {

@@ -1,4 +1,4 @@
-//! One output port of which it is told what becomes of each copy.
+//! One output port that tells what becomes of each copy.
 
 ghost use Rattle.std.specs.Prelude.{◌≡◌, ◌+◌, ◌<◌, ◌≤◌, ◌∷◌, [], ◌++◌, List, All, false, IfOk, OnOk};
 ghost use Rattle.afdx_units.specs.Time.{last_second};
@@ -29,14 +29,14 @@ pub(crate) struct TracedPort<A: Allocator> {
     pub(crate) row: PortRow,
     pub(crate) settings: Settings,
     pub(crate) flow: Flow<A>,
-    /// Of so many copies that it sent it was told.
+    /// How many sent copies it has told of.
     pub(crate) sent: usize,
-    /// Of so many that it discarded.
+    /// How many discarded copies it has told of.
     pub(crate) aged: usize,
     pub(crate) lines: Lines<A>,
 }
 
-/// The first of events, where these are the first of them that are sent and discarded.
+/// Returns the first event, given the first copy that is sent and the first that is discarded. At one instant, the latter comes first.
 fn next_of(sent: Option<Sent>, aged: Option<Aged>) -> Option<Result<Sent, Aged>>
     ensures { IsFirstOf sent aged result }
 {
@@ -55,7 +55,7 @@ fn next_of(sent: Option<Sent>, aged: Option<Aged>) -> Option<Result<Sent, Aged>>
 }
 
 impl<A: Allocator + Copy> TracedPort<A> {
-    /// A port that was offered nothing. It takes no memory. O(1).
+    /// Makes a port that was offered nothing. It takes no memory. O(1).
     pub(crate) fn new(alloc: A, latency: u64, row: PortRow) -> TracedPort<A>
         requires port { IsPort row }
         requires latency { latency ≤ 100000 }
@@ -79,7 +79,7 @@ impl<A: Allocator + Copy> TracedPort<A> {
         }
     }
 
-    /// Tells of the next event, if there is one that it did not tell of. Whether there was one. O(1).
+    /// Tells of the next event that it has not told of, if there is one, and returns whether there was one. O(1).
     fn tell_next(&mut self, shown: &Shown<'_>) -> Result<bool, AllocError>
         requires { (left : List Event) × IsTelling shown.now self.old left }
         ensures same { IsSamePort self.old self.new }
@@ -148,7 +148,8 @@ impl<A: Allocator + Copy> TracedPort<A> {
         )
     }
 
-    /// Tells of each event that it did not tell of, and lets go of them; of the lines, what is a part at least goes to the file. O(1) for each.
+    /// Tells of each event that it has not told of, and lets go of them. The lines go to the file once they are `PART` bytes at least. O(1) for
+    /// each event.
     fn tell<F: NewFile>(&mut self, shown: &Shown<'_>, file: &mut F) -> Result<(), AllocError>
         requires { (left : List Event) × IsTelling shown.now self.old left }
         ensures same { IsSamePort self.old self.new }
@@ -162,7 +163,7 @@ impl<A: Allocator + Copy> TracedPort<A> {
         Ok(())
     }
 
-    /// Makes room for one more copy. O(1), and what lists take to move each 64th time.
+    /// Makes room for one more copy. O(1), beside what lists take to move each 64th time.
     fn make_room(&mut self) -> Result<(), AllocError>
         ensures room { OnOk result (0 < self.new.flow.room) }
         ensures same { IsSamePort self.old self.new }
@@ -205,7 +206,7 @@ impl<A: Allocator + Copy> TracedPort<A> {
         Ok(answer)
     }
 
-    /// Carries out and tells all that is left, and all lines go to the file.
+    /// Carries out and tells all that is left, and appends all lines to the file.
     pub(crate) fn end<F: NewFile>(
         &mut self,
         shown: &Shown<'_>,

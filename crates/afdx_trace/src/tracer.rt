@@ -35,7 +35,7 @@ pub(crate) fn verdict_word(verdict: Verdict) -> &'static str
     }
 }
 
-/// The place of a clean frame's link.
+/// Returns the place of a frame's link, if the frame is clean.
 fn clean_place(table: &Table, verdict: Verdict) -> Option<usize>
     ensures { result ≡ place_named table.now verdict }
 {
@@ -45,7 +45,7 @@ fn clean_place(table: &Table, verdict: Verdict) -> Option<usize>
     }
 }
 
-/// Offers a frame to the account of its link, at this place: the ports that it is then offered to where it is passed, else
+/// Offers a frame to the account of its link, at this place. Returns the ports that it is then offered to if it is passed, else
 /// the nanoseconds by which it came early.
 fn offer<'t>(
     table: &'t Table,
@@ -71,7 +71,7 @@ fn offer<'t>(
     }
 }
 
-/// Counts an arrival; its number among the records of its port's capture, from 1.
+/// Counts an arrival, and returns its number among the records of its port's capture, from 1.
 fn count(records: &mut [usize; 256], before: &[Row], row: &Row) -> usize
     requires { AreCounted before.now records.old }
     ensures number { result ≡ record_in before.now row.now }
@@ -82,7 +82,7 @@ fn count(records: &mut [usize; 256], before: &[Row], row: &Row) -> usize
     *records
 }
 
-/// Appends the number of a link, if there is one.
+/// Appends a field that is the number of a link, or empty if there is none.
 fn put_link<A: Allocator + Copy>(text: &mut String<A>, link: Option<u16>) -> Result<(), AllocError>
     ensures { OnOk result (string_bytes text.new ≡ string_bytes text.old ++ next_field (optional link)) }
 {
@@ -92,7 +92,8 @@ fn put_link<A: Allocator + Copy>(text: &mut String<A>, link: Option<u16>) -> Res
     }
 }
 
-/// Appends the fields of an arrival, up to its size: its number among all, and that among the records of its port's capture.
+/// Appends the fields of an arrival, up to its size. It has this number among all arrivals, and this place among the records of its
+/// port's capture.
 pub(crate) fn put_frame<A: Allocator + Copy>(
     text: &mut String<A>,
     shown: &Shown<'_>,
@@ -139,7 +140,7 @@ pub(crate) struct Tracer<A: Allocator> {
 }
 
 impl<A: Allocator + Copy> Tracer<A> {
-    /// Before the first arrival.
+    /// Makes a tracer that stands before the first arrival.
     pub(crate) fn new<B: Allocator + Copy>(alloc: A, done: &Done<'_, B>) -> Result<Self, AllocError>
         ensures { IfOk result (λ tracer. Traces done.now.run [] 0 tracer) }
     {
@@ -153,8 +154,8 @@ impl<A: Allocator + Copy> Tracer<A> {
         })
     }
 
-    /// The word of an arrival's fate, how early it came where it was policed, and the ports that refused it where it was
-    /// passed.
+    /// Returns the word of an arrival's fate, by how many nanoseconds it came early if it was policed, and the ports that refused it
+    /// if it was passed.
     fn fate<B: Allocator + Copy>(
         &mut self,
         done: &Done<'_, B>,

@@ -47,8 +47,8 @@ use std::alloc::{AllocError, Allocator};
 /// Ports that had no room for a copy.
 pub(crate) type Full = ArrayVec<u8, 24>;
 
-/// What became of an arrival: the word of its fate, how many nanoseconds early it came where it was policed, and the ports that refused it
-/// where it was passed.
+/// What became of an arrival: the word of its fate, by how many nanoseconds it came early if it was policed, and the ports that refused it
+/// if it was passed.
 #[derive(Drop)]
 pub(crate) struct TracedFate {
     pub(crate) word: &'static str,
@@ -56,8 +56,8 @@ pub(crate) struct TracedFate {
     pub(crate) full: Full,
 }
 
-/// A switch that keeps no frames, arrivals and copies, but what waits at its ports: it tells of each arrival at once, and of each copy once
-/// it was sent or discarded. The lines go to a file of the arrivals, and one for each port.
+/// A switch that keeps no frames, arrivals or copies except for what waits at its ports. It tells of each arrival at once, and of each copy
+/// once it was sent or discarded. The lines go to a file of the arrivals, and to one for each port.
 #[derive(Drop)]
 pub struct Tracing<'s, A: Allocator> {
     pub(crate) selection: Selection<'s>,
@@ -68,7 +68,7 @@ pub struct Tracing<'s, A: Allocator> {
     pub(crate) records: [usize; 256],
     /// By rising number.
     pub(crate) ports: Vec<TracedPort<A>, A>,
-    /// The place of each of them, by its number.
+    /// The place of each port, by its number.
     pub(crate) places: [Option<usize>; 25],
     /// The arrivals so far.
     pub(crate) rows: Gone<Row>,
@@ -76,7 +76,7 @@ pub struct Tracing<'s, A: Allocator> {
     pub(crate) lines: Lines<A>,
 }
 
-/// The row of a frame that came in at a port, and the place of a clean frame's link.
+/// Returns the row of a frame that came in at a port, and the place of its link if the frame is clean.
 fn judged<A: Allocator>(table: &Table, in_port: u8, frame: &Record<'_, A>) -> (Row, Option<usize>)
     ensures row { result.0 ≡ row_of table.now in_port frame.now }
     ensures place { result.1 ≡ place_named table.now result.0.verdict }
@@ -92,7 +92,8 @@ fn judged<A: Allocator>(table: &Table, in_port: u8, frame: &Record<'_, A>) -> (R
     (row, judged.place)
 }
 
-/// Offers a frame to the account of its link, at this place: the link where the frame is passed, else the nanoseconds by which it came early.
+/// Offers a frame to the account of its link, at this place. Returns the link if the frame is passed, else the nanoseconds by which it came
+/// early.
 fn pass<'t>(
     table: &'t Table,
     accounts: &mut [Account],
@@ -121,7 +122,7 @@ fn pass<'t>(
     }
 }
 
-/// A copy of a link's frame, numbered by the arrivals before it.
+/// Makes a copy of a link's frame, numbered by how many arrivals came before it.
 fn copy_of(link: &LinkRow, number: usize, row: &Row) -> Item
     ensures { (before : List Arrived) → number ≡ length before → result ≡ copy_of link.now before row.now }
 {
@@ -134,7 +135,7 @@ fn copy_of(link: &LinkRow, number: usize, row: &Row) -> Item
     }
 }
 
-/// Counts an arrival; its number among the records of its port's capture, from 1.
+/// Counts an arrival, and returns its number among the records of its port's capture, from 1.
 fn count(records: &mut [usize; 256], row: &Row) -> Result<usize, AllocError>
     ensures number { IfOk result (λ number. (before : List Arrived) → AreCounted before records.old → number ≡ record_in before row.now) }
     ensures counted { OnOk result ((before : List Arrived) → AreCounted before records.old → AreCounted (before ++ row.now ∷ []) records.new) }
@@ -147,7 +148,7 @@ fn count(records: &mut [usize; 256], row: &Row) -> Result<usize, AllocError>
     Ok(number)
 }
 
-/// The places of these ports, by their numbers. O(ports) for each number that there may be.
+/// Returns the places of these ports, by their numbers. O(ports) for each number that there may be.
 fn places_of(ports: &[PortRow]) -> [Option<usize>; 25]
     requires { All IsPort ports.now }
     ensures { (port : ℕ) → slice_index_or result port None ≡ position (λ p. p.id == port) ports.now }
@@ -159,7 +160,7 @@ fn places_of(ports: &[PortRow]) -> [Option<usize>; 25]
     places
 }
 
-/// The place of the port of a number, if there is one. O(1).
+/// Returns the place of the port with a number, if there is one. O(1).
 fn place_of(places: &[Option<usize>; 25], port: u8) -> Option<usize>
     ensures { result ≡ slice_index_or places.now port None }
 {
@@ -169,7 +170,7 @@ fn place_of(places: &[Option<usize>; 25], port: u8) -> Option<usize>
     }
 }
 
-/// The place among these ports of that of a number, if there is one. O(1).
+/// Finds the place of the port with a number among these ports, if there is one. O(1).
 fn find_port<A: Allocator>(
     ports: &[TracedPort<A>],
     places: &[Option<usize>; 25],
@@ -182,7 +183,7 @@ fn find_port<A: Allocator>(
     place_of(places, port)
 }
 
-/// Offers a copy to the port of a number, if there is one. Whether it was refused.
+/// Offers a copy to the port with a number, and returns its answer; `Full` if there is no such port.
 fn offer_to<A: Allocator + Copy, F: NewFile>(
     ports: &mut [TracedPort<A>],
     places: &[Option<usize>; 25],
@@ -220,7 +221,7 @@ fn note(full: &mut Full, port: u8, answer: Offer)
     }
 }
 
-/// Offers a copy to these ports: those that had no room for it.
+/// Offers a copy to these ports, and returns those that had no room for it.
 fn offer_all<A: Allocator + Copy, F: NewFile>(
     ports: &mut [TracedPort<A>],
     places: &[Option<usize>; 25],
@@ -250,7 +251,7 @@ fn offer_all<A: Allocator + Copy, F: NewFile>(
     Ok(full)
 }
 
-/// Carries out and tells all that is left at each port, and their lines go to their files.
+/// Carries out and tells all that is left at each port, and appends each port's lines to its file.
 fn end_all<A: Allocator + Copy, F: NewFile>(
     ports: &mut [TracedPort<A>],
     shown: &Shown<'_>,
@@ -267,7 +268,7 @@ fn end_all<A: Allocator + Copy, F: NewFile>(
 }
 
 impl<'s, A: Allocator + Copy> Tracing<'s, A> {
-    /// A switch that took nothing.
+    /// Makes a switch that has taken nothing.
     ///
     /// An error says that memory ran out; the table is dropped then. O(links + ports).
     pub fn new(
@@ -300,14 +301,14 @@ impl<'s, A: Allocator + Copy> Tracing<'s, A> {
         })
     }
 
-    /// Its table. O(1).
+    /// Returns its table. O(1).
     pub fn table(&self) -> &Table
         ensures { result.now ≡ self.now.table }
     {
         &self.table
     }
 
-    /// What is shown once a frame of this stamp has come.
+    /// Returns what is shown once a frame of this stamp has come.
     fn shown_from(&self, stamp: Stamp) -> Shown<'s>
         ensures { (rows : List Arrived) (row : Arrived) → self.now.count ≡ length rows → self.now.shown ≡ shown_of self.now.selection rows → row.stamp ≡ stamp
             → result ≡ shown_of self.now.selection (rows ++ row ∷ []) }
@@ -319,7 +320,7 @@ impl<'s, A: Allocator + Copy> Tracing<'s, A> {
         }
     }
 
-    /// Passes a frame of a link on to its ports, or does not: what became of it.
+    /// Passes a frame on to the ports of its link, or does not, and returns what became of it.
     fn fate<F: NewFile>(
         &mut self,
         row: &Row,
@@ -347,7 +348,7 @@ impl<'s, A: Allocator + Copy> Tracing<'s, A> {
         }
     }
 
-    /// The same of a frame of the link at this place.
+    /// Does the same with a frame of the link at this place.
     fn offer<F: NewFile>(
         &mut self,
         row: &Row,
@@ -385,8 +386,8 @@ impl<'s, A: Allocator + Copy> Tracing<'s, A> {
         }
     }
 
-    /// Tells of the next arrival, if it is shown: its number among the records of its port's capture, and what became of it. Of the lines, what is
-    /// a part at least goes to the file.
+    /// Tells of the next arrival, if it is shown: its number among the records of its port's capture, and what became of it. The lines go to
+    /// the file once they are `PART` bytes at least.
     fn tell<F: NewFile>(
         &mut self,
         row: &Row,
@@ -407,11 +408,11 @@ impl<'s, A: Allocator + Copy> Tracing<'s, A> {
         self.lines.hand_over(arrivals)
     }
 
-    /// Takes an arrival, none of which came later, and tells of it and of what the ports of its link carried out by then. Of the lines, what is
-    /// a part at least goes to the file of the arrivals, and to those of the ports.
+    /// Takes an arrival that came no earlier than those before it. Tells of it, and of what the ports of its link carried out by then. Lines go
+    /// to the file of the arrivals, and to those of the ports, once they are 32,768 bytes at least.
     ///
-    /// An error says that memory ran out, or that more than 2^64 - 1 arrivals would be counted. O(ports of its link), and O(1) for each copy that
-    /// one of these sent or discarded; for each line as many steps as links are selected.
+    /// An error says that memory ran out, or that more than 2^64 - 1 arrivals would be counted. O(ports of its link), and O(1) for each copy
+    /// that one of these sent or discarded; each line takes as many steps as links are selected.
     pub fn arrive<B: Allocator, F: NewFile>(
         &mut self,
         in_port: u8,
@@ -441,7 +442,7 @@ impl<'s, A: Allocator + Copy> Tracing<'s, A> {
         Ok(())
     }
 
-    /// Carries out and tells all that is left, and all lines go to their files.
+    /// Carries out and tells all that is left, and appends all lines to their files.
     ///
     /// An error says that memory ran out. O(ports), and O(1) for each copy that is sent or discarded.
     pub fn end<F: NewFile>(self, arrivals: &mut F, departures: &mut [F]) -> Result<(), AllocError>

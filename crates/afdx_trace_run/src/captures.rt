@@ -12,7 +12,7 @@ use afdx_table::PortRow;
 use std::alloc::{AllocError, Allocator};
 use std::io::Read;
 
-/// The clock of a capture at each of these ports: stamps are as they are.
+/// Makes the clock of a capture at each of these ports: stamps are as they are.
 pub(crate) fn clocks_of<A: Allocator + Copy>(
     alloc: A,
     ports: &[PortRow],
@@ -30,7 +30,7 @@ pub(crate) fn clocks_of<A: Allocator + Copy>(
     Ok(clocks)
 }
 
-/// The captures that readers give, one of each of these ports, of which the first records are read.
+/// Opens the captures that readers give, one of each of these ports, and reads their first records.
 pub(crate) fn opened<A: Allocator + Copy, R: Read>(
     alloc: A,
     ports: &[PortRow],
@@ -47,7 +47,7 @@ pub(crate) fn opened<A: Allocator + Copy, R: Read>(
     }
 }
 
-/// The same fault, said of a port.
+/// Says of a port the fault that a merge says of a place.
 pub(crate) fn source_fault(ports: &[PortRow], fault: MergeFault) -> SourceFault
     requires { IsAmong (length ports.now) fault }
     ensures { result ≡ source_fault ports.now fault }

@@ -26,7 +26,7 @@ use afdx_trace::{Selection, Tracing};
 use std::alloc::{AllocError, Allocator};
 use std::io::Read;
 
-/// The table of a plan.
+/// Returns the table of a plan.
 fn table_of(plan: Plan) -> Table
     ensures table { result ≡ table_in plan }
     ensures accepted { is_cleared plan ≡ true → IsAccepted (table_in plan) }
@@ -37,7 +37,7 @@ fn table_of(plan: Plan) -> Table
     }
 }
 
-/// A record goes to the switch.
+/// Gives a record to the switch.
 fn take<A: Allocator + Copy, F: NewFile>(
     alloc: A,
     tracing: &mut Tracing<'_, A>,
@@ -60,7 +60,7 @@ fn take<A: Allocator + Copy, F: NewFile>(
     tracing.arrive(port, &frame, arrivals, departures)
 }
 
-/// All records go to the switch, by stamp and then by port.
+/// Gives all records to the switch, by stamp and then by port.
 fn take_all<A: Allocator + Copy, R: Read, F: NewFile>(
     alloc: A,
     tracing: &mut Tracing<'_, A>,
@@ -89,8 +89,8 @@ fn take_all<A: Allocator + Copy, R: Read, F: NewFile>(
     Err(SourceFault::Memory)
 }
 
-/// The run over captures that readers give, of the table's ports by rising number, of which it is told what became of each arrival and of each copy:
-/// the lines of the arrivals are appended to one file, and those of each port's copies, without a heading, to the file at its place, in parts while it
+/// Makes the run over captures that readers give, of the table's ports by rising number, and tells what became of each arrival and of each copy: the
+/// lines of the arrivals are appended to one file, and those of each port's copies, without a heading, to the file at its place, in parts while it
 /// goes on. Of each capture no more is kept than a piece and its next record, and of the run no more than what waits at the ports.
 ///
 /// # Errors

@@ -21,7 +21,7 @@ pub enum Bag {
 }
 
 impl Bag {
-    /// The gap of so many milliseconds, where there is one.
+    /// Returns the gap of so many milliseconds, if there is one.
     pub fn from_ms(ms: u64) -> Option<Bag>
         ensures some { IfSome result (λ bag. bag_ms bag ≡ ms) }
         ensures none { IfNone result ((bag : Bag) → bag_ms bag ≢ ms) }
@@ -39,7 +39,7 @@ impl Bag {
         }
     }
 
-    /// Its length in milliseconds.
+    /// Returns its length in milliseconds.
     pub fn ms(self) -> u64
         ensures value { result ≡ bag_ms self }
         ensures least { 1 ≤ result }
@@ -57,7 +57,7 @@ impl Bag {
         }
     }
 
-    /// Its length in nanoseconds.
+    /// Returns its length in nanoseconds.
     pub fn ns(self) -> u64
         ensures value { result ≡ bag_ns self }
         ensures least { 1000000 ≤ result }

@@ -34,7 +34,7 @@ pub enum Priority {
 }
 
 impl Speed {
-    /// Nanoseconds that a byte takes on the line.
+    /// Returns the nanoseconds that a byte takes on the line.
     pub fn tick(self) -> u64
         ensures { result ≡ tick_of self }
     {
@@ -46,7 +46,7 @@ impl Speed {
     }
 }
 
-/// The size in bytes of a frame of which so many bytes were captured.
+/// Returns the size in bytes of a frame of which so many bytes were captured.
 ///
 /// A record holds at most 262,144 bytes, so a size is at most 262,148.
 pub fn size(captured: u32) -> u32
@@ -56,7 +56,7 @@ pub fn size(captured: u32) -> u32
     captured + CHECK_SEQUENCE
 }
 
-/// Nanoseconds for which a frame of this size in bytes occupies a line, gap included.
+/// Returns the nanoseconds for which a frame of this size in bytes occupies a line, gap included.
 pub fn cost(speed: Speed, size: u32) -> u64
     requires { size ≤ 262148 }
     ensures { result ≡ cost_of speed size }

@@ -44,7 +44,7 @@ impl Stamp {
     /// The last instant, a nanosecond before 32 bits of seconds end.
     pub const LAST: Stamp = Stamp { ns: END - 1 };
 
-    /// The instant of these seconds and nanoseconds; none where the nanoseconds make a second or more.
+    /// Returns the instant of these seconds and nanoseconds; none if the nanoseconds make a second or more.
     pub fn new(sec: u32, nanos: u32) -> Option<Stamp>
         ensures { SomeIff result (nanos < second) (sec * second + nanos) }
     {
@@ -58,14 +58,14 @@ impl Stamp {
         }
     }
 
-    /// The instant of so many nanoseconds; none past the last instant.
+    /// Returns the instant of so many nanoseconds; none past the last instant.
     pub fn from_ns(ns: u64) -> Option<Stamp>
         ensures { SomeIff result (ns < stamp_end) ns }
     {
         if ns < END { Some(Stamp { ns }) } else { None }
     }
 
-    /// The instant of so many nanoseconds; the last instant if that lies before it.
+    /// Returns the instant of so many nanoseconds, or the last instant if that is earlier.
     pub fn from_ns_saturating(ns: u128) -> Stamp
         ensures { result ≡ min ns last_instant }
     {
@@ -74,28 +74,28 @@ impl Stamp {
         }
     }
 
-    /// The instant so many nanoseconds later; none past the last instant.
+    /// Returns the instant so many nanoseconds later; none past the last instant.
     pub fn plus(self, ns: u64) -> Option<Stamp>
         ensures { SomeIff result (self + ns < stamp_end) (self + ns) }
     {
         Stamp::from_ns(self.ns.checked_add(ns)?)
     }
 
-    /// Its whole seconds.
+    /// Returns its whole seconds.
     pub fn sec(self) -> u32
         ensures { result ≡ self / second }
     {
         (self.ns / NANOS_PER_SECOND) as u32
     }
 
-    /// Nanoseconds past its whole seconds, below `10^9`.
+    /// Returns the nanoseconds past its whole seconds, below `10^9`.
     pub fn nanos(self) -> u32
         ensures { result ≡ self % second }
     {
         (self.ns % NANOS_PER_SECOND) as u32
     }
 
-    /// Nanoseconds from the start of 1970.
+    /// Returns the nanoseconds from the start of 1970.
     pub fn ns(self) -> u64
         ensures same { result ≡ self }
         ensures instant { IsInstant self }
@@ -103,7 +103,7 @@ impl Stamp {
         self.ns
     }
 
-    /// Whether it lies in the last second (of number 4,294,967,295), which is written and never read.
+    /// Returns whether it lies in the last second (of number 4,294,967,295), which is written and never read.
     pub fn late(self) -> bool
         ensures { IsTrue result ↔ (last_second ≤ self) }
     {

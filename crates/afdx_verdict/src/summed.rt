@@ -21,7 +21,7 @@ pub struct RunVerdict {
     pub lost: u64,
 }
 
-/// The frames that the filter dropped, of these arrivals.
+/// Returns how many frames of these arrivals the filter dropped.
 fn dropped(count: InCount) -> u64
     ensures { result ≡ capped (dropped count) }
 {
@@ -35,21 +35,21 @@ fn dropped(count: InCount) -> u64
         .saturating_add(count.too_big)
 }
 
-/// The copies that were lost, of these.
+/// Returns how many of these copies were lost.
 fn lost(count: OutCount) -> u64
     ensures { result ≡ capped (lost count) }
 {
     count.full.saturating_add(count.aged)
 }
 
-/// The copies that were lost at a port.
+/// Returns how many copies were lost at a port.
 fn lost_at(port: &PortTally) -> u64
     ensures { result ≡ capped (lost_at port.now) }
 {
     lost(port.high).saturating_add(lost(port.low))
 }
 
-/// The links that have a policed frame.
+/// Returns how many links have a policed frame.
 fn policed_links(links: &[LinkTally]) -> u64
     ensures { result ≡ capped (count_by (λ l. nat_lt 0 l.count.policed) links.now) }
 {
@@ -60,7 +60,7 @@ fn policed_links(links: &[LinkTally]) -> u64
     policed
 }
 
-/// The policed frames of all links.
+/// Returns how many frames of all links were policed.
 fn policed_frames(links: &[LinkTally]) -> u64
     ensures { result ≡ capped (sum_by (λ l. l.count.policed) links.now) }
 {
@@ -71,7 +71,7 @@ fn policed_frames(links: &[LinkTally]) -> u64
     frames
 }
 
-/// The frames that the filter dropped, at all ports.
+/// Returns how many frames the filter dropped, at all ports.
 fn all_dropped(ports: &[PortTally]) -> u64
     ensures { result ≡ capped (sum_by (λ p. dropped p.input) ports.now) }
 {
@@ -82,7 +82,7 @@ fn all_dropped(ports: &[PortTally]) -> u64
     frames
 }
 
-/// The copies that were lost, at all ports.
+/// Returns how many copies were lost, at all ports.
 fn all_lost(ports: &[PortTally]) -> u64
     ensures { result ≡ capped (sum_by lost_at ports.now) }
 {
@@ -93,7 +93,7 @@ fn all_lost(ports: &[PortTally]) -> u64
     copies
 }
 
-/// What the counters of a run come to. O(ports + links).
+/// Returns what the counters of a run come to. O(ports + links).
 pub fn verdict<A: Allocator + Copy>(counts: &Counts<A>) -> RunVerdict
     ensures { result ≡ verdict_of counts.now }
 {

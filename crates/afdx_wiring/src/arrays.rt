@@ -8,7 +8,7 @@ ghost use Rattle.afdx_table.specs.Fields.{all_of};
 use std::alloc::{AllocError, Global};
 use toml::{Table, Value};
 
-/// The tables of an array, where each member is one.
+/// Returns the tables of an array, if each member is one.
 pub(crate) fn tables_of(alloc: Global, items: &[Value]) -> Result<Option<Vec<&Table>>, AllocError>
     ensures { IfOk result (λ o. option_map (λ v. map (λ t. table_view t.now) v.items) o ≡ all_of as_table (items_view items.now)) }
 {

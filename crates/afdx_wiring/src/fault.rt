@@ -61,10 +61,10 @@ pub enum NetworkFault {
     OwnPort(At),
     /// G3: a wire's end names a port that is not in its switch's table.
     NoSuchPort(At),
-    /// G3: the switch at this place, from 0, is said to take at least more than its table's latency.
+    /// G3: the least latency of the switch at this place, from 0, is said to be above its table's latency.
     Latency(usize),
-    /// L1 to L4: the load of the table of the switch at this place, from 0, is not accepted where its latencies may differ as the
-    /// network file says, and this is its first fault.
+    /// L1 to L4: the load of the table of the switch at this place, from 0, is not accepted with latencies that may differ as
+    /// the network file says, and this is its first fault.
     Load(usize, LoadFault),
     /// G4: the tables at both ends have two constant fields.
     Constant(At),
@@ -104,7 +104,7 @@ pub struct Short {
 }
 
 impl Key {
-    /// The key as it is written in the network file. O(1).
+    /// Returns the key as it is written in the network file. O(1).
     pub fn as_str(self) -> &'static str
         ensures { result.now ≡ key_text self }
     {

@@ -15,35 +15,35 @@ use crate::fault::{At, Key, NetworkFault};
 use std::alloc::Global;
 use toml::{Table, Value};
 
-/// Whether a text is one of these keys.
+/// Returns whether a text is one of these keys.
 fn is_one_of(keys: &[Key], text: &str) -> bool
     ensures { result ≡ is_one_of keys.now text.now }
 {
     keys.iter().any(|key| text == key.as_str())
 }
 
-/// Whether each key of a table is one of these, over the keys of the map.
+/// Returns whether each key of a table is one of these, over the keys of the map.
 fn are_keys_known(keys: &[Key], table: &Table) -> bool
     ensures { result ≡ list_all (λ k. is_one_of keys.now (string_bytes k)) (keys_of table.now.entries) }
 {
     table.keys().all(|key| is_one_of(keys, key.as_str()))
 }
 
-/// Whether each key of a table is one of these.
+/// Returns whether each key of a table is one of these.
 fn are_known(keys: &[Key], table: &Table) -> bool
     ensures { result ≡ are_known keys.now (table_view table.now) }
 {
     are_keys_known(keys, table)
 }
 
-/// A number that is not negative.
+/// Returns the number, if it is not negative.
 fn natural(number: i64) -> Option<u64>
     ensures { result ≡ natural_of number }
 {
     u64::try_from(number).ok()
 }
 
-/// The number that a value is, from 0 to the greatest.
+/// Returns the number that a value is, from 0 to the greatest; else refuses its kind or its range.
 #[tactic(auto, unfolding(crate::specs::Fields::number_in))]
 fn number_in(at: At, key: Key, greatest: u64, value: &Value) -> Result<u64, NetworkFault>
     ensures number { Gives (λ n. n) result (number_in at key greatest (view value.now)) }
@@ -78,14 +78,14 @@ impl<'a> Fields<'a> {
         }
     }
 
-    /// The value of a key, where it is there.
+    /// Returns the value of a key, if it is there.
     fn find(&self, key: Key) -> Option<&'a Value>
         ensures { option_map (λ v. view v.now) result ≡ get_member (key_text key) (table_view self.now.table.now) }
     {
         self.table.get(key.as_str())
     }
 
-    /// An optional number from 0 to the greatest; where it is missing, this one.
+    /// Reads an optional number from 0 to the greatest; if it is missing, this one.
     #[tactic(auto, unfolding(crate::specs::Fields::optional_number_at))]
     pub(crate) fn optional_number(
         &self,
@@ -103,7 +103,7 @@ impl<'a> Fields<'a> {
         }
     }
 
-    /// An optional truth value, false where it is missing.
+    /// Reads an optional truth value, false if it is missing.
     #[tactic(auto, unfolding(crate::specs::Fields::flag_at))]
     pub(crate) fn flag(&self, key: Key) -> Result<bool, NetworkFault>
         ensures { result ≡ flag_at self.now.at key (table_view self.now.table.now) }
@@ -114,7 +114,7 @@ impl<'a> Fields<'a> {
         }
     }
 
-    /// A required text.
+    /// Reads a required text.
     #[tactic(auto, unfolding(crate::specs::Fields::text_at))]
     pub(crate) fn text(&self, key: Key) -> Result<&'a str, NetworkFault>
         ensures { Gives (λ s. s.now) result (text_at self.now.at key (table_view self.now.table.now)) }
@@ -125,7 +125,7 @@ impl<'a> Fields<'a> {
         value.as_str().ok_or(NetworkFault::Kind(self.at, key))
     }
 
-    /// An optional array of tables.
+    /// Reads an optional array of tables; none if it is missing.
     #[tactic(auto, unfolding(crate::specs::Fields::tables_at))]
     pub(crate) fn tables(&self, alloc: Global, key: Key) -> Result<Vec<&'a Table>, NetworkFault>
         ensures { Gives (λ v. map (λ t. table_view t.now) v.items) result (tables_at self.now.at key (table_view self.now.table.now)) }

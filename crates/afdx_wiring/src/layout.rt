@@ -15,7 +15,7 @@ pub struct Switch {
     pub name: String,
     /// The name of its table's file, as it is in the network file; it is not empty.
     pub path: String,
-    /// The least that it takes for a frame, in nanoseconds, at most 100,000; 0 where that is not known.
+    /// The least that it takes for a frame, in nanoseconds, at most 100,000; 0 if that is not known.
     pub least: u64,
     /// Whether it is down: nothing comes in there, and so nothing leaves.
     pub down: bool,
@@ -74,7 +74,7 @@ impl Model for Layout {
 }
 
 impl Layout {
-    /// Whether the switch at a place is down; false where there is none. O(1).
+    /// Returns whether the switch at a place is down; false if there is none. O(1).
     pub fn is_down(&self, switch: usize) -> bool
         ensures { result ≡ is_down self.now.switches switch }
     {

@@ -17,14 +17,14 @@ use toml::Table;
 /// The greatest latency, in microseconds.
 const MAX_LATENCY_US: u64 = 100;
 
-/// Whether there is a switch of this name.
+/// Returns whether there is a switch of this name.
 fn has_switch(switches: &[Switch], name: &[u8]) -> bool
     ensures { result ≡ has_switch switches.now name.now }
 {
     switches.iter().any(|switch| switch.name.as_bytes() == name)
 }
 
-/// The place of the switch of this name, from 0.
+/// Returns the place of the switch of this name, from 0.
 pub(crate) fn place_of(switches: &[Switch], name: &[u8]) -> Option<usize>
     ensures { result ≡ position (λ s. bytes_eq s.name name.now) switches.now }
 {
@@ -33,7 +33,7 @@ pub(crate) fn place_of(switches: &[Switch], name: &[u8]) -> Option<usize>
         .position(|switch| switch.name.as_bytes() == name)
 }
 
-/// Whether the switch at a place is down.
+/// Returns whether the switch at a place is down; false if there is none.
 pub(crate) fn is_down(switches: &[Switch], place: usize) -> bool
     ensures { result ≡ is_down switches.now place }
 {
@@ -43,7 +43,7 @@ pub(crate) fn is_down(switches: &[Switch], place: usize) -> bool
     }
 }
 
-/// A switch, after the switches before it.
+/// Reads a switch, after the switches before it.
 #[tactic(auto, unfolding(crate::specs::File::switch_at))]
 fn read_switch(
     alloc: Global,
@@ -74,7 +74,7 @@ fn read_switch(
     })
 }
 
-/// The switches, in file order.
+/// Reads the switches, in file order.
 #[tactic(auto, unfolding(crate::specs::File::switches_from))]
 pub(crate) fn read_switches(alloc: Global, tables: &[&Table]) -> Result<Vec<Switch>, NetworkFault>
     ensures { Gives (λ v. v.items) result (switches_from 0 [] (map (λ t. table_view t.now) tables.now)) }

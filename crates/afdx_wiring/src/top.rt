@@ -24,7 +24,7 @@ struct Top<'a> {
     wires: Vec<&'a Tree>,
 }
 
-/// The top.
+/// Reads the top.
 #[tactic(auto, unfolding(crate::specs::File::top_at))]
 fn read_top<'a>(alloc: Global, tree: &'a Tree) -> Result<Top<'a>, NetworkFault>
     ensures { Gives (λ t. record {
@@ -55,7 +55,7 @@ fn read_top<'a>(alloc: Global, tree: &'a Tree) -> Result<Top<'a>, NetworkFault>
     })
 }
 
-/// The layout of a tree.
+/// Reads the layout of a tree.
 #[tactic(auto, unfolding(crate::specs::File::layout_in))]
 fn read_tree(alloc: Global, tree: &Tree) -> Result<Layout, NetworkFault>
     ensures { Gives (λ l. l) result (layout_in (table_view tree.now)) }
@@ -70,7 +70,7 @@ fn read_tree(alloc: Global, tree: &Tree) -> Result<Layout, NetworkFault>
     })
 }
 
-/// The tree that a text is.
+/// Reads the tree that a text is.
 #[tactic(auto, using(crate::proofs::TextLemmas::no_tree, crate::proofs::TextLemmas::tree))]
 fn read_text(alloc: Global, bytes: &[u8]) -> Result<Tree, NetworkFault>
     ensures { Gives (λ t. table_view t) result (tree_of bytes.now) }
@@ -87,18 +87,18 @@ fn read_text(alloc: Global, bytes: &[u8]) -> Result<Tree, NetworkFault>
 
 /// Reads a network file, a text of TOML 1.1.
 ///
-/// The first refusal in this order is given, and `Memory` where memory ran out:
+/// The first refusal in this order is given, and `Memory` if memory ran out:
 ///
 /// 1. `Toml`: bytes that are not UTF-8, or a text that the library `toml` refuses for another cause than memory.
-/// 2. At the top: `UnknownKey`; of `version` `Kind`, `Range`; of `one_line` `Kind`; of `switch`, then of `wire`, `Kind`; of `switch` `Range`,
-///    where there are more than 64.
-/// 3. At each switch in array order: `UnknownKey`; of `name` `MissingKey`, `Kind`, `Range`; of `table` the same;
-///    of `least_latency_us` `Kind`, `Range`; of `down` `Kind`; `TwiceSwitch`.
-/// 4. At each wire in array order: `UnknownKey`; of `from`, then of `to`, `MissingKey`, `Kind`, `Range`; of `delay_ns`
-///    `Kind`, `Range`; of `down` `Kind`; `NoSuchSwitch`; `TwiceFrom`, `TwiceTo`, `OwnPort`.
+/// 2. At the top: `UnknownKey`; of `version` `Kind`, `Range`; of `one_line` `Kind`; of `switch`, then of `wire`, `Kind`; of
+///    `switch` `Range`, if there are more than 64.
+/// 3. At each switch in array order: `UnknownKey`; of `name` `MissingKey`, `Kind`, `Range`; of `table` the same; of
+///    `least_latency_us` `Kind`, `Range`; of `down` `Kind`; `TwiceSwitch`.
+/// 4. At each wire in array order: `UnknownKey`; of `from`, then of `to`, `MissingKey`, `Kind`, `Range`; of `delay_ns` `Kind`,
+///    `Range`; of `down` `Kind`; `NoSuchSwitch`; `TwiceFrom`, `TwiceTo`, `OwnPort`.
 ///
-/// O(n + w (s + w)) time in the length n of the text and the numbers s of switches, at most 64, and w of wires that are
-/// read, at most 1537; O(n) memory.
+/// O(n + w (s + w)) time in the length n of the text and the numbers s of switches, at most 64, and w of wires that are read,
+/// at most 1537; O(n) memory.
 #[tactic(auto, unfolding(crate::specs::File::layout_of))]
 pub fn read(alloc: Global, bytes: &[u8]) -> Result<Layout, NetworkFault>
     ensures { Gives (λ l. l) result (layout_of bytes.now) }

@@ -16,7 +16,7 @@ use toml::Table;
 /// The greatest delay of a wire, in nanoseconds.
 const MAX_DELAY: u64 = 1_000_000;
 
-/// The name of a switch and the number of a port, which the value of a key is.
+/// Reads the name of a switch and the number of a port, which the value of a key is.
 #[tactic(auto, unfolding(crate::specs::File::end_at))]
 fn end_at<'a>(fields: &Fields<'a>, key: Key) -> Result<(&'a [u8], u8), NetworkFault>
     ensures { Gives (λ e. (e.0.now, e.1)) result (end_at fields.now.at key (table_view fields.now.table.now)) }
@@ -25,7 +25,7 @@ fn end_at<'a>(fields: &Fields<'a>, key: Key) -> Result<(&'a [u8], u8), NetworkFa
     end_in(text.as_bytes()).ok_or(NetworkFault::Range(fields.at, key))
 }
 
-/// The end at the switch of this name.
+/// Finds the end at the switch of this name.
 #[tactic(auto, unfolding(crate::specs::File::found))]
 fn found(at: At, switches: &[Switch], name: &[u8], port: u8) -> Result<End, NetworkFault>
     ensures { Gives (λ e. e) result (found at switches.now (name.now, port)) }
@@ -36,28 +36,28 @@ fn found(at: At, switches: &[Switch], name: &[u8], port: u8) -> Result<End, Netw
     }
 }
 
-/// Whether two ends are one port. O(1).
+/// Returns whether two ends are one port. O(1).
 pub fn is_end(one: End, other: End) -> bool
     ensures { result ≡ is_end one other }
 {
     one.switch == other.switch && one.port == other.port
 }
 
-/// Whether one of these wires comes from this port.
+/// Returns whether one of these wires comes from this port.
 fn comes_from(wires: &[Wire], end: End) -> bool
     ensures { result ≡ comes_from wires.now end }
 {
     wires.iter().any(|wire| is_end(wire.from, end))
 }
 
-/// Whether one of these wires goes to this port.
+/// Returns whether one of these wires goes to this port.
 fn goes_to(wires: &[Wire], end: End) -> bool
     ensures { result ≡ goes_to wires.now end }
 {
     wires.iter().any(|wire| is_end(wire.to, end))
 }
 
-/// A wire beside the wires before it.
+/// Returns a wire, if it fits the wires before it; else refuses it.
 #[tactic(auto, unfolding(crate::specs::File::fitting))]
 fn fit(at: At, before: &[Wire], wire: Wire) -> Result<Wire, NetworkFault>
     ensures { Gives (λ w. w) result (fitting at before.now wire) }
@@ -74,7 +74,7 @@ fn fit(at: At, before: &[Wire], wire: Wire) -> Result<Wire, NetworkFault>
     Ok(wire)
 }
 
-/// A wire, after the switches and the wires before it.
+/// Reads a wire, after the switches and the wires before it.
 #[tactic(auto, unfolding(crate::specs::File::wire_at))]
 fn read_wire(
     fields: &Fields<'_>,
@@ -100,7 +100,7 @@ fn read_wire(
     fit(fields.at, before, wire)
 }
 
-/// The wires, in file order.
+/// Reads the wires, in file order.
 #[tactic(auto, unfolding(crate::specs::File::wires_from))]
 pub(crate) fn read_wires(
     alloc: Global,

@@ -1,7 +1,7 @@
 //! Reads a capture on standard input, and writes its records as a capture on standard output.
 //!
-//! Status 0 where the capture was read and written; 3 for a capture with a fault, which one line on standard
-//! error names, and nothing is written; 5 for input, output or memory.
+//! Status 0 if the capture was read and written; 3 for a capture with a fault: one line on standard error names it, and nothing
+//! is written; 5 for input, output or memory.
 #![tactic(auto)]
 
 ghost use Rattle.std.specs.Prelude.{◌≡◌, ◌≢◌, List, IfOk, IfErr, IfSome, OnOk};
@@ -21,7 +21,7 @@ use std::process::ExitCode;
 /// The status of a capture that is refused.
 const REFUSED: u8 = 3;
 
-/// The status where input, output or memory failed.
+/// The status if input, output or memory failed.
 const FAILED: u8 = 5;
 
 /// Why nothing, or not all, was written.
@@ -31,7 +31,7 @@ enum Failure {
     Device,
 }
 
-/// The text of the records of a capture.
+/// Returns the text of the records of a capture.
 ///
 /// # Errors
 ///
