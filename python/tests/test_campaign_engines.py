@@ -3,8 +3,10 @@ import subprocess
 import sys
 import threading
 import time
+from concurrent.futures import CancelledError
 from dataclasses import asdict, replace
 from pathlib import Path
+from unittest.mock import Mock
 
 import cloudpickle
 import pytest
@@ -44,6 +46,20 @@ def test_jobs_have_all_tasks_once_and_no_more_bytes_than_a_job_may(tmp_path: Pat
     assert [number for job in jobs for number in job] == list(range(len(tasks)))
     assert all(len(job) == 1 or sum(sizes[number] for number in job) <= slurm.JOB_BYTES for job in jobs)
     assert max(map(len, jobs)) == slurm.JOB_TASKS
+
+
+@pytest.mark.parametrize("future", [
+    Mock(status="finished", result=Mock(side_effect=CancelledError)),
+    Mock(status="finished", result=Mock(side_effect=OSError)),
+    Mock(status="error", exception=Mock(return_value=None)),
+    Mock(status="cancelled"),
+])
+def test_a_try_that_went_with_the_scheduler_is_none(tmp_path: Path, future: Mock) -> None:
+    """It may go after the look at its status, too."""
+    window = dask.Window(Mock(), [task(tmp_path)], [], Options(tmp_path, "tcp://127.0.0.1:1", 1, 1.0, lambda *_: None))
+    window.tries[0] = 1
+    window.settle(0, future)
+    assert (window.queue, window.tries[0]) == ([0], 0)
 
 
 @pytest.mark.parametrize("need, most", [(33, 3), (34, 2), (50, 2), (51, 1), (1000, 1)])

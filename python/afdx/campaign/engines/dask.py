@@ -10,6 +10,7 @@ import sys
 import time
 from collections import Counter
 from collections.abc import Sequence
+from concurrent.futures import CancelledError
 from dataclasses import asdict
 from typing import Any
 
@@ -129,10 +130,13 @@ class Window:
         future.release()
 
     def finished(self, number: int, future: Future) -> None:
-        """Notes what came back of a try, if its outcome did not go with the scheduler or the worker that had it."""
+        """Notes what came back of a try, if its outcome did not go with the scheduler or the worker that had it.
+
+        A scheduler that goes takes it along also between the look at the future and the question for its result.
+        """
         try:
             outcome = Outcome(*future.result())
-        except OSError:
+        except (OSError, CancelledError):
             self.ask_again(number)
             return
         if outcome.answered:
@@ -145,9 +149,13 @@ class Window:
         self.tries[number] -= 1
         self.queue.append(number)
 
-    def lost(self, number: int, error: BaseException) -> None:
-        """Settles a try that ended with its worker, or with a file that could not be written."""
+    def lost(self, number: int, error: BaseException | None) -> None:
+        """Settles a try that ended with its worker, with a file that could not be written or, without an error, with
+        the scheduler."""
         task = self.tasks[number]
+        if error is None:
+            self.ask_again(number)
+            return
         if isinstance(error, OSError):
             raise error
         if self.tries[number] < task.tries:
