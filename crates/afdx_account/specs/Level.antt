@@ -20,7 +20,7 @@ pub record IsLevelAfter (t : Terms) (since level : ℕ) (frames : List Frame) : 
   pub level_is : level ≡ headroom t (passed_frames t frames) since
 
 -- an offer at an instant, of a frame of this size, that gives this answer and leaves this level: whatever frames
--- were offered before, the frame is passed exactly where it conforms to those that were passed
+-- were offered before, the frame is passed exactly if it conforms to those that were passed
 abbrev pub PassesWhatConforms : Terms → (since level at size : ℕ) → Bool → ℕ → Type 0
 PassesWhatConforms t since level at size passes left = (frames : List Frame) → IsLevelAfter t since level frames
     → (passes ≡ conforms t (passed_frames t frames) (record { stamp = at; size = size }))

@@ -65,7 +65,7 @@ paid t (f ∷ fs) = t.price f.size + paid t fs
 abbrev pub allowance : Terms → ℕ → ℕ
 allowance t window = t.cap + t.rate * window
 
--- a frame conforms to the frames passed before it where each window that ends with it, and begins
+-- a frame conforms to the frames passed before it if each window that ends with it, and begins
 -- with any of them or with itself, keeps to its allowance
 abbrev pub Conforms : Terms → List Frame → Frame → Type 0
 Conforms t passed f = (before : List Frame) (first : Frame) (after : List Frame)

@@ -5,7 +5,7 @@ use Rattle.std.specs.Str.{bytes_eq}
 use Rattle.clap.specs.Words.{Text}
 use Rattle.afdx_arguments.specs.declared.fail_on.FailOn.{FailOn}
 
--- the words of a list, which commas part
+-- the words of a list, between its commas
 abbrev pub words_of : Text → List Text
 words_of list = slice_split (λ b. b == 44) list
 
@@ -21,7 +21,7 @@ pub record IsListOf (list : Text) (chosen : FailOn) : Type 0 where
   pub lost : count_by (λ w. bytes_eq w (codes "lost")) (words_of list) ≡ times chosen.lost
   pub only : length (words_of list) ≡ times chosen.policed + times chosen.filtered + times chosen.lost
 
--- nothing is chosen where there is no list
+-- nothing is chosen if there is no list
 abbrev pub Chooses : Option Text → FailOn → Type 0
 Chooses None chosen = chosen ≡ record { policed = false; filtered = false; lost = false }
 Chooses (Some list) chosen = IsListOf list chosen

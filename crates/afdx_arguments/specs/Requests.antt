@@ -90,7 +90,7 @@ pub record HasOptions (rows : List Row) (options : RunOptions) : Type 0 where
 abbrev pub AreLinks : List Text → List ℕ → Type 0
 AreLinks = AllZip (λ text link. ParsesUnsigned {E = Unit {0}} 16 10 text (Ok link))
 
--- the entries say what is asked of a trace beside its files: the links in the order of their options, none where there is no such option
+-- the entries say what is asked of a trace beside its files: the links in the order of their options, none if there is no such option
 pub record HasTraceOptions (rows : List Row) (options : TraceOptions) : Type 0 where
   pub links : AreLinks (unwrap_or (all_of (codes "link") rows) []) options.links.items
   pub relative : options.relative ≡ is_set (codes "relative") rows
@@ -101,7 +101,7 @@ pub record HasTraceOptions (rows : List Row) (options : TraceOptions) : Type 0 w
 abbrev pub HasOptional : Text → List Row → Option ℕ → Type 0
 HasOptional name rows n = MatchOption n ((m : ℕ) → HasNumber name rows m → ⊥) (HasNumber name rows)
 
--- the number of such an option, of which this is the greatest; 0 where it is left out
+-- the number of such an option, of which this is the greatest; 0 if it is left out
 pub record HasUpTo (name : Text) (most : ℕ) (rows : List Row) (n : ℕ) : Type 0 where
   pub entry : Option ℕ
   pub has_entry : HasOptional name rows entry
@@ -113,18 +113,18 @@ pub record HasInstant (name : Text) (rows : List Row) (instant : Option ℕ) : T
   pub entry : HasOptional name rows instant
   pub limit : IfSome instant IsInstant
 
--- the ends of last bits where nothing is said of stamps
+-- the ends of last bits if nothing is said of stamps
 abbrev pub ChoosesStamps : Option Text → Stamps → Type 0
 ChoosesStamps None stamps = stamps ≡ End
 ChoosesStamps (Some text) End = text ≡ codes "end"
 ChoosesStamps (Some text) Free = text ≡ codes "free"
 
--- no offset where nothing is said of them
+-- no offset if nothing is said of them
 abbrev pub ChoosesOffsets : Option Text → Offsets → Type 0
 ChoosesOffsets None offsets = offsets ≡ no_offsets
 ChoosesOffsets (Some text) offsets = AreOffsetsOf text offsets
 
--- all ports where none is named
+-- all ports if none is named
 abbrev pub ChoosesOutputs : Option Text → Outputs → Type 0
 ChoosesOutputs None outputs = outputs ≡ all_outputs
 ChoosesOutputs (Some text) outputs = AreOutputsOf text outputs

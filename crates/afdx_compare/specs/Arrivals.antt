@@ -39,7 +39,7 @@ abbrev pub greatest_of : List Arrival → Option ℕ
 greatest_of [] = None
 greatest_of (a ∷ arrivals) = Some (greater a.head.frame.stamp (greatest_of arrivals))
 
--- recordings begin at the least stamp of all and end at the greatest, where nothing else is said
+-- recordings begin at the least stamp of all and end at the greatest, if nothing else is said
 abbrev pub begin_of : Recordings → List Arrival → ℕ
 begin_of r arrivals = option_map_or (λ at. at) (option_or r.from (least_of arrivals)) 0
 

@@ -29,7 +29,7 @@ use Rattle.afdx_recordings.specs.declared.outputs.Outputs.{Outputs}
 use Rattle.afdx_recordings.specs.Recordings.{gap_of, is_recorded}
 use Rattle.afdx_compare.specs.declared.sources.Source.{Source}
 
--- what was recorded at an output port: the records that count, those of no link that leads there, and these themselves where they are kept
+-- what was recorded at an output port: how many records count, how many of these are of no link that leads there, and these themselves if they are kept
 pub record Port : Type 0 where
   pub seen : ℕ
   pub foreign : ℕ
@@ -54,7 +54,7 @@ pub record Comparison : Type 0 where
 
 -- ---- at first
 
--- what is known of the recorders and of the switch, where the recordings begin at an instant
+-- what is known of the recorders and of the switch, if the recordings begin with it at rest, or else at an instant
 abbrev pub start_of : Bool → ℕ → Start
 start_of rest from = if rest then Rest else Cut from
 
@@ -72,7 +72,7 @@ watch_of t r from = record {
 abbrev pub bound_in : ℕ → Content → PortRow → Priority → ℕ
 bound_in scatter t p priority = min (option_map_or (λ b. b) (bound_of (scattered scatter (load_of t.latency p.speed p.id t.links)) priority) 0) 18446744073709551615
 
--- a port of a link of this priority, where nothing has left
+-- a port of a link of this priority, at which nothing has left
 abbrev pub output_first : Watch → Content → Bool → Priority → ℕ → Option PortRow → List Output
 output_first w t keeps priority port None = []
 output_first w t keeps priority port (Some row) = output_at port (limits_of w (bound_in w.scatter t row priority) row.speed) keeps ∷ []
@@ -106,7 +106,7 @@ pub record IsBegun (t : Content) (r : Recordings) (from : ℕ) (keeping : Bool) 
 
 -- ---- what came
 
--- the place of the link whose own a frame is that came at the port of a number
+-- the place of the link whose own frame this is, which came at the port of a number; none if it is no link's
 abbrev pub place_of_own : Content → ℕ → Record → Option ℕ
 place_of_own t port r = place_named t (verdict_of t port r)
 
@@ -119,7 +119,7 @@ with_came port n c = if has_frame c.watch n.frame.stamp then own_came (place_of_
 
 -- ---- what left
 
--- the place of the link that a record names, which has the six bytes of an address
+-- the place of the link that a record names, if it has the six bytes of an address
 abbrev pub place_of_named : Content → List ℕ → Option ℕ
 place_of_named t bytes = if nat_le 6 (length bytes) then link_place t (link_of bytes) else None
 
@@ -132,7 +132,7 @@ abbrev pub output_among : ℕ → ℕ → Option Watched → Option (ℕ × ℕ)
 output_among port link None = None
 output_among port link (Some f) = led_to link (position (λ o. o.port == port) f.outputs)
 
--- the place of the link that a record at the port of a number is of, and the port's place there; none for no link that leads to the port
+-- the place of the link that a record at the port of a number is of, and the port's place there; none if it is of no link that leads to the port
 abbrev pub link_among : ℕ → List Watched → Option ℕ → Option (ℕ × ℕ)
 link_among port links None = None
 link_among port links (Some link) = output_among port link (slice_get links link)

@@ -1,4 +1,4 @@
--- The file of differences, as comma-separated values with a line feed behind each row (profile).
+-- The file of differences, as comma-separated values with a line feed after each row (profile).
 use Rattle.std.specs.Prelude.{ℕ, ◌+◌, ℤ, pos, negsuc, codes, decimal, List, [], ◌∷◌, ◌++◌, flat_map, Option, Some, None, slice_get}
 use Rattle.std.specs.Option.{option_map}
 use Rattle.afdx_table.specs.declared.rows.PortRow.{PortRow}

@@ -1,4 +1,4 @@
--- What is found out of captures that readers give, and why nothing is (profile).
+-- What is found out from captures that readers give, and why nothing is (profile).
 use Rattle.std.specs.Prelude.{◌≡◌, ℕ, ◌<◌, Bool, true, false, List, length, Option, Some, slice_get}
 use Rattle.afdx_pcap.specs.declared.fault.PcapFault.{PcapFault}
 use Rattle.afdx_table.specs.Content.{Content}
@@ -14,7 +14,7 @@ use Rattle.afdx_compare.specs.Arrivals.{with_arrivals, begin_of, end_of}
 
 -- ---- what is found out
 
--- what is known of a table's links and ports once all of these captures were read
+-- what is known of a table's links and ports after all of these captures were read, and from when to when they are
 pub record IsFound {R : Type 0} (remaining : R → Option (List ℕ)) (t : Content) (r : Recordings) (keeping : Bool) (readers : List R) (from until : ℕ) (found : Comparison) : Type 0 where
   pub arrivals : List Arrival
   pub first : Comparison

@@ -15,7 +15,7 @@ use Rattle.afdx_recordings.specs.Recordings.{is_recorded}
 use Rattle.afdx_compare.specs.Comparison.{Port, Comparison, conform}
 use Rattle.afdx_compare.specs.ReportRows.{output_row, port_row, span_row, verdict_word, verdict_row, report_heading}
 
--- how many frames and records of a link at a port are what, and the delays of its pairs beside the port's bound, in nanoseconds
+-- how many frames and records of a link at a port are of which kind, and the delays of its pairs beside the port's bound, in nanoseconds
 abbrev pub output_line : ℕ → ℕ → Output → List ℕ
 output_line link unsure o =
     let t = o.found.tally in
@@ -42,7 +42,7 @@ abbrev pub links_from : Form → List Link → ℕ → List Watched → List ℕ
 links_from form ls place [] = []
 links_from form ls place (f ∷ fs) = row_text form (slice_get ls place) f ++ links_from form ls (place + 1) fs
 
--- how many records count of an output port that was recorded, and how many of these are of no link that leads there
+-- how many records count at an output port that was recorded, and how many of these are of no link that leads there
 abbrev pub port_line : PortRow → Port → List ℕ
 port_line row p = line ((codes "out ", Some row.id) ∷ (codes " seen ", Some p.seen) ∷ (codes " foreign ", Some p.foreign) ∷ [])
 

@@ -21,12 +21,12 @@ report_heading = heading report_columns
 abbrev pub span_row : ℕ → ℕ → List ℕ
 span_row from until = row report_columns ((codes "kind", codes "span") ∷ (codes "from", decimal from) ∷ (codes "until", decimal until) ∷ [])
 
--- the greatest delay as 64 bits tell it, which hold each delay between two stamps
+-- the greatest delay as a number of 64 bits, which can hold each delay between two stamps
 abbrev pub greatest_of : Tally → Option ℕ
 greatest_of t = option_map (λ r. min r.greatest 18446744073709551615) t.delays
 
--- how many frames and records of a link at a port are what, the delays of its pairs beside the port's bound, in nanoseconds, and what they
--- left of it
+-- how many frames and records of a link at a port are of which kind, the delays of its pairs beside the port's bound, in nanoseconds, and what
+-- they left of it
 abbrev pub tally_row : (link port unsure bound : ℕ) → Tally → List ℕ
 tally_row link port unsure bound t =
     row report_columns ((codes "kind", codes "link") ∷ (codes "link", decimal link) ∷ (codes "port", decimal port) ∷ (codes "passed", decimal (passed_in t))
@@ -38,7 +38,7 @@ tally_row link port unsure bound t =
 abbrev pub output_row : ℕ → ℕ → Output → List ℕ
 output_row link unsure o = tally_row link o.port unsure o.limits.bound o.found.tally
 
--- how many records count of an output port that was recorded, and how many of these are of no link that leads there
+-- how many records count at an output port that was recorded, and how many of these are of no link that leads there
 abbrev pub port_row : PortRow → Port → List ℕ
 port_row p seen = row report_columns ((codes "kind", codes "out") ∷ (codes "port", decimal p.id) ∷ (codes "seen", decimal seen.seen)
     ∷ (codes "foreign", decimal seen.foreign) ∷ [])

@@ -58,7 +58,7 @@ links_rows port ls place (f ∷ fs) = row_rows port (slice_get ls place) f ++ li
 
 -- ---- their order
 
--- the instant by which a row is in order: that of the record that left, or of the frame where none left
+-- the instant by which a row is in order: that of the record that left, or of the frame if none left
 abbrev pub instant_of : Row → ℕ
 instant_of r = option_map_or (λ mark. mark.stamp) (option_or r.left r.came) 0
 

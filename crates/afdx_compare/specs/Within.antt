@@ -1,4 +1,4 @@
--- What recordings of a switch have to keep to: the headline's relation, where recordings begin and end somewhere, stamps have noise and
+-- What recordings of a switch have to keep to: the headline's relation, if recordings begin and end somewhere, stamps have noise and
 -- latencies vary (profile). It never says that our switch made the records, so it can be asked of any switch.
 use Rattle.std.specs.Prelude.{◌≡◌, ℕ, ◌+◌, ◌*◌, true, false, Bool, List, [], map, filter, Option, Some, None, All, Contains}
 use Rattle.std.specs.Option.{option_map}
@@ -38,7 +38,7 @@ own_within w t l read = filter (λ r. has_frame w r.stamp) (own_records t l read
 abbrev pub recorded : Watch → List Record → List Record
 recorded w out = filter (λ r. has_record w r.stamp) out
 
--- the instant up to which at a port the line was free again after a record, where not all had left
+-- the instant up to which at a port the line was free again after a record, if not all had left
 abbrev pub last_at : Watch → PortRow → Option ℕ
 last_at w p = option_map (λ last. last + w.gap * tick_of p.speed) (last_record w)
 
@@ -46,15 +46,15 @@ last_at w p = option_map (λ last. last + w.gap * tick_of p.speed) (last_record 
 abbrev pub bound_at : Watch → Content → PortRow → Link → Option ℕ
 bound_at w t p l = bound_of (scattered w.scatter (load_of t.latency p.speed p.id t.links)) l.priority
 
--- what was recorded at a port of a link that leads there, where its account did this with its frames that count (true: passed)
+-- what was recorded at a port of a link that leads there, if its account did this with its frames that count (true: passed)
 abbrev pub IsKeptAt : Watch → Content → List Capture → PortRow → List Record → Link → List Bool → Type 0
 IsKeptAt w t read p out l fates =
     let own = own_within w t l read in
     (bound : ℕ) × (bound_at w t p l ≡ Some bound) × IsKeptFor (limits_of w bound p.speed) (last_at w p) own (chosen fates own) (records_for l (recorded w out))
 
--- what was recorded at these ports of the table, where these captures came in
+-- what was recorded at these ports of the table, if these captures came in
 pub record IsKeptWithin (w : Watch) (t : Content) (ports : List PortRow) (read : List Capture) (out : PortRow → List Record) : Type 0 where
-  -- what each link's account did with its frames, the same at all ports: one level where its frames begin to count explains it
+  -- what each link's account did with its frames, the same at all ports: one level at the instant from which on they count explains it
   pub fates : Link → List Bool
   pub are_allowed : (l : Link) → Contains t.links l → Allowed (terms_of l) w.tolerance (levels_of w l) (map frame_of (own_within w t l read)) (fates l)
   -- for a link that leads to a port what left is what its account passed, one by one, in order and within the bounds

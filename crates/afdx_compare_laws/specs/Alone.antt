@@ -1,4 +1,4 @@
--- What is found out of a link rests on what came at its own port and on what left at those that it leads to (profile).
+-- What is found out about a link depends only on what came at its own port and on what left at those that it leads to (profile).
 use Rattle.std.specs.Prelude.{◌≡◌, ℕ, ◌==◌, Bool, true, false, List, Some, slice_get, if◌then◌else◌}
 use Rattle.std.specs.Option.{option_map_or}
 use Rattle.afdx_pcap.specs.Record.{Record}
@@ -22,7 +22,7 @@ AreAlikeFor l s captures others = (place : ℕ) → concerns l s place ≡ true 
 abbrev pub found_of : Content → Recordings → ℕ → Comparison → List Arrival → Comparison
 found_of t r until first arrivals = with_end (with_arrivals (sources_of t r).captures arrivals (with_until until first))
 
--- the same is found out of a link, and with it its lines and its rows are the same, where two recordings are the same for it
+-- if two recordings are the same for a link, the same is found out about it; so its lines and its rows are the same
 abbrev pub RowsAreAlone : Type 0
 RowsAreAlone = (t : Content) (r : Recordings) (from until : ℕ) (keeping : Bool) (first : Comparison) (captures others : List (List Record)) (arrivals arrivals' : List Arrival)
     → IsBegun t r from keeping first → IsMergeOf (sources_of t r).clocks captures arrivals → IsMergeOf (sources_of t r).clocks others arrivals'

@@ -27,8 +27,8 @@ pub record IsExact (w : Watch) : Type 0 where
   pub rest : w.start ≡ Rest
   pub exact : w.tolerance ≡ 0
 
--- of a link of these own frames, once all arrived: at its ports by the stamps no frame has left when it comes; and frames of the same bytes came a
--- bound apart, or all is exact
+-- of a link with these own frames, after all arrived: each frame leaves each port after it came, whatever the stamps are off by. And frames of the
+-- same bytes came at least the port's bound and the tolerance apart, or all is exact
 pub record IsClear (w : Watch) (own : List Record) (f : Watched) : Type 0 where
   pub later : AllByRecursion (λ o. AllByRecursion (LeavesLater o.limits) own) f.outputs
   pub apart : AllByRecursion (λ o. AllDiffer (most_of o.limits) own) f.outputs ⊎ IsExact w
@@ -41,7 +41,7 @@ AreClear w t captures all = (place : ℕ) (l : Link) (f : Watched) → slice_get
 abbrev pub HaveAddresses : Watch → List PortRow → (PortRow → List Record) → Type 0
 HaveAddresses w ports out = (p : PortRow) → Contains ports p → AllByRecursion (λ x. 6 ≤ length x.bytes) (recorded w (out p))
 
--- of recordings that keep to what is proved of ours no record is foreign
+-- if recordings keep to what is proved of our switch, and each record that counts has an address, no record is foreign
 abbrev pub KeptIsNotForeign : Type 0
 KeptIsNotForeign = (t : Content) (r : Recordings) (from until : ℕ) (keeping : Bool) (captures : List (List Record)) (arrivals : List Arrival) (first : Comparison)
     → IsWellFormed t → IsBegun t r from keeping first → IsMergeOf (sources_of t r).clocks captures arrivals
@@ -49,7 +49,8 @@ KeptIsNotForeign = (t : Content) (r : Recordings) (from until : ℕ) (keeping : 
     → IsKeptWithin (watch_within t r from until) t (recorded_ports t r) (came_in t.ports captures) (left_out t r captures)
     → list_all (λ p. p.foreign == 0) (with_arrivals (sources_of t r).captures arrivals (with_until until first)).ports ≡ true
 
--- where no record is foreign, what recordings keep to is said to conform
+-- over a table that is accepted for these latencies: if recordings keep to what is proved of our switch, no record is foreign, and each link is
+-- clear, they are said to conform
 abbrev pub KeptIsConforms : Type 0
 KeptIsConforms = (t : Content) (r : Recordings) (from until : ℕ) (keeping : Bool) (captures : List (List Record)) (arrivals : List Arrival) (first : Comparison)
     → let all = with_arrivals (sources_of t r).captures arrivals (with_until until first) in

@@ -1,4 +1,4 @@
--- A link whose records are what left of its frames has nothing that speaks against the switch, whatever order it was told of them in (profile).
+-- If a link's records are what left of its frames, and it is told of both in the order of their instants, nothing speaks against the switch (profile).
 use Rattle.std.specs.Prelude.{◌≡◌, ℕ, ◌+◌, ◌≤◌, Bool, true, List, [], ◌∷◌, map, Option, Some, None}
 use Rattle.std.specs.List.{AllByRecursion}
 use Rattle.afdx_account.specs.declared.account.Account.{Account}
@@ -9,23 +9,23 @@ use Rattle.afdx_following.specs.Watched.{at_first, levels_at_first, with_ends, c
 use Rattle.afdx_following.specs.Followed.{Notice, Arrived, Departed, with_notices, AreNext, own_in, left_in, judged}
 use Rattle.afdx_compare_laws.specs.Fates.{Recorded, LeaveLater, CanBeTold, IsKeptBy}
 
--- what left for a link at these ports, of which the first is at a place, where records were recorded up to an instant
+-- what left for a link at these ports, the first of which is at a place; records were recorded up to an instant, or all had left
 abbrev pub recorded_from : Option ℕ → List Notice → ℕ → List Output → List Recorded
 recorded_from last notices place [] = []
 recorded_from last notices place (o ∷ outputs) =
     record { limits = o.limits; last = last_at o.limits last; out = left_in place notices } ∷ recorded_from last notices (place + 1) outputs
 
--- stamps at a port are off by the tolerance
+-- stamps at a port may be off by the tolerance
 abbrev pub IsOffBy : ℕ → Output → Type 0
 IsOffBy tolerance o = o.limits.tolerance ≡ tolerance
 
--- where recordings end at an instant no record is later, and no frame by more than the tolerance
+-- if recordings end at an instant, no record is later than it, and no frame is later by more than the tolerance
 abbrev pub IsByLast : ℕ → Option ℕ → Notice → Type 0
 IsByLast tolerance None x = Unit {0}
 IsByLast tolerance (Some last) (Arrived n) = n.frame.stamp ≤ last + tolerance
 IsByLast tolerance (Some last) (Departed place n) = n.frame.stamp ≤ last
 
--- where some fates explain all records, nothing speaks against the switch
+-- if fates of its frames explain all records of a link, nothing speaks against the switch
 abbrev pub KeptLinkConforms : Type 0
 KeptLinkConforms = (account : Account) (tolerance : ℕ) (since : Option ℕ) (outputs : List Output) (notices : List Notice) (last : Option ℕ) (fates : List Bool)
     → let first = at_first account tolerance since outputs in

@@ -1,4 +1,4 @@
--- Where a switch was at rest and stamps are exact, a row of a link rests on what came at the link's own port and on what left at the row's port (profile).
+-- If a switch was at rest and stamps are exact, a row of a link depends only on what came at the link's port and on what left at the row's (profile).
 use Rattle.std.specs.Prelude.{◌≡◌, ℕ, ◌==◌, Bool, true, false, List, [], flat_map, Some, slice_get, if◌then◌else◌}
 use Rattle.std.specs.Option.{option_map, option_map_or}
 use Rattle.afdx_csv.specs.declared.form.Form.{Form}
@@ -27,7 +27,8 @@ AreAlikeAt l port s captures others = (place : ℕ) → concerns_at l port s pla
 abbrev pub text_at : Form → ℕ → ℕ → Watched → List ℕ
 text_at form port link f = flat_map (λ o. if o.port == port then output_text form link f.unsure o else []) f.outputs
 
--- the same text and a row for the same differences are of a link at a port, where two recordings are the same for it there
+-- if a switch was at rest, stamps are exact, and two recordings are the same for a link at a port, then its text at the port is the same, and so are
+-- its rows
 abbrev pub EachRowIsAlone : Type 0
 EachRowIsAlone = (t : Content) (r : Recordings) (from until : ℕ) (keeping : Bool) (first : Comparison) (captures others : List (List Record)) (arrivals arrivals' : List Arrival)
     → IsWellFormed t → r.rest ≡ true → r.tolerance ≡ 0 → IsBegun t r from keeping first

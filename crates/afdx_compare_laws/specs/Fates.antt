@@ -1,4 +1,4 @@
--- Which fates are told of a link's frames, of all that was recorded at its ports (profile).
+-- Which fates are told of a link's frames, by all that was recorded at its ports (profile).
 use Rattle.std.specs.Prelude.{◌≡◌, ◌⊎◌, ℕ, ◌+◌, ◌≤◌, Bool, List, [], ◌∷◌, map, Option}
 use Rattle.std.specs.List.{AllByRecursion, list_any}
 use Rattle.afdx_pcap.specs.Record.{Record}
@@ -24,7 +24,7 @@ is_seen_at f p = list_any (λ r. in_bound p.limits f r) p.out
 abbrev pub is_seen : List Recorded → Record → Bool
 is_seen ports f = list_any (λ p. is_seen_at f p) ports
 
--- the fates that are told: an unsure frame was passed where it is seen
+-- the fates that are told: an unsure frame was passed exactly if it is seen
 abbrev pub fates_seen : Terms → ℕ → (Record → Bool) → Levels → List Record → List Bool
 fates_seen t tolerance seen l [] = []
 fates_seen t tolerance seen l (r ∷ rs) =
@@ -32,7 +32,7 @@ fates_seen t tolerance seen l (r ∷ rs) =
     let passes = fate_told (outlook_of t tolerance (judged r).size now) (seen r) in
     passes ∷ fates_seen t tolerance seen (after t tolerance (judged r).size passes now) rs
 
--- frames of the same bytes came so many ns after each other
+-- frames of the same bytes came at least so many ns apart
 abbrev pub AllDiffer : ℕ → List Record → Type 0
 AllDiffer time [] = Unit {0}
 AllDiffer time (f ∷ own) = AllByRecursion (λ g. f.bytes ≡ g.bytes → f.stamp + time ≤ g.stamp) own × AllDiffer time own
@@ -41,7 +41,8 @@ abbrev pub OwnInOrder : List Record → Type 0
 OwnInOrder [] = Unit {0}
 OwnInOrder (f ∷ own) = AllByRecursion (λ g. f.stamp ≤ g.stamp) own × OwnInOrder own
 
--- by the stamps no frame has left a port when it comes; and at the port frames of the same bytes came a bound apart
+-- each frame leaves the port after it came, whatever the stamps are off by; and frames of the same bytes came at least the port's bound and the
+-- tolerance apart
 abbrev pub LeaveLater : List Record → Recorded → Type 0
 LeaveLater own p = AllByRecursion (LeavesLater p.limits) own
 
@@ -62,7 +63,7 @@ CanBeTold t tolerance l own ports = AllByRecursion (AreApart own) ports ⊎ IsKn
 abbrev pub IsKeptBy : List Record → List Bool → Recorded → Type 0
 IsKeptBy own fates p = IsKeptFor p.limits p.last own (chosen fates own) p.out
 
--- where some fates explain all records, those that are told do
+-- if fates of its frames explain all records of a link, those that are told explain them too
 abbrev pub ToldFatesExplain : Type 0
 ToldFatesExplain = (t : Terms) (tolerance : ℕ) (l : Levels) (own : List Record) (fates : List Bool) (ports : List Recorded) → OwnInOrder own
     → AllByRecursion (LeaveLater own) ports → CanBeTold t tolerance l own ports → Allowed t tolerance l (map judged own) fates → AllByRecursion (IsKeptBy own fates) ports

@@ -22,11 +22,11 @@ use Rattle.afdx_compare_laws.specs.Runs.{AreOurs, AreWhole, AreOfSpan}
 abbrev pub files_of : Recordings → List Text → Results → List (List ℕ)
 files_of r texts results = map (λ x. x.1) texts ++ map (λ x. x.1) (filter (λ x. is_recorded r.outputs x.0) results.captures)
 
--- each frame came at least a second before the last one that pcap can hold, so that what leaves can be read again
+-- each frame came at least a second before the last second that pcap can hold begins, so that what leaves can be read again
 abbrev pub HaveComeEarly : List Capture → Type 0
 HaveComeEarly read = AllByRecursion (λ a. a.frame.stamp + second ≤ last_second) (merged read)
 
--- what is read of the files of a run is said to conform, as what it answers is
+-- what is read from the files of a run is said to conform, as what it answers is
 abbrev pub OurFilesConform : Type 0
 OurFilesConform = (t : Content) (texts : List Text) (results : Results) (r : Recordings) (from until : ℕ) (keeping : Bool) (captures : List (List Record)) (arrivals : List Arrival)
     (first : Comparison) → IsWellFormed t → IsAcceptedWith (t.latency - r.least) t → (run : IsOutcome t texts results) → HaveComeEarly run.read → AreOurs t r

@@ -1,4 +1,4 @@
--- Where the records of a port are what left of the passed frames, nothing that is told of it speaks against the switch (profile).
+-- If the records of a port are what left of the passed frames, nothing that is told of it speaks against the switch (profile).
 use Rattle.std.specs.Prelude.{ℕ, ◌+◌, ◌<◌, ◌≤◌, List, [], ◌∷◌, length, Option, Some, None}
 use Rattle.std.specs.List.{AllByRecursion}
 use Rattle.afdx_units.specs.Line.{size_of, cost_of}
@@ -12,19 +12,19 @@ use Rattle.afdx_pairing.specs.Kept.{IsKeptFor, Sight, Came, Left, Until, own_of,
 abbrev pub LeavesLater : Limits → Record → Type 0
 LeavesLater m f = m.tolerance < m.least + cost_of m.speed (size_of (length f.bytes))
 
--- an instant is at most a bound past the end of the records
+-- an instant is at most a bound and the tolerance past the end of the records, if they end
 abbrev pub IsByEnd : Limits → Option ℕ → ℕ → Type 0
 IsByEnd m None at = Unit {0}
 IsByEnd m (Some last) at = at ≤ last + most_of m
 
--- what left, and that nothing leaves any more, are told of instants that are
+-- each record left by then; and each instant that is told, before which nothing leaves any more, is no later
 abbrev pub AreByEnd : Limits → Option ℕ → List Sight → Type 0
 AreByEnd m last [] = Unit {0}
 AreByEnd m last (Came n passes ∷ sights) = AreByEnd m last sights
 AreByEnd m last (Left n ∷ sights) = IsByEnd m last (left_at m n.frame) × AreByEnd m last sights
 AreByEnd m last (Until at ∷ sights) = IsByEnd m last at × AreByEnd m last sights
 
--- where the records are what left of the frames, nothing speaks against the switch
+-- if the records are what left of the frames, nothing speaks against the switch
 abbrev pub KeptIsFine : Type 0
 KeptIsFine = (m : Limits) (last : Option ℕ) (sights : List Sight) → AreInOrder m sights → AreByEnd m last sights → AllByRecursion (LeavesLater m) (own_of sights)
     → IsKeptFor m last (own_of sights) (passed_of sights) (left_of sights) → AllByRecursion IsFine (all_told (at_first m) last sights)

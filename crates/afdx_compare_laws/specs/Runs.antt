@@ -30,15 +30,15 @@ use Rattle.afdx_compare_laws.specs.Fates.{AllDiffer}
 use Rattle.afdx_compare_laws.specs.Less.{varying, off_by}
 use Rattle.afdx_compare_laws.specs.Spans.{cut, IsSpanOf, DifferWithinBounds}
 
--- what a run of an accepted table answers, of it each span keeps to what is proved of ours: for each least latency up to the table's, and whatever its
--- stamps are off by
+-- each span of what a run of an accepted table answers keeps to what is proved of our switch, for each least latency up to the table's and whatever its
+-- stamps are off by, if a link's frames within a bound of each other differ
 abbrev pub OurAnswersAreKept : Type 0
 OurAnswersAreKept = (t : Content) (texts : List Text) (results : Results) (least tolerance : ℕ) (start : Start) (until : Option ℕ) → let w = off_by tolerance (exactly t) in
     IsWellFormed t → IsAccepted t → (run : IsOutcome t texts results) → least ≤ t.latency → IsSpanOf w start until → DifferWithinBounds w t t.ports run.read
     → IsKeptWithin (cut start until (varying least (t.latency - least) w)) t t.ports run.read (output_of t (merged run.read))
 
 -- recordings of our own switch: the latency that it takes for each frame is no less than the least one, stamps are the instants at which its lines were
--- free again, and they are off by less than the least time from when a frame comes until it has left
+-- free again, with no offset, and they are off by less than the least time from when a frame comes until it has left
 pub record AreOurs (t : Content) (r : Recordings) : Type 0 where
   pub least : r.least ≤ t.latency
   pub stamps : r.stamps ≡ Free
@@ -52,7 +52,7 @@ captures_of t r read = map (λ c. c.records) read ++ map (λ p. output_of t (mer
 abbrev pub AreBy : ℕ → List (List Record) → Type 0
 AreBy at captures = AllByRecursion (AllByRecursion (λ x. x.stamp ≤ at)) captures
 
--- each link's own frames of the same bytes came so far apart as one may take to a port, and stamps be off
+-- each link's own frames of the same bytes came at least as far apart as the tolerance and the bound of each port that it leads to
 abbrev pub AreApart : Watch → Content → List Capture → Type 0
 AreApart w t read = (p : PortRow) → Contains t.ports p → (l : Link) → Contains t.links l → leads_to p.id l ≡ true → (bound : ℕ) → bound_at w t p l ≡ Some bound
     → AllDiffer (bound + w.tolerance) (own_records t l read)
@@ -63,13 +63,14 @@ pub record AreWhole (r : Recordings) (until : ℕ) (captures : List (List Record
   pub exact : r.tolerance ≡ 0
   pub by_end : AreBy until captures
 
--- or they are any span, which begins with the tolerance at an instant that pcap can hold, and is longer than it
+-- or they are any span: its beginning and the tolerance come to an instant that pcap can hold, its end is no less than the tolerance, and each link's
+-- own frames of the same bytes came apart
 pub record AreOfSpan (t : Content) (r : Recordings) (read : List Capture) (from until : ℕ) : Type 0 where
   pub in_time : from + r.tolerance ≤ last_instant
   pub long : r.tolerance ≤ until
   pub apart : AreApart (watch_of t r from) t read
 
--- what a run of a table answers that is accepted for these latencies is said to conform, and so is each span of it, where frames of a link within a bound of
+-- what a run answers is said to conform, if its table is accepted for these latencies; and so is each span of it, if frames of a link within a bound of
 -- each other differ
 abbrev pub OurRunsConform : Type 0
 OurRunsConform = (t : Content) (texts : List Text) (results : Results) (r : Recordings) (from until : ℕ) (keeping : Bool) (arrivals : List Arrival) (first : Comparison)

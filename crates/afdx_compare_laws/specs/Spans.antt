@@ -1,4 +1,4 @@
--- Spans of recordings: what is left of them where they are cut (profile).
+-- Spans of recordings: what recordings keep to, each part of them keeps to as well (profile).
 use Rattle.std.specs.Prelude.{◌≡◌, ℕ, ◌+◌, ◌-◌, ◌<◌, ◌≤◌, true, List, map, Option, Some, None, Contains}
 use Rattle.afdx_units.specs.Time.{last_instant}
 use Rattle.afdx_pcap.specs.Record.{Record}
@@ -35,7 +35,7 @@ abbrev pub BeginsInTime : ℕ → Start → Type 0
 BeginsInTime tolerance Rest = Unit {0}
 BeginsInTime tolerance (Cut from) = from + tolerance ≤ last_instant
 
--- and end no later, where they are longer than the tolerance
+-- and end no later; their end is no less than the tolerance
 abbrev pub EndsWithin : ℕ → Option ℕ → Option ℕ → Type 0
 EndsWithin tolerance None None = Unit {0}
 EndsWithin tolerance (Some until) None = ⊥
@@ -50,11 +50,11 @@ pub record IsSpanOf (w : Watch) (start : Start) (until : Option ℕ) : Type 0 wh
 
 -- ---- the limit
 
--- frames of the same bytes came so many ns after each other, or at one instant
+-- frames of the same bytes came at least so many ns apart, or at one instant
 abbrev pub DifferWithin : ℕ → List Record → Type 0
 DifferWithin time own = (f g : Record) → Contains own f → Contains own g → f.bytes ≡ g.bytes → f.stamp < g.stamp → f.stamp + time ≤ g.stamp
 
--- each link's own frames differ within the time that one may take to a port
+-- each link's own frames differ within the tolerance and the bound of each port that it leads to, or came at one instant
 abbrev pub DifferWithinBounds : Watch → Content → List PortRow → List Capture → Type 0
 DifferWithinBounds w t ports read = (p : PortRow) → Contains ports p → (l : Link) → Contains t.links l → leads_to p.id l ≡ true → (bound : ℕ) → bound_at w t p l ≡ Some bound
     → DifferWithin (bound + w.tolerance) (own_within w t l read)
@@ -65,14 +65,14 @@ DifferWithinBounds w t ports read = (p : PortRow) → Contains ports p → (l : 
 abbrev pub LeaveInOrder : List PortRow → (PortRow → List Record) → Type 0
 LeaveInOrder ports out = (p : PortRow) → Contains ports p → InOrder 0 (map frame_of (out p))
 
--- what recordings keep to, each span of them keeps to
+-- what recordings keep to, each span of them keeps to, if a link's frames within a bound of each other differ
 abbrev pub EachSpanIsKept : Type 0
 EachSpanIsKept = (w : Watch) (t : Content) (ports : List PortRow) (read : List Capture) (out : PortRow → List Record) (start : Start) (until : Option ℕ)
     → IsWellFormed t → w.gap ≤ 20 → ComeInOrder t read → LeaveInOrder ports out → IsSpanOf w start until → DifferWithinBounds w t ports read
     → IsKeptWithin w t ports read out → IsKeptWithin (cut start until w) t ports read out
 
--- so whatever is isolated as what a run of an accepted table answers, of it each span keeps to what is proved of ours: for each least latency up to
--- the table's, and whatever its stamps are off by
+-- so each span of whatever is isolated, as what a run of an accepted table answers is, keeps to what is proved of our switch: for each least latency
+-- up to the table's, and whatever its stamps are off by, if a link's frames within a bound of each other differ
 abbrev pub OurSpansAreKept : Type 0
 OurSpansAreKept = (t : Content) (read : List Capture) (out : PortRow → List Record) (least tolerance : ℕ) (start : Start) (until : Option ℕ)
     → let w = off_by tolerance (exactly t) in

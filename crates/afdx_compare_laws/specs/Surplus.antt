@@ -18,7 +18,7 @@ use Rattle.afdx_compare.specs.Inner.Laws.{ComeInOrder}
 abbrev pub with_jitter : ℕ → Link → Link
 with_jitter more l = record l { jitter = l.jitter + more }
 
--- a link's frames that passed, its policing passes with a jitter that is twice the tolerance more
+-- the frames of a link that were passed are all passed by its policing, if its jitter is more by twice the tolerance
 abbrev pub NoSurplusHides : Type 0
 NoSurplusHides = (w : Watch) (t : Content) (ports : List PortRow) (read : List Capture) (out : PortRow → List Record) (kept : IsKeptWithin w t ports read out)
     → IsWellFormed t → ComeInOrder t read → (l : Link) → Contains t.links l

@@ -22,7 +22,7 @@ use Rattle.afdx_core.specs.State.{Run, fresh_run, port_in, sent_in, aged_in, ref
 
 -- ---- runs
 
--- the row of some frame that came in at some port
+-- a row is that of a frame that came in at a port
 abbrev pub IsOfAnArrival : Content → Row → Type 0
 IsOfAnArrival t row = (port : ℕ) × (frame : Record) × (row ≡ row_of t port frame)
 
@@ -84,8 +84,9 @@ NoStepIsFull = (r : Run) (port : ℕ) (frame : Record) → IsRun r → refusal_o
 abbrev pub with_bytes : (ℕ → List ℕ) → Item → Frame × List ℕ
 with_bytes bytes x = (frame_of_item x, bytes x.number)
 
--- two worlds: where two links of two accepted tables have the same terms and the same own frames, with the same bytes, the same frames
--- with the same bytes leave for them in the same order at each of their ports, whatever else the tables have and whatever else came
+-- two worlds: two finished switches of two accepted tables. If a link of the one and a link of the other have the same terms and the same
+-- own frames, with the same bytes, then the same frames with the same bytes leave for them in the same order at each of their ports,
+-- whatever else the tables have and whatever else came
 abbrev pub OthersChangeNothing : Type 0
 OthersChangeNothing = (r r' : Run) (bytes bytes' : ℕ → List ℕ) → IsRun r → IsRun r' → IsWellFormed r.table → IsWellFormed r'.table → IsAccepted r.table → IsAccepted r'.table
     → r.finished ≡ true → r'.finished ≡ true

@@ -46,7 +46,7 @@ own_frames i rows = filter (λ row. says_clean i row.verdict) rows
 abbrev pub frame_of_row : Row → Frame
 frame_of_row row = record { stamp = row.stamp; size = row.size }
 
--- they as the link's account sees them
+-- these, as the link's account sees them
 unfoldable pub account_frames : ℕ → List Row → List Frame
 account_frames i rows = map frame_of_row (own_frames i rows)
 

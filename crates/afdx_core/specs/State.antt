@@ -103,7 +103,7 @@ offers_of r row = offers_by r (named r.table row.verdict) row
 abbrev pub step_of : Run → Row → Step
 step_of r row = record { number = length r.rows; in_port = row.in_port; fate = fate_of r.table r.rows row; offers = offers_of r row }
 
--- the first refusal that is none of memory
+-- the first refusal other than one of memory
 abbrev pub refusal_of : Run → ℕ → ℕ → Option CoreFault
 refusal_of r port stamp = if is_none (port_row r.table port) then Some NoSuchPort else if nat_lt stamp r.latest then Some Earlier else None
 
@@ -131,7 +131,7 @@ next_by r (Some place) = next_at r place
 abbrev pub place_of : Run → ℕ → Option ℕ
 place_of r port = position (λ p. p.id == port) r.table.ports
 
--- a port's place and what its next frame that was not handed out was sent as, if it has one
+-- a port's place, and its next sent frame that was not handed out, if it has one
 abbrev pub IsNextOf : Run → ℕ → Option (ℕ × Sent) → Type 0
 IsNextOf r port None = next_by r (place_of r port) ≡ None
 IsNextOf r port (Some next) = (place_of r port ≡ Some next.0) × (next_at r next.0 ≡ Some next.1)

@@ -4,9 +4,9 @@ use Rattle.afdx_port.specs.declared.Offer.{Offer}
 use Rattle.afdx_core.specs.declared.step.Fate.{Fate}
 
 pub record Step : Type 0 where
-  -- the arrivals before it
+  -- how many arrivals came before it
   pub number : ℕ
   pub in_port : ℕ
   pub fate : Fate
-  -- the answers of the ports that its link leads to, in the link's order; none where it was not passed
+  -- the answers of the ports that its link leads to, in the link's order; none if it was not passed
   pub offers : List (ℕ × Offer)

@@ -14,7 +14,7 @@ use Rattle.afdx_count.specs.declared.counters.InCount.{InCount}
 use Rattle.afdx_count.specs.declared.counters.LinkCount.{LinkCount}
 use Rattle.afdx_count.specs.declared.counters.OutCount.{OutCount}
 
--- a counter of 64 bits stays at its greatest value
+-- the greatest value of a counter of 64 bits, at which it stays
 abbrev pub greatest_count : ℕ
 greatest_count = 18446744073709551615
 

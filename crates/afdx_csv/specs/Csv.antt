@@ -24,7 +24,7 @@ joined (text ∷ texts) = text ++ flat_map (λ next. codes "," ++ next) texts
 unfoldable pub heading : List (List ℕ) → List ℕ
 heading columns = joined columns ++ codes "\n"
 
--- the field beside the name of a column; an empty one where there is none
+-- the field beside the name of a column; an empty one if there is none
 abbrev pub field_at : List (List ℕ × List ℕ) → List ℕ → List ℕ
 field_at [] name = []
 field_at (field ∷ fields) name = if bytes_eq field.0 name then field.1 else field_at fields name

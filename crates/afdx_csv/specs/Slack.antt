@@ -2,7 +2,7 @@
 use Rattle.std.specs.Prelude.{ℕ, ◌-◌, ◌*◌, nat_le, nat_lt, codes, decimal, List, [], ◌++◌, Option, Some, if◌then◌else◌}
 use Rattle.std.specs.Int.{div_ceil}
 
--- what is left of a limit: below 0 where more was used
+-- what is left of a limit: below 0 if more was used
 abbrev pub left_text : ℕ → ℕ → List ℕ
 left_text used limit = if nat_le used limit then decimal (limit - used) else codes "-" ++ decimal (used - limit)
 

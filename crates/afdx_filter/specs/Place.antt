@@ -15,7 +15,7 @@ place_named t NoLink = None
 place_named t WrongPort = None
 place_named t TooBig = None
 
--- the number of a frame's address, where the filter found the link of that number
+-- the number of a frame's address, if the filter found the link of that number
 abbrev pub link_named : Verdict → ℕ → Option ℕ
 link_named (Clean i) number = Some number
 link_named WrongPort number = Some number

@@ -9,7 +9,7 @@ use Rattle.afdx_table.specs.Content.{Content, link_row}
 use Rattle.afdx_filter.specs.declared.outcome.Verdict.{Verdict}
 use Rattle.afdx_filter.specs.declared.outcome.Verdict.TheVariants.{Cut, Short, Long, Foreign, NoLink, WrongPort, TooBig, Clean}
 
--- profile: the verdict on a frame of this size at this port, where this is the link of its number
+-- profile: the verdict on a frame of this size at this port, by the link of its number, if the table has one
 abbrev pub link_verdict : ℕ → ℕ → Option Link → Verdict
 link_verdict port size None = NoLink
 link_verdict port size (Some link) =

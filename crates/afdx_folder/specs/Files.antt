@@ -1,4 +1,4 @@
--- A folder's files, where it shows them, and its failures.
+-- A folder's files, if it shows them, and its failures.
 use Rattle.std.specs.Prelude.{◌≡◌, ◌⊎◌, ◌+◌, ◌-◌, ◌^◌, min, ℕ, zero, suc, List, ◌∷◌, false, Option, Some, None, Result, MatchResult, map, ⊤, if◌then◌else◌}
 use Rattle.std.specs.Str.{bytes_eq}
 use Rattle.afdx_folder.specs.declared.folder.FolderFault.{FolderFault}
@@ -86,6 +86,6 @@ IsCause fault name before now = ((fault ≡ Memory) × (now ≡ before)) ⊎ ((f
 abbrev pub HasCause : {T : Type 0} → List ℕ → DeviceLog → DeviceLog → Result T FolderFault → Type 0
 HasCause name before now r = MatchResult r (λ _. now ≡ before) (λ fault. IsCause fault name before now)
 
--- a new file that was taken is counted; where it was not, the fault is
+-- a new file that was taken is counted; if it was not, the fault is
 abbrev pub HasSettled : {T : Type 0} → List ℕ → DeviceLog → DeviceLog → Result T FolderFault → Type 0
 HasSettled name before now r = MatchResult r (λ _. now ≡ one_settled before) (λ fault. IsCause fault name before now)

@@ -27,7 +27,7 @@ abbrev pub with_notices : List Notice → Watched → Watched
 with_notices [] f = f
 with_notices (x ∷ xs) f = with_notices xs (with_notice x f)
 
--- each comes or leaves no sooner than those before it, at a port of the link, and is a frame that the link may send
+-- each comes or leaves no sooner than those before it; a frame is one that the link may send, and a record left at a port of the link
 abbrev pub IsNext : Watched → Notice → Type 0
 IsNext f (Arrived n) = (f.latest ≤ n.frame.stamp) × Fits f.account n
 IsNext f (Departed place n) = (place < length f.outputs) × (f.latest ≤ left_by_at place n f)

@@ -12,7 +12,7 @@ use Rattle.afdx_pairing.specs.Kept.{Sight, Left, Until, after_one, told_by_one}
 use Rattle.afdx_following.specs.declared.tally.Tally.{Tally}
 use Rattle.afdx_following.specs.Tally.{no_events, tallied}
 
--- what was found out: its numbers, and what speaks against the switch, where that is kept
+-- what was found out: its numbers, and what speaks against the switch, if that is kept
 pub record Found : Type 0 where
   pub tally : Tally
   pub keeps : Bool
@@ -46,7 +46,7 @@ IsFresh o = o ≡ output_at o.port o.limits o.found.keeps
 abbrev pub has : Numbered → Output → Bool
 has frame o = list_any (λ n. in_bound o.limits frame.frame n.frame) o.waiting
 
--- all records were taken that may be of a frame, once all were that left, by the stamps at most so late, before an instant
+-- all records that may be of a frame were taken, if all were taken that left before an instant, whatever their stamps are off by
 abbrev pub is_over : ℕ → Numbered → Output → Bool
 is_over at frame o = nat_lt (frame.frame.stamp + most_of o.limits + o.limits.tolerance) at
 
@@ -78,8 +78,8 @@ abbrev pub with_sights : List Sight → Output → Output
 with_sights [] o = o
 with_sights (s ∷ sights) o = with_sights sights (with_sight s o)
 
--- so many of the records that wait left before any frame of which the fate is not known: such a frame comes no sooner than an instant,
--- and stamps are off by the tolerance
+-- how many of the records that wait left before any frame came of which the fate is not known: such a frame comes no sooner than an
+-- instant, and stamps are off by at most the tolerance
 abbrev pub settled : Option ℕ → Output → ℕ
 settled None o = length o.waiting
 settled (Some unknown) o = position_or_len (λ n. nat_le (unknown - (o.limits.gap * tick_of o.limits.speed + o.limits.tolerance)) n.frame.stamp) o.waiting
@@ -88,7 +88,7 @@ settled (Some unknown) o = position_or_len (λ n. nat_le (unknown - (o.limits.ga
 abbrev pub paired_up_to : Option ℕ → Output → Output
 paired_up_to unknown o = with_sights (map Left (take (settled unknown o) o.waiting)) (record o { waiting = drop (settled unknown o) o.waiting })
 
--- the instant before which nothing leaves any more where all that left up to an instant was taken, by stamps that are off by the tolerance
+-- the instant before which nothing leaves any more, but for the tolerance, if all that left up to an instant was taken
 abbrev pub earliest : ℕ → Limits → Option Numbered → ℕ
 earliest at m None = at
 earliest at m (Some left) = min at (left_at m left.frame)

@@ -46,6 +46,6 @@ seen_in t = t.kept + t.early + t.late + t.extra + t.before
 abbrev pub conforms_in : Tally → Bool
 conforms_in t = (t.missing == 0) && (t.extra == 0) && (t.early == 0) && (t.late == 0)
 
--- so it is exactly where nothing of what was told speaks against it
+-- so it is exactly if nothing of what was told speaks against it
 abbrev pub ConformsWhereFine : Type 0
 ConformsWhereFine = (events : List Event) → (conforms_in (tally_of events) ≡ true) ↔ AllByRecursion IsFine events

@@ -18,15 +18,15 @@ abbrev pub has_not_ended : Option ℕ → ℕ → Bool
 has_not_ended None stamp = true
 has_not_ended (Some until) stamp = nat_le stamp until
 
--- frames count from the beginning and the tolerance on, records up to the end less the tolerance: what left within the records' span
--- came within the frames', and what came within that leaves, at the earliest, within the records'
+-- frames count from the beginning and the tolerance on, records up to the end less the tolerance: what left by the end of the records'
+-- span came by the end of the frames', and what came from the beginning of the frames' span on leaves from that of the records' on
 abbrev pub has_frame : Watch → ℕ → Bool
 has_frame w stamp = has_begun w.start w.tolerance stamp && has_not_ended w.until stamp
 
 abbrev pub has_record : Watch → ℕ → Bool
 has_record w stamp = has_begun w.start 0 stamp && has_not_ended w.until (stamp + w.tolerance)
 
--- the instant before which a record may be of a frame that came before the frames that count: none where all was at rest
+-- the instant before which a record may be of a frame that came before the frames that count: none if all was at rest
 abbrev pub before_of : Start → ℕ → ℕ → ℕ
 before_of Rest tolerance bound = 0
 before_of (Cut from) tolerance bound = from + 2 * tolerance + bound
@@ -42,8 +42,8 @@ limits_of w bound speed = record {
   before = before_of w.start w.tolerance bound;
 }
 
--- the instant from which on nothing is known of accounts, where they were not full: the one from which on frames count, since frames that
--- do not count may have taken of an account up to then
+-- the instant at which nothing is known of accounts, unless they were full: the one from which on frames count, since frames that do not
+-- count may have taken of an account up to then
 abbrev pub unknown_from : ℕ → Start → Option ℕ
 unknown_from tolerance Rest = None
 unknown_from tolerance (Cut from) = Some (min (from + tolerance) last_instant)
@@ -51,6 +51,6 @@ unknown_from tolerance (Cut from) = Some (min (from + tolerance) last_instant)
 abbrev pub unknown_since : Watch → Option ℕ
 unknown_since w = unknown_from w.tolerance w.start
 
--- the instant up to which records count, where not all had left
+-- the instant up to which records count, if not all had left
 abbrev pub last_record : Watch → Option ℕ
 last_record w = option_map (λ until. until - w.tolerance) w.until

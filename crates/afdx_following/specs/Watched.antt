@@ -59,14 +59,14 @@ levels_at f n = credited (account_terms f.account) f.levels n.frame.stamp
 abbrev pub outlook_at : Watched → Numbered → Outlook
 outlook_at f n = outlook_of (account_terms f.account) f.tolerance (frame_size n) (levels_at f n)
 
--- an unsure frame's fate can be told once all records were taken, at all ports, that may be of it: by an instant, or in the end
+-- an unsure frame's fate can be told after all records that may be of it were taken, at all ports: by an instant, or in the end
 abbrev pub can_tell : Option ℕ → List Output → Numbered → Outlook → Bool
 can_tell at outputs n Must = true
 can_tell at outputs n Never = true
 can_tell None outputs n Unsure = true
 can_tell (Some at) outputs n Unsure = list_all (λ o. is_over at n o) outputs
 
--- if it is unsure it was passed where a record at any port may be of it
+-- a frame that is unsure was passed exactly if a record at any port may be of it
 abbrev pub fate_of : Watched → Numbered → Bool
 fate_of f n = fate_told (outlook_at f n) (list_any (λ o. has n o) f.outputs)
 
@@ -118,7 +118,7 @@ settled_by at f = with_gone at (with_paired (decided at f.undecided f))
 abbrev pub with_own : Numbered → Watched → Watched
 with_own n f = settled_by (Some n.frame.stamp) (record f { undecided = f.undecided ++ n ∷ []; latest = n.frame.stamp })
 
--- a list of which one item is another one
+-- a list whose item at a place is changed
 abbrev pub changed_at : {X : Type 0} → ℕ → (X → X) → List X → List X
 changed_at place change [] = []
 changed_at zero change (x ∷ xs) = change x ∷ xs
@@ -132,7 +132,8 @@ left_by_at place n f = option_map_or (λ o. left_by n o) (slice_get f.outputs pl
 abbrev pub stamped_by_at : ℕ → Numbered → Watched → ℕ
 stamped_by_at place n f = option_map_or (λ o. stamped_by n o) (slice_get f.outputs place) 0
 
--- a record that left there: of what is told, the line's gap has no part, as no line that is faster has it
+-- a record that left there: what follows from it rests on its stamp and the tolerance alone. If the gap of a slower line counted, a frame
+-- that may still leave a faster port would be taken for missing
 abbrev pub with_record : ℕ → Numbered → Watched → Watched
 with_record place n f =
     settled_by (Some (stamped_by_at place n f)) (record f { outputs = changed_at place (λ o. with_waiting n o) f.outputs; latest = left_by_at place n f })

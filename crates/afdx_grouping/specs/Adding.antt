@@ -9,14 +9,14 @@ use Rattle.afdx_grouping.specs.Groups.{Asked, Group, goes_over}
 abbrev pub asked_with : Speed → Link → Asked → Asked
 asked_with here l a = record { burst = a.burst + burst_of here l; rate = a.rate + rate_of here l; largest = max a.largest l.max_size }
 
--- where the link is a high one
+-- what the high links of a group ask, with one more link if it is a high one
 abbrev pub high_with : Speed → Link → Asked → Asked
 high_with here l a = if is_high_link l then asked_with here l a else a
 
 abbrev pub group_with : Speed → Link → Group → Group
 group_with here l g = record { all = asked_with here l g.all; high = high_with here l g.high }
 
--- where it comes in at one port and leads to another
+-- the group with one more link if it comes in at the one port and leads to the other
 abbrev pub group_added : (from : ℕ) → PortRow → Link → Group → Group
 group_added from to l g = if goes_over from to.id l then group_with to.speed l g else g
 

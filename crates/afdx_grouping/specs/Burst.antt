@@ -32,7 +32,8 @@ paid_rate curves = sum_by (λ c. c.paid.rate) curves
 abbrev pub most_above : ℕ → List Curve → ℕ
 most_above n curves = max (above n curves 0) (greatest_beside (above n curves) curves)
 
--- profile: that is enough, since a sum of concave curves is straight from one turn to the next; and so is what is paid for at once
+-- profile: the lesser of that and of what is paid for at once. Both are enough if no more is paid for in the long run than n: a sum of
+-- concave curves is straight from one turn to the next
 abbrev pub least_burst : ℕ → List Curve → ℕ
 least_burst n curves = min (paid_burst curves) (most_above n curves)
 

@@ -18,7 +18,7 @@ use Rattle.afdx_grouping.specs.Scatter.{later}
 -- ---- groups
 
 -- what some links ask of a line: in parts of a nanosecond at once, and in each nanosecond; and the bytes of their largest frame, 0
--- where there are none
+-- if there are none
 pub record Asked : Type 0 where
   pub burst : ℕ
   pub rate : ℕ
@@ -39,7 +39,7 @@ group_of here links = record { all = asked_by here links; high = asked_by here (
 abbrev pub goes_over : (from to : ℕ) → Link → Bool
 goes_over from to link = (link.from == from) && leads_to to link
 
--- the group of those that lead to the second port
+-- the group of the links that come in at the first port and lead to the second
 abbrev pub group_at : List Link → (from : ℕ) → PortRow → Group
 group_at links from to = group_of to.speed (filter (goes_over from to.id) links)
 
@@ -72,18 +72,18 @@ high_curve here line g = curve_of here line 0 g.high
 
 -- ---- the load of a port
 
--- the line at a port, where frames are known to come over it one after the other, to within so many nanoseconds
+-- the line at a port, if frames are known to come over it one after the other, to within so many nanoseconds
 abbrev pub line_at : (rounding_at : ℕ → Option ℕ) → PortRow → Option KnownLine
 line_at rounding_at from = option_map (λ rounding. record { speed = from.speed; rounding = rounding }) (rounding_at from.id)
 
--- where latencies differ by at most so many nanoseconds
+-- the curves of a port's groups, if latencies differ by at most so many nanoseconds
 abbrev pub all_curves : (scatter : ℕ) → Content → (ℕ → Option ℕ) → PortRow → List Curve
 all_curves scatter t rounding_at to = map (λ from. later scatter (all_curve to.speed (line_at rounding_at from) (group_at t.links from.id to))) t.ports
 
 abbrev pub high_curves : (scatter : ℕ) → Content → (ℕ → Option ℕ) → PortRow → List Curve
 high_curves scatter t rounding_at to = map (λ from. later scatter (high_curve to.speed (line_at rounding_at from) (group_at t.links from.id to))) t.ports
 
--- profile: its load, of which all links and the high ones ask for no more at once than the least bursts that are enough for their groups
+-- profile: the port's load, of which all links and the high ones ask at once for the least bursts that are enough for their groups
 abbrev pub lesser_load : (scatter : ℕ) → (ℕ → Option ℕ) → Content → PortRow → Load
 lesser_load scatter rounding_at t to = record (load_of t.latency to.speed to.id t.links) {
   burst = least_burst parts (all_curves scatter t rounding_at to);

@@ -12,15 +12,15 @@ use Rattle.afdx_account.specs.Policing.{parts}
 use Rattle.afdx_grouping.specs.Groups.{all_curves, high_curves, lesser_load, lesser_bounds}
 use Rattle.afdx_grouping.specs.Scatter.{scattered}
 
--- where no more is paid for in the long run than n
+-- if no more is paid for in the long run than n, the least burst is enough, and no lesser one is
 abbrev pub BurstsAreLeast : Type 0
 BurstsAreLeast = (n : ℕ) (curves : List Curve) → paid_rate curves ≤ n → IsLeastBurst n (least_burst n curves) curves
 
 abbrev pub NoneIsMoreThanPaidFor : Type 0
 NoneIsMoreThanPaidFor = (n : ℕ) (curves : List Curve) → least_burst n curves ≤ paid_burst curves
 
--- the groups of a port are paid for no more than its links are where latencies differ as much: in the long run, and at once, all and the
--- high ones
+-- no more is paid for of a port's groups than its links ask for if latencies differ as much: in the long run, and at once, of all and of
+-- the high ones
 pub record ArePaidForOnce (scatter : ℕ) (t : Content) (rounding_at : ℕ → Option ℕ) (to : PortRow) : Type 0 where
   pub rate : paid_rate (all_curves scatter t rounding_at to) ≤ (load_of t.latency to.speed to.id t.links).rate
   pub high_rate : paid_rate (high_curves scatter t rounding_at to) ≤ (load_of t.latency to.speed to.id t.links).rate
@@ -38,7 +38,7 @@ IsBelow c d = (window : ℕ) → curve_at c window ≤ curve_at d window
 abbrev pub LesserCurvesNeedLess : Type 0
 LesserCurvesNeedLess = (n : ℕ) (curves greater : List Curve) → paid_rate curves ≤ n → paid_rate greater ≤ n → AllZip IsBelow curves greater → least_burst n curves ≤ least_burst n greater
 
--- a bound is there where the other one is, and no greater
+-- a bound is there if the other one is, and no greater
 abbrev pub IsNoMore : Option ℕ → Option ℕ → Type 0
 IsNoMore bound other = (y : ℕ) → other ≡ Some y → (x : ℕ) × (bound ≡ Some x) × (x ≤ y)
 
@@ -51,12 +51,12 @@ abbrev pub BoundsAreNoMore : Type 0
 BoundsAreNoMore = (scatter : ℕ) (t : Content) (rounding_at : ℕ → Option ℕ) (to : PortRow) → IsWellFormed t
     → AreNoMore (lesser_load scatter rounding_at t to) (scattered scatter (load_of t.latency to.speed to.id t.links))
 
--- and where latencies differ by less, they are no greater
+-- and if latencies differ by less, they are no greater
 abbrev pub LessScatterBoundsNoMore : Type 0
 LessScatterBoundsNoMore = (scatter more : ℕ) (t : Content) (rounding_at : ℕ → Option ℕ) (to : PortRow) → IsWellFormed t → scatter ≤ more
     → (load_of t.latency to.speed to.id t.links).rate ≤ parts → AreNoMore (lesser_load scatter rounding_at t to) (lesser_load more rounding_at t to)
 
--- what is said of other ports than the table's is nothing to its bounds
+-- what is said of ports that the table does not have changes none of its bounds
 abbrev pub OnlyPortsCount : Type 0
 OnlyPortsCount = (scatter : ℕ) (t : Content) (rounding_at other : ℕ → Option ℕ) → All (λ p. rounding_at p.id ≡ other p.id) t.ports
     → lesser_bounds scatter rounding_at t ≡ lesser_bounds scatter other t

@@ -11,11 +11,11 @@ use Rattle.afdx_load.specs.declared.fault.LoadFault.{LoadFault}
 
 -- ---- loads
 
--- where latencies differ by at most so many nanoseconds, they are at the queues as much jitter, for each link
+-- a load if latencies differ by at most so many nanoseconds: at the queues each link has as much more jitter
 abbrev pub scattered : ℕ → Load → Load
 scattered d load = record load { burst = load.burst + load.rate * d; high_burst = load.high_burst + load.high_rate * d }
 
--- each port with links carries their load so
+-- each port with links carries their load if latencies differ as much
 abbrev pub IsAcceptedWith : ℕ → Content → Type 0
 IsAcceptedWith d c = All (λ row. let load = load_of c.latency row.speed row.id c.links in 0 < load.highs + load.lows → Carries row (scattered d load)) c.ports
 
@@ -39,11 +39,11 @@ later d c = record { paid = later_line d c.paid; brought = option_map (later_lin
 abbrev pub LaterIsALongerWindow : Type 0
 LaterIsALongerWindow = (d : ℕ) (c : Curve) (window : ℕ) → curve_at (later d c) window ≡ curve_at c (window + d)
 
--- a load whose latencies do not differ is the load, and a table is then accepted as by its check
+-- if latencies do not differ, a load stays as it is, and a table is accepted as by its check
 abbrev pub NothingIsScattered : Type 0
 NothingIsScattered = ((load : Load) → scattered 0 load ≡ load) × ((c : Content) → IsAcceptedWith 0 c ↔ IsAccepted c)
 
--- a table is accepted so exactly where it has no fault, and then as well where latencies differ by less
+-- a table is accepted so exactly if it has no fault, and then also if latencies differ by less
 abbrev pub AcceptedHasNoScatteredFault : Type 0
 AcceptedHasNoScatteredFault = (d : ℕ) (c : Content) → IsAcceptedWith d c ↔ (first_scattered_fault d c.latency c.links c.ports ≡ None)
 

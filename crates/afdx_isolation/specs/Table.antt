@@ -14,7 +14,7 @@ use Rattle.afdx_load.specs.Bounds.{high_bound, low_bound}
 abbrev pub settings_of : ℕ → PortRow → Settings
 settings_of latency row = record { speed = row.speed; buffer = row.buffer; max_delay = row.max_delay; latency = latency }
 
--- the bound of a priority, where the port has links of it
+-- the bound of a priority, if the port has links of it and, for low ones, the high ones leave them a part of the line
 abbrev pub bound_of : Load → Priority → Option ℕ
 bound_of load High = high_bound load
 bound_of load Low = low_bound load

@@ -19,7 +19,7 @@ joined d e = record { least = d.least + e.least; most = d.most + e.most }
 abbrev pub at_once : Delays
 at_once = record { least = 0; most = 0 }
 
--- profile: where a link has the jitter `first` at a switch, `later` is enough for it after this part of its way
+-- profile: if a link has the jitter `first` at a switch, `later` is enough for it after this part of its way
 abbrev pub IsEnough : Delays → (first later : ℕ) → Type 0
 IsEnough d first later = first + d.most ≤ later + d.least
 
@@ -27,7 +27,7 @@ IsEnough d first later = first + d.most ≤ later + d.least
 abbrev pub least_jitter : Delays → (first : ℕ) → ℕ
 least_jitter d first = (first + d.most - d.least + 999) / 1000
 
--- a frame that came to a switch has come to the next one: behind a port of this speed and bound, at a switch of this latency, and
+-- a frame that came to a switch has come to the next one: over a port of this speed and bound, at a switch of this latency, and
 -- over a cable of so many ns
 pub record Crosses (speed : Speed) (latency bound cable : ℕ) (came gone : Frame) : Type 0 where
   pub same : gone.size ≡ came.size

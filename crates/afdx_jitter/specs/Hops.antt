@@ -17,7 +17,7 @@ abbrev pub GoesOn : List Frame → List Hop → Type 0
 GoesOn passed [] = Unit {0}
 GoesOn passed (h ∷ hops) = ComeLater h.delays passed h.frames × GoesOn (passed_frames h.terms h.frames) hops
 
--- each account on the way allows what all hops up to it scatter together, more than the first one
+-- each account on the way allows more than the first one, by what all hops up to it scatter together
 abbrev pub AllowOnTheWay : Terms → Delays → List Hop → Type 0
 AllowOnTheWay t d [] = Unit {0}
 AllowOnTheWay t d (h ∷ hops) =

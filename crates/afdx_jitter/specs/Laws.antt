@@ -21,7 +21,7 @@ abbrev pub PassedPassAgain : Type 0 → Type 0
 PassedPassAgain A = (frame_of : A → Frame) (d : Delays) (t u : Terms) (frames : List Frame) (xs : List A) → AllowsMore (d.most - d.least) t u
     → ComeLater d (passed_frames t frames) (map frame_of xs) → passed_of frame_of u xs ≡ xs
 
--- terms of one kind, size and gap allow more where the jitter grows by that much
+-- terms of one kind, size and gap allow so much more if the jitter grows by at least that much
 abbrev pub JitterAllowsMore : Type 0
 JitterAllowsMore = (police : Police) (max_size : ℕ) (bag : Bag) (first later : ℕ) (d : Delays) → IsEnough d first later → d.least ≤ d.most
     → AllowsMore (d.most - d.least) (terms_by police max_size bag first) (terms_by police max_size bag later)
@@ -45,7 +45,7 @@ DelaysAddUp = (d e : Delays) (ps qs rs : List Frame) → ComeLater d ps qs → C
 abbrev pub DelaysBeginAtOnce : Type 0
 DelaysBeginAtOnce = (fs : List Frame) → ComeLater at_once fs fs
 
--- no account on a way polices anything that the first one passed, where each allows, more than the first, what the whole way to it
+-- no account on a way polices anything that the first one passed, if each allows more than the first, by what the whole way to it
 -- scatters
 abbrev pub WaysPassAll : Type 0
 WaysPassAll = (t : Terms) (frames : List Frame) (hops : List Hop) → GoesOn (passed_frames t frames) hops → AllowOnTheWay t at_once hops

@@ -20,7 +20,7 @@ pub record ComesLater (d : Delays) (f g : Frame) : Type 0 where
 abbrev pub ComeLater : Delays → List Frame → List Frame → Type 0
 ComeLater d fs gs = AllZip (ComesLater d) fs gs
 
--- terms with the same prices and credit, and a cap that allows so many ns more
+-- terms with the same prices and credit, and a cap that allows at least so many ns more
 pub record AllowsMore (scatter : ℕ) (t u : Terms) : Type 0 where
   pub price : (size : ℕ) → u.price size ≡ t.price size
   pub rate : u.rate ≡ t.rate

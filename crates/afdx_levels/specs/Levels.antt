@@ -1,4 +1,4 @@
--- What is known of the level of an account, where what came before is not known and stamps may be off.
+-- What is known of the level of an account, if what came before is not known and stamps may be off.
 use Rattle.std.specs.Prelude.{ℕ, ◌+◌, ◌*◌, ◌-◌, ◌∷◌, [], List, Bool, true, false, IsTrue, not, nat_le, nat_lt, min, max, if◌then◌else◌}
 use Rattle.afdx_account.specs.declared.frame.Frame.{Frame}
 use Rattle.afdx_account.specs.Policing.{Terms}
@@ -29,12 +29,12 @@ unknown t tolerance since = record { least = 0; most = t.cap + 2 * slack_of t to
 abbrev pub credited : Terms → Levels → ℕ → Levels
 credited t l at = record { least = l.least + t.rate * (at - l.since); most = l.most + t.rate * (at - l.since); since = at }
 
--- a frame of this size may be passed, or policed, where this is known
+-- a frame of this size may be passed, or policed, if this is known
 abbrev pub may_be : Terms → ℕ → ℕ → Levels → Bool → Bool
 may_be t tolerance size l true = nat_le (t.price size) l.most
 may_be t tolerance size l false = nat_lt l.least (t.price size + 2 * slack_of t tolerance)
 
--- it must pass where it may not be policed, never passes where it may not pass, and is unsure else
+-- it must pass if it may not be policed, never passes if it may not pass, and is unsure else
 abbrev pub outlook_of : Terms → ℕ → ℕ → Levels → Outlook
 outlook_of t tolerance size l =
     if not (may_be t tolerance size l true) then Never
@@ -54,7 +54,7 @@ after t tolerance size false l = record {
   since = l.since;
 }
 
--- profile: these fates (true: passed) can be those of these frames, one for each, where this is known before them
+-- profile: these fates (true: passed) can be those of these frames, one for each, if this is known before them
 abbrev pub Allowed : Terms → ℕ → Levels → List Frame → List Bool → Type 0
 Allowed t tolerance l [] [] = Unit {0}
 Allowed t tolerance l [] (passes ∷ fates) = ⊥
@@ -69,7 +69,7 @@ levels_after t tolerance l [] fates = l
 levels_after t tolerance l (f ∷ fs) [] = l
 levels_after t tolerance l (f ∷ fs) (passes ∷ fates) = levels_after t tolerance (after t tolerance f.size passes (credited t l f.stamp)) fs fates
 
--- profile: the fates of these frames as they are told: an unsure frame was passed where a test says so, as that it was seen to leave
+-- profile: the fates of these frames as they are told: an unsure frame was passed if a test says so, such as that it was seen to leave
 abbrev pub fate_told : Outlook → Bool → Bool
 fate_told Must seen = true
 fate_told Never seen = false

@@ -1,4 +1,4 @@
--- Lines of words and numbers (profile): they end with a line feed, numbers are decimal, `-` where there is none.
+-- Lines of words and numbers (profile): they end with a line feed, numbers are decimal, `-` if there is none.
 use Rattle.std.specs.Prelude.{ℕ, codes, decimal, List, ◌++◌, flat_map, Option, Some, None}
 
 -- a number, if there is one

@@ -11,8 +11,8 @@ use Rattle.afdx_load.specs.declared.fault.Rule.{Rule}
 use Rattle.afdx_load.specs.declared.fault.Rule.TheVariants.{Rate, Buffer, HighDelay, LowDelay}
 use Rattle.afdx_load.specs.declared.fault.LoadFault.{LoadFault}
 
--- the port can give this load: the links ask for no more than the line, the buffer holds what may wait, and each
--- priority's bound is within the greatest delay
+-- the port can give this load: the links ask for no more than the line, the buffer holds what may wait and be on the line, and each
+-- priority's bound, if it has one, is within the greatest delay
 pub record Carries (row : PortRow) (load : Load) : Type 0 where
   pub rate : load.rate ≤ parts
   pub buffer : backlog load ≤ byte_time row.speed row.buffer
@@ -23,16 +23,16 @@ pub record Carries (row : PortRow) (load : Load) : Type 0 where
 abbrev pub IsAccepted : Content → Type 0
 IsAccepted c = All (λ row. let load = load_of c.latency row.speed row.id c.links in 0 < load.highs + load.lows → Carries row load) c.ports
 
--- the fault of a need past its limit
+-- the fault of a need, if it is past its limit
 abbrev pub past : ℕ → Rule → ℕ → ℕ → Option LoadFault
 past port rule limit need = if nat_lt limit need then Some (record { port = port; rule = rule; need = need; limit = limit }) else None
 
--- the same where there may be no need
+-- the same if there is a need
 abbrev pub past_bound : ℕ → Rule → ℕ → Option ℕ → Option LoadFault
 past_bound port rule limit None = None
 past_bound port rule limit (Some need) = past port rule limit need
 
--- the first rule that a port's load breaks
+-- the fault of the first rule that a port's load breaks
 unfoldable pub fault_at : PortRow → Load → Option LoadFault
 fault_at row load =
     option_or (option_or (option_or

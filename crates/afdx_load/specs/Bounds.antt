@@ -6,13 +6,13 @@ use Rattle.afdx_load.specs.Load.{Load}
 use Rattle.afdx_account.specs.Policing.{parts}
 use Rattle.afdx_load.specs.declared.delays.Bounds.{Bounds}
 
--- nanoseconds from the arrival of a high frame to its end on the line: the latency, and, rounded down, all that high links may
--- ask for at once, which goes before it, and the low frame that the line had begun; where there are high links
+-- the most nanoseconds from the arrival of a high frame to its end on the line, if there are high links: the latency, and, rounded down,
+-- all that high links may ask for at once, which goes before it, and the low frame that the line had begun
 abbrev pub high_bound : Load → Option ℕ
 high_bound load = if nat_lt 0 load.highs then Some ((load.high_burst + parts * load.low_largest) / parts + load.latency) else None
 
--- the same of a low frame: the latency, and all that any link may ask for at once, over the part of the line that the high links leave;
--- where there are low links and such a part
+-- the same of a low frame, if there are low links and the high links leave a part of the line: the latency, and, rounded down, all that
+-- links may ask for at once, over that part
 abbrev pub low_bound : Load → Option ℕ
 low_bound load = if nat_lt 0 load.lows && nat_lt load.high_rate parts then Some (load.burst / (parts - load.high_rate) + load.latency) else None
 

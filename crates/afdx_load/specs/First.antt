@@ -7,7 +7,7 @@ use Rattle.afdx_load.specs.Bounds.{high_bound, low_bound, backlog, byte_time}
 use Rattle.afdx_load.specs.declared.fault.Rule.{Rule}
 use Rattle.afdx_load.specs.declared.fault.Rule.TheVariants.{Rate, Buffer, HighDelay, LowDelay}
 
--- what a load needs by a rule, where the rule speaks of it
+-- what a load needs by a rule, if the rule speaks of it
 abbrev pub need_of : Rule → Load → Option ℕ
 need_of Rate load = Some load.rate
 need_of Buffer load = Some (backlog load)

@@ -17,7 +17,7 @@ is_broken row load rule = option_map_or (λ need. nat_lt (limit_of rule row) nee
 abbrev pub broken_rules : PortRow → Load → List Rule
 broken_rules row load = filter (is_broken row load) (Rate ∷ Buffer ∷ HighDelay ∷ LowDelay ∷ [])
 
--- a table is accepted exactly where each port with links breaks none
+-- a table is accepted exactly if each port with links breaks none
 abbrev pub AcceptedWhereEachPortFits : Type 0
 AcceptedWhereEachPortFits = (c : Content) →
     IsAccepted c ↔ All (λ row. let load = load_of c.latency row.speed row.id c.links in 0 < load.highs + load.lows → broken_rules row load ≡ []) c.ports

@@ -47,7 +47,7 @@ burst_of speed link = rate_of speed link * (bag_ns link.bag + link.jitter)
 abbrev pub time_of : Speed → Link → ℕ
 time_of speed link = cost_of speed link.max_size
 
--- the greatest of these, 0 where there are none
+-- the greatest of these, 0 if there are none
 abbrev pub greatest : (Link → ℕ) → List Link → ℕ
 greatest f [] = 0
 greatest f (link ∷ links) = max (f link) (greatest f links)
@@ -83,7 +83,7 @@ links_load speed links = record {
 abbrev pub asked_of : Speed → ℕ → List Link → Load
 asked_of speed port links = links_load speed (routed port links)
 
--- the same load where a frame is queued one latency after its arrival
+-- the same load if a frame is queued one latency after its arrival
 abbrev pub behind : ℕ → Load → Load
 behind latency load = record load { latency = latency }
 
@@ -91,6 +91,6 @@ behind latency load = record load { latency = latency }
 abbrev pub load_of : ℕ → Speed → ℕ → List Link → Load
 load_of latency speed port links = behind latency (asked_of speed port links)
 
--- the load of the port of this number, where there is one
+-- the load of the port of this number, if there is one
 abbrev pub port_load : Content → ℕ → Option Load
 port_load table port = option_map (λ row. load_of table.latency row.speed row.id table.links) (port_row table port)

@@ -14,7 +14,7 @@ delay_of x = x.end - x.item.stamp
 abbrev pub delays_of : ℕ → List Sent → List ℕ
 delays_of link sent = map delay_of (filter (λ x. x.item.link == link) sent)
 
--- the least and the greatest of some delays, where there are any
+-- the least and the greatest of these delays, if there are any
 abbrev pub range_of : List ℕ → Option Range
 range_of [] = None
 range_of (n ∷ ns) = Some (record { least = fold min n ns; greatest = fold max n ns })
@@ -30,7 +30,7 @@ least_of d = option_map (λ r. r.least) d.range
 abbrev pub greatest_of : Delays → Option ℕ
 greatest_of d = option_map (λ r. r.greatest) d.range
 
--- ---- the law: they are one of them, and no other is less or greater
+-- ---- the law: each of the two is one of them, and none is less or greater
 
 pub record IsLeast (ns : List ℕ) (least : ℕ) : Type 0 where
   pub is_one : Contains ns least

@@ -19,7 +19,7 @@ fillings s before (x ∷ items) = filling s before x ∷ fillings s (before ++ x
 abbrev pub is_fuller : Filling → Filling → Bool
 is_fuller f g = nat_lt g.bytes f.bytes
 
--- the first that none is fuller than; none where nothing was admitted
+-- the first that none is fuller than; none if nothing was admitted
 abbrev pub peak_of : List Filling → Option Filling
 peak_of [] = None
 peak_of (f ∷ fs) = Some (best_of is_fuller f fs)

@@ -44,7 +44,7 @@ stamp_at place rows = option_map (λ row. row.stamp) (slice_get rows place)
 abbrev pub span_line : List Row → List ℕ
 span_line rows = line ((codes "span from ", stamp_at 0 rows) ∷ (codes " to ", stamp_at (length rows - 1) rows) ∷ (codes " frames ", Some (length rows)) ∷ [])
 
--- the lines of all of them
+-- the lines of the spells of all links, and then that of when frames came
 abbrev pub policing_of : Run → List ℕ
 policing_of r = flat_map (spell_lines r) r.table.links ++ span_line r.rows
 

@@ -24,7 +24,7 @@ delays_at r p link = summary_of (delays_of link (sent_in r (Some p)))
 
 -- ---- the laws
 
--- what a port admitted never held more than its buffer has
+-- a port's buffer never held more bytes than it has room for
 abbrev pub PeakIsWithinTheBuffer : Type 0
 PeakIsWithinTheBuffer = (r : Run) (p : PortRow) → IfSome (peak_at r p) (λ f. f.bytes ≤ p.buffer)
 

@@ -12,12 +12,12 @@ use Rattle.afdx_measure.specs.Delays.{delays_of, summary_of}
 use Rattle.afdx_measure.specs.Ports.{peak_at}
 use Rattle.afdx_measure.specs.Lines.{link_line, peak_line}
 
--- the bound of a load for a priority, where there is such a port
+-- the bound of a load for a priority, if there is such a port
 abbrev pub bound_by : Option Load → Priority → Option ℕ
 bound_by None priority = None
 bound_by (Some load) priority = bound_of load priority
 
--- a port's bound for a priority, where bounds are promised
+-- a port's bound for a priority, if bounds are promised
 abbrev pub bound_at : Bool → Content → ℕ → Priority → Option ℕ
 bound_at promised t port priority = if promised then bound_by (port_load t port) priority else None
 

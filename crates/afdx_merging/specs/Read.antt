@@ -11,7 +11,7 @@ use Rattle.afdx_merging.specs.declared.fault.MergeFault.{MergeFault}
 use Rattle.afdx_merging.specs.declared.fault.MergeFault.TheVariants as fault
 use Rattle.afdx_merging.specs.Merge.{Arrival, IsMergeOf}
 
--- each text has all the bytes that the reader at its place gives, where that is known
+-- each text has all the bytes that the reader at its place gives, if that is known
 pub record AreRead {R : Type 0} (remaining : R → Option (List ℕ)) (readers : List R) (texts : List (List ℕ)) : Type 0 where
   pub many : length texts ≡ length readers
   pub each : (place : ℕ) (r : R) (text : List ℕ) → slice_get readers place ≡ Some r → slice_get texts place ≡ Some text → AreGiven (remaining r) text
@@ -43,7 +43,7 @@ IsMergeFault remaining readers fault.Memory = Unit {0}
 IsMergeFault remaining readers (fault.Read place) = place < length readers
 IsMergeFault remaining readers (fault.Capture place why) = HasFirstFault remaining readers place why
 
--- where one has a fault, all readers are at their ends
+-- if one has a fault, all readers are at their ends
 abbrev pub WereAllRead : {R : Type 0} → (R → Option (List ℕ)) → List R → MergeFault → Type 0
 WereAllRead remaining now fault.Memory = Unit {0}
 WereAllRead remaining now (fault.Read place) = Unit {0}

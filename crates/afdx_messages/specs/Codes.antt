@@ -1,4 +1,4 @@
--- The code of each failure, and what follows its line where failures are explained (profile).
+-- The code of each failure, and what follows its line if failures are explained (profile).
 use Rattle.std.specs.Prelude.{ℕ, Bool, true, false, codes, List, [], Option, Some, None, unwrap_or}
 use Rattle.std.specs.Option.{option_and_then}
 use Rattle.afdx_pcap.specs.declared.fault.PcapFault.{PcapFault}
@@ -102,7 +102,7 @@ code_of failure.Read = Some (codes "read")
 code_of failure.Write = Some (codes "write")
 code_of failure.Memory = Some (codes "memory")
 
--- the entry of the failure's code, where failures are explained
+-- the entry of the failure's code, if failures are explained
 abbrev pub more_of : Failure → (is_explained : Bool) → List ℕ
 more_of f false = []
 more_of f true = unwrap_or (option_and_then entry_of (code_of f)) []

@@ -73,12 +73,12 @@ record_of (fault.Backwards n) = Some n
 record_of (fault.CutData n) = Some n
 record_of _ = None
 
--- a further part of a line, where it has one
+-- a further part of a line, if it has one
 abbrev pub part : List ℕ → Option ℕ → List ℕ
 part name None = []
 part name (Some n) = name ++ decimal n
 
--- of a capture, by this name of the port, if it is one's
+-- of a capture, with these words before the port's number, if it is a port's
 abbrev pub text_of : List ℕ → Option ℕ → PcapFault → List ℕ
 text_of name port f = codes "afdx: capture " ++ fault_text f ++ part name port ++ part (codes ", record ") (record_of f)
 
@@ -109,7 +109,7 @@ load_line f = as_line (load_fault_text f)
 
 -- ---- of a network
 
--- the name of a switch, where a refusal is of one
+-- the name of a switch, if a refusal is of one
 abbrev pub switch_part : Option (List ℕ) → List ℕ
 switch_part None = []
 switch_part (Some name) = codes ", switch " ++ name
@@ -162,7 +162,7 @@ abbrev pub jitter_rule : JitterRule → List ℕ
 jitter_rule jitter.Jitter = codes "J1 Jitter"
 jitter_rule jitter.NoJitter = codes "J2 NoJitter"
 
--- where the switches have these names
+-- the line of a row, if the switches have these names
 abbrev pub row_line : JitterRule → List (List ℕ) → Short → List ℕ
 row_line rule names short = as_line (network_text (slice_get names short.switch) (row_fault rule short))
 

@@ -10,7 +10,7 @@ use Rattle.afdx_messages.specs.Lines.{memory_text, table_line, capture_line, out
 abbrev pub memory_line : List ℕ
 memory_line = as_line memory_text
 
--- that there was one of what a run is to fail on has no line: the report tells it
+-- that something was found for which a command fails has no line: the report tells it
 abbrev pub line_of : Failure → List ℕ
 line_of failure.Found = []
 line_of failure.Usage = as_line (codes "afdx: usage")
@@ -37,7 +37,7 @@ status_of (failure.Load f) = 4
 status_of (failure.Network f) = network_status f
 status_of _ = 5
 
--- the line holds a number or a name, for which it takes memory
+-- the line may hold a number or a name, so that it takes memory
 abbrev pub IsMade : Failure → Type 0
 IsMade failure.Found = ⊥
 IsMade failure.Usage = ⊥
@@ -46,7 +46,7 @@ IsMade failure.Write = ⊥
 IsMade failure.Memory = ⊥
 IsMade _ = Unit {0}
 
--- the failure that is reported: this one; or memory, where that ran out for its line
+-- the failure that is reported: this one; or memory, if that ran out for its line
 abbrev pub ReportsAs : Failure → Failure → Type 0
 ReportsAs f reported = (reported ≡ f) ⊎ (IsMade f × (reported ≡ failure.Memory))
 

@@ -19,8 +19,8 @@ pub record ComesBy (last : ℕ) (bytes : List ℕ) : Type 0 where
   pub read : IsCapture bytes records
   pub none_later : All (λ r. r.stamp ≤ last) records
 
--- what leaves a switch over an accepted table can be read again, and no frame left more than half a second after the last one came,
--- where that was a second before the last second that pcap can hold
+-- if all frames came by an instant that is at least a second before the last second that pcap can hold, what leaves a switch over an
+-- accepted table can be read again, and no frame left more than half a second after that instant
 abbrev pub RunsLeaveInTime : Type 0
 RunsLeaveInTime = (t : Content) (texts : List Text) (results : Results) → IsWellFormed t → IsAccepted t → IsOutcome t texts results
     → (last : ℕ) → last + second ≤ last_second → All (λ text. ComesBy last text.1) texts → All (λ text. ComesBy (last + 500000000) text.1) results.captures

@@ -82,7 +82,7 @@ pub record HasOrder (net : Network) : Type 0 where
   pub rises : All (λ w. place w.from.switch < place w.to.switch) net.layout.wires
   pub one_each : NoneShareAPort net
 
--- no frame that was given came in the last 64 seconds that pcap can hold
+-- each frame that was given came at least 64 seconds before the last second that pcap can hold
 abbrev pub NoneComesLate : Given → Type 0
 NoneComesLate given = (texts : List Text) (text : Text) (records : List Record) → Contains given texts → Contains texts text → IsCapture text.1 records
     → All (λ r. r.stamp + 64 * second ≤ last_second) records
@@ -109,8 +109,8 @@ pub record IsBreachAt (speed : Speed) (records : List Record) (number : ℕ) : T
   pub kept : RecordsKeepToLineWithin stamp_rounding speed (take earlier records)
   pub broken : RecordsKeepToLineWithin stamp_rounding speed (take number records) → ⊥
 
--- the file says that end systems have one line each, and this is the first port of which it is not so, by switch and then by port, and the
--- first record there that came too soon
+-- the file says that end systems have one line each; this is the first port of which it is not so, by switch and then by port, and this is
+-- the first record there that came too soon
 pub record IsFirstBreach (net : Network) (given : Given) (switch port number : ℕ) : Type 0 where
   pub said : net.layout.one_line ≡ true
   pub place : ℕ
@@ -126,8 +126,9 @@ pub record IsWired (net : Network) (switch port : ℕ) : Type 0 where
   pub wire : Wire
   pub wire_is : wire_to net (record { switch = switch; port = port }) ≡ Some wire
 
--- why there is no run over these captures: one is none; all are, and one did not come over one line, as the file says; or they did, and what
--- comes over a wire is none, which cannot be where this holds, or two wires go to one port. Memory may run out at any time, and that a reader failed says nothing of what was given
+-- why there is no run over these texts: one is no capture; or all are, and one did not come over one line, though the file says so; or all did,
+-- and either what comes over a wire is no capture, which cannot be if `none_late` holds, or two wires go to one port. Memory may run out at
+-- any time, and that a reader failed is no reason here
 abbrev pub IsRefusalUnless : Type 0 → Network → Given → NetworkRunFault → Type 0
 IsRefusalUnless none_late net given fault.Memory = Unit {0}
 IsRefusalUnless none_late net given (fault.Read place) = ⊥
@@ -136,11 +137,11 @@ IsRefusalUnless none_late net given (fault.Capture switch port why) =
 IsRefusalUnless none_late net given fault.WrongWires = AreGiven net given × AreSound given × KeepTheirLines net given × (NoneShareAPort net → ⊥)
 IsRefusalUnless none_late net given (fault.Line switch port number) = AreGiven net given × AreSound given × IsFirstBreach net given switch port number
 
--- of a network whose loads are accepted: no frame is late where none can be
+-- of a network whose loads are accepted: what comes over a wire is a capture if no frame can be late
 abbrev pub IsRefusal : Network → Given → NetworkRunFault → Type 0
 IsRefusal net given why = IsRefusalUnless (NoneIsLateAnywhere net given) net given why
 
--- of any network
+-- of any network: what comes over a wire is a capture if no frame can be late and the loads are accepted
 abbrev pub IsUncheckedRefusal : Network → Given → NetworkRunFault → Type 0
 IsUncheckedRefusal net given why = IsRefusalUnless (NoneIsLateAnywhere net given × All IsAccepted net.tables) net given why
 
@@ -151,7 +152,7 @@ IsFaultOver remaining net readers Refused fault.Memory = Unit {0}
 IsFaultOver remaining net readers Refused (fault.Read place) = place < length readers
 IsFaultOver remaining net readers Refused why = (given : Given) × AreGivenBy remaining net readers given × Refused given why
 
--- what stops the run on its way
+-- what stops the run on its way: memory ran out, or what comes over a wire is no capture
 abbrev pub IsWireFault : Network → NetworkRunFault → Type 0
 IsWireFault net fault.Memory = Unit {0}
 IsWireFault net (fault.Read place) = ⊥

@@ -1,5 +1,5 @@
--- Stages of a way whose bounds are those of lesser bursts: where frames at some of a switch's ports come one after the other, as they
--- do where a wire goes.
+-- Stages of a way whose bounds are those of lesser bursts, if frames at some of a switch's ports come one after the other, as they do over
+-- a wire.
 use Rattle.std.specs.Prelude.{◌≡◌, ℕ, true, List, map, Option, Some, Contains}
 use Rattle.afdx_table.specs.declared.rows.PortRow.{PortRow}
 use Rattle.afdx_table.specs.Link.{Link, leads_to}
@@ -20,7 +20,7 @@ use Rattle.afdx_network.specs.Way.{Node, IsStage, delayed}
 abbrev pub node_after : Content → List Capture → Node
 node_after t read = record { table = t; read = read; out = output_of t (merged read) }
 
--- a stage there, with the bound of lesser bursts that are enough for the lines of its port
+-- a stage there, with the bound of lesser bursts that are enough for the lines of the switch's ports
 abbrev pub LinedStages : Type 0
 LinedStages = (t : Content) (texts : List Text) (results : Results) → IsWellFormed t → IsAccepted t → (outcome : IsOutcome t texts results)
     → (rounding_at : ℕ → Option ℕ) → CapturesKeepToLines t outcome.read rounding_at → (p : PortRow) → Contains t.ports p → (burst high_burst : ℕ) → AreLesser t p rounding_at burst high_burst

@@ -34,7 +34,7 @@ in_place remaining (Some s) = still_silent s
 abbrev pub coming : {R : Type 0} → (R → Option (List ℕ)) → Incoming R → Option (List ℕ)
 coming remaining i = in_place (remaining i.reader) i.silence
 
--- at first: what the reader gives, or nothing where the switch is down
+-- at first: what the reader gives, or a capture of no frames if the switch is down
 abbrev pub comes : {R : Type 0} → (R → Option (List ℕ)) → Bool → R → Option (List ℕ)
 comes remaining down r = if down then Some (capture_text []) else remaining r
 

@@ -34,7 +34,7 @@ pub record IsReported (runs : List SwitchRun) (w : Way) (x : Stage) (legs : List
   pub from : x.link.from ≡ w.from.port
   pub ports : AllZip (IsAtPort runs w.link) (stages_of x legs) w.ports.items
 
--- a frame that came has left no sooner than the least, and no later than the most
+-- a frame has left no sooner than the least delay after it came, and no later than the greatest
 pub record IsWithin (d : Delays) (came left : Record) : Type 0 where
   pub least : came.stamp + d.least ≤ left.stamp
   pub most : left.stamp ≤ came.stamp + d.most
@@ -49,7 +49,7 @@ pub record KeepsReported (net : Network) (runs : List SwitchRun) (w : Way) : Typ
   pub delivered : IsDelivered stage legs
   pub in_time : AllZip (IsWithin w.delays) (passed_at stage) (leave (last_stage stage legs))
 
--- whatever the end systems send, on the ways that use nothing that is down
+-- so it is in an accepted network, whatever the end systems send, on each way that uses nothing that is down
 abbrev pub PrintedDelaysAreKept : Type 0
 PrintedDelaysAreKept = (net : Network) (given : Given) (runs : List SwitchRun) → IsAcceptedRun net given runs → (ways : List Way) → AreWaysOf net ways
     → All (KeepsReported net runs) (up_of net.layout ways)

@@ -29,7 +29,7 @@ pub record SwitchRun : Type 0 where
   pub isolated : IsIsolated table texts results
   pub plain : IsPlain table texts results outcome isolated
 
--- what left at the start of a wire, as the capture there has it, comes in at the wire's end, so much later
+-- what left at the start of a wire, as the capture there has it, comes in at the wire's end, later by the wire's delay
 pub record Brings (left : List Results) (came : List (List Text)) (w : Wire) : Type 0 where
   pub here : Results
   pub there : List Text
@@ -51,14 +51,14 @@ pub record BringsNothing (came : List (List Text)) (w : Wire) : Type 0 where
 abbrev pub Given : Type 0
 Given = List (List Text)
 
--- at a port without a wire there comes in what was given
+-- the text is among those that were given for the switch
 pub record IsGiven (given : Given) (switch : ℕ) (text : Text) : Type 0 where
   pub texts : List Text
   pub texts_is : slice_get given switch ≡ Some texts
   pub has : Contains texts text
 
--- these texts come in at the switches where they have left these: over wires what left, over those that are down nothing, elsewhere what was
--- given
+-- these texts come in at the switches if these results left them: over a wire what left at its start, over a wire that is down a capture of
+-- no frames, and at any other port what was given
 pub record IsFedBy (net : Network) (given : Given) (left : List Results) (came : List (List Text)) : Type 0 where
   pub wires : (w : Wire) → Contains net.layout.wires w → w.down ≡ false → Brings left came w
   pub down : (w : Wire) → Contains net.layout.wires w → w.down ≡ true → BringsNothing came w
@@ -74,15 +74,15 @@ pub record AreGivenAt (net : Network) (given : Given) (e : End) (row : PortRow) 
   pub port : text.0 ≡ e.port
   pub capture : IsCapture text.1 records
 
--- they came over one line, by stamps that may be rounded down
+-- what was given for the port came over one line, by stamps that may be rounded down
 abbrev pub KeepsItsLine : Network → Given → End → Type 0
 KeepsItsLine net given e = (row : PortRow) (records : List Record) → AreGivenAt net given e row records → RecordsKeepToLineWithin stamp_rounding row.speed records
 
--- profile: so all did, where the network file says that end systems have one line each
+-- profile: so it is at each port, if the network file says that end systems have one line each
 abbrev pub KeepTheirLines : Network → Given → Type 0
 KeepTheirLines net given = net.layout.one_line ≡ true → (e : End) → KeepsItsLine net given e
 
--- the texts that came in at each switch are those that the runs lead to, and what was given is as the file says
+-- the runs are over the network's tables, what came in at them agrees with the wires and with what was given, and that is as the file says
 pub record IsNetworkRun (net : Network) (given : Given) (runs : List SwitchRun) : Type 0 where
   pub tables : map (λ (run : SwitchRun). run.table) runs ≡ net.tables
   pub lines : KeepTheirLines net given
@@ -101,7 +101,7 @@ AreOutcomes [] [] [] = Unit {0}
 AreOutcomes (t ∷ tables) (texts ∷ came) (results ∷ left) = IsOutcome t texts results × AreOutcomes tables came left
 AreOutcomes _ _ _ = ⊥
 
--- what came in at the switches and what left them agrees with the wires, and what was given is as the file says
+-- each table was run, what came in at the switches and what left them agrees with the wires, and what was given is as the file says
 pub record IsUncheckedRunOf (net : Network) (given : Given) (came : List (List Text)) (left : List Results) : Type 0 where
   pub outcomes : AreOutcomes net.tables came left
   pub lines : KeepTheirLines net given

@@ -37,7 +37,7 @@ pub record HaveSent (net : Network) (switches : List (Tally × State)) (o : Orig
   pub each : (switch : ℕ) (both : Tally × State) (p : PortRow) → slice_get switches switch ≡ Some both → port_row both.1.run.table p.id ≡ Some p
       → sent_from o.sent (end_at switch p.id) ≡ sent_in both.1.run (Some p)
 
--- where the tables fit together and are accepted, no copy that was noted has ended later than its port's bound allows
+-- if the tables fit together and are accepted, no copy that was noted has ended later than its port's bound allows
 abbrev pub WatchedRunsKeepBounds : Type 0
 WatchedRunsKeepBounds = (net : Network) (given : Given) (came : List (List Text)) (left : List Results) (switches : List (Tally × State)) (o : Origins) → IsOfFile net → IsFittingNetwork net
     → IsUncheckedRunOf net given came left → AreEnded net.tables came left switches → HaveSent net switches o → KeepBounds net o.sent

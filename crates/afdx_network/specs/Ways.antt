@@ -10,7 +10,7 @@ use Rattle.afdx_network.specs.Runs.{SwitchRun}
 abbrev pub node_of : SwitchRun → Node
 node_of run = record { table = run.table; read = run.isolated.read; out = run.isolated.out }
 
--- a row of a switch, and a port that it leads to
+-- a stage is a row of a switch and a port that it leads to, with the switch's least time and the row's bound at that port
 pub record IsStageAt (net : Network) (runs : List SwitchRun) (r : Row) (x : Stage) : Type 0 where
   pub run : SwitchRun
   pub run_is : slice_get runs r.switch ≡ Some run

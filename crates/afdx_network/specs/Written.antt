@@ -5,7 +5,7 @@ use Rattle.afdx_session.specs.Texts.{Text}
 use Rattle.afdx_session.specs.Outcome.{Results}
 use Rattle.afdx_session.specs.Written.{AreAppended}
 
--- what leaves the ports of all switches, in the order of these
+-- the captures of what leaves the ports of all switches, in the order of the switches
 abbrev pub captures_in : List Results → List Text
 captures_in left = flat_map (λ r. r.captures) left
 

@@ -28,7 +28,7 @@ DiffersInJitters net other = (other.layout ≡ net.layout) × (map bare other.ta
 
 -- ---- what a row has and needs
 
--- in whole microseconds: to begin with the jitter of its source, then what is enough after the whole way to it. Where no way within
+-- in whole microseconds: to begin with the jitter of its source, then what is enough after the whole way to it. If no way within
 -- reason leads to it, that is more than any table has
 abbrev pub first_needed : (source : Option Row) → ℕ
 first_needed None = 1000000000
@@ -45,15 +45,15 @@ abbrev pub need_in : (start : Bool) → Network → Row → RowNeed
 need_in true net r = row_with_need r (first_needed (source_within most_rows net r))
 need_in false net r = row_with_need r (needed (way_within most_rows net r at_once))
 
--- a table has a jitter of at most 10,000 microseconds
+-- the row needs more than the greatest jitter that a table can have, 10,000 microseconds
 abbrev pub is_past : RowNeed → Bool
 is_past n = nat_lt 10000 n.need
 
--- it needs more than that
+-- the row, what it needs, and the greatest that a table can have
 abbrev pub past_short : RowNeed → Short
 past_short n = record { switch = n.switch; link = n.link; need = n.need; has = 10000 }
 
--- the first row that does, and all that do
+-- the first row that needs more, and all that do
 abbrev pub past_of : List RowNeed → Option Short
 past_of needs = option_map past_short (find is_past needs)
 
@@ -65,7 +65,7 @@ is_met n = nat_le n.need 10000 && (n.has == n.need * 1000)
 
 -- ---- jitters that are enough
 
--- the links ask for no more than their lines
+-- at each port, the links that lead there ask for no more than its line
 abbrev pub KeepsToLines : Network → Type 0
 KeepsToLines net = All (λ t. All (λ p. (load_of t.latency p.speed p.id t.links).rate ≤ parts) t.ports) net.tables
 
@@ -73,8 +73,8 @@ KeepsToLines net = All (λ t. All (λ p. (load_of t.latency p.speed p.id t.links
 abbrev pub IsWhole : Network → Type 0
 IsWhole net = All (λ r. r.link.jitter % 1000 ≡ 0) (rows_of net)
 
--- a network that differs from this one in its jitters alone, and not in those of the rows that end systems feed, has jitters that are
--- enough, as tables can have them
+-- the other network differs from this one in its jitters alone, and not in those of the rows that end systems feed. Its jitters are
+-- enough, and tables can have them
 pub record Suffices (net other : Network) : Type 0 where
   pub alike : DiffersInJitters net other
   pub sources : AllZip (λ r s. IsSource net r → s.link.jitter ≡ r.link.jitter) (rows_of net) (rows_of other)
@@ -88,9 +88,9 @@ IsBelow net other = AllZip (λ r s. r.link.jitter ≤ s.link.jitter) (rows_of ne
 
 -- ---- what is promised
 
--- these are the needs of all rows of a network that differs from this one in its jitters alone. Where none is past what a table can
--- have, each row has what it needs, so that the check accepts that network's jitters; and where this network fits and keeps to its lines,
--- these are the least that are enough, or none are
+-- these are the needs of all rows of a network that differs from this one in its jitters alone. If none is past what a table can
+-- have, each row has what it needs, so that the check accepts that network's jitters. If this network fits and keeps to its lines, these are
+-- the least that are enough, or none are enough
 pub record AreNeeds (net : Network) (needs : List RowNeed) (past : Option Short) : Type 0 where
   pub turn : Network
   pub alike : DiffersInJitters net turn

@@ -60,7 +60,7 @@ pub record IsRowOf (n : ℕ) (tables : List Content) (r : Row) : Type 0 where
   pub table_is : slice_get tables place ≡ Some table
   pub known : Contains table.links r.link
 
--- the rows of its first switch that lead to a wire
+-- the rows that lead to a wire, at the switch where it begins
 abbrev pub rows_on : Network → Wire → List Row
 rows_on net w = filter (λ r. leads_to w.from.port r.link) (filter (λ r. is_end (record { switch = r.switch; port = w.from.port }) w.from) (rows_of net))
 
@@ -103,12 +103,12 @@ source_of r (b ∷ more) = source_of b.row more
 abbrev pub stamp_rounding : ℕ
 stamp_rounding = 999
 
--- at this port of the switch frames come one after the other, to within so many nanoseconds, where that is known: what comes over a wire
--- exactly, and what an end system sends where the file says that it has one line
+-- at this port of the switch frames come one after the other, to within so many nanoseconds, if that is known: what comes over a wire
+-- exactly, and what an end system sends to within the rounding of stamps, if the file says that it has one line
 abbrev pub rounding_at : Network → (switch port : ℕ) → Option ℕ
 rounding_at net switch port = if is_wired net switch port then Some 0 else if net.layout.one_line then Some stamp_rounding else None
 
--- the least time that a switch is said to take; 0 where it is not known
+-- the least time that a switch is said to take; 0 if none is stated
 abbrev pub stated_least : Network → (switch : ℕ) → ℕ
 stated_least net switch = option_map_or (λ s. s.least) (slice_get net.layout.switches switch) 0
 
@@ -119,7 +119,7 @@ least_at net switch t = min (stated_least net switch) t.latency
 abbrev pub scatter_at : Network → (switch : ℕ) → Content → ℕ
 scatter_at net switch t = t.latency - least_at net switch t
 
--- the load of a port of the switch, where frames that are known to come one after the other are counted so
+-- the load of a port of the switch, in which frames that are known to come one after the other are counted so
 abbrev pub load_at : Network → (switch : ℕ) → Content → PortRow → Load
 load_at net switch t p = lesser_load (scatter_at net switch t) (rounding_at net switch) t p
 
@@ -132,7 +132,7 @@ bound_in bounds Low = bounds.low
 abbrev pub bound_at : Network → Row → PortRow → Option ℕ
 bound_at net r p = option_and_then (λ t. bound_in (bounds_of (load_at net r.switch t p)) r.link.priority) (slice_get net.tables r.switch)
 
--- these are the delays from the arrival at the source's switch to that at the row's switch, where rows have these bounds at ports
+-- these are the delays from the arrival at the source's switch to that at the row's switch, if rows have these bounds at ports
 abbrev pub AreDelaysBy : (Row → PortRow → Option ℕ) → Network → List Back → Delays → Type 0
 AreDelaysBy bound_of net [] d = d ≡ at_once
 AreDelaysBy bound_of net (b ∷ more) d =

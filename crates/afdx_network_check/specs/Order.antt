@@ -92,7 +92,7 @@ same_terms at l next = do
   unless (not (same_police next.police l.police)) (fault.Police at l.id)
 
 -- a row that leads to a wire, and the row of that number at its end: that it is there, that it has the link come in from the wire, or
--- that both police alike
+-- that both have one greatest size, one gap and one kind of policing
 abbrev pub agrees : Shared → At → Wire → Link → Link → Answer
 agrees shared.Number at w l next = Ok tt
 agrees shared.Port at w l next = if next.from == w.to.port then Ok tt else Err (fault.From at l.id)
@@ -117,11 +117,11 @@ shares net what at w = all_go_on what at w (slice_get net.tables w.from.switch) 
 abbrev pub most_rows : ℕ
 most_rows = 64
 
--- the row, where it leads to the port
+-- the row, if it leads to the port
 abbrev pub leading : ℕ → Row → Option Row
 leading port r = if leads_to port r.link then Some r else None
 
--- the row that sends a link on a wire; none where the link does not come on it
+-- the row that sends a link on a wire; none, if the link does not come on it
 abbrev pub row_before : Network → ℕ → Wire → Option Row
 row_before net id w = option_and_then (leading w.from.port) (row_at net w.from.switch id)
 
@@ -155,7 +155,7 @@ each_once before (id ∷ ids) = unless (list_any (λ n. n == id) before) (fault.
 unfoldable pub lost_port : List Content → List Wire → Answer
 lost_port tables wires = by_wires (has_ports tables) 0 wires
 
--- the first switch that is said to take at least more than its table's latency; n come before these
+-- the first switch whose least time is said to be more than its table's latency; n come before these
 abbrev pub lost_latency : Network → ℕ → List Content → Answer
 lost_latency net n [] = Ok tt
 lost_latency net n (t ∷ ts) = unless (nat_lt t.latency (stated_least net n)) (fault.Latency n) >>= λ _. lost_latency net (n + 1) ts
@@ -172,12 +172,12 @@ misfit net = do
 
 -- ---- loads
 
--- the load of the switch with this number before it
+-- the fault of the load of a switch, if it has one; n switches come before it
 abbrev pub load_fits : ℕ → Option LoadFault → Answer
 load_fits n None = Ok tt
 load_fits n (Some why) = Err (fault.Load n why)
 
--- by switch, of which n come before these, each where its latencies may differ so much
+-- by switch, of which n come before these, each with latencies that may differ so much
 abbrev pub tables_fit : Network → ℕ → List Content → Answer
 tables_fit net n [] = Ok tt
 tables_fit net n (t ∷ ts) = load_fits n (first_scattered_fault (scatter_at net n t) t.latency t.links t.ports) >>= λ _. tables_fit net (n + 1) ts
@@ -187,7 +187,7 @@ loads_fit net = lost_latency net 0 net.tables >>= λ _. tables_fit net 0 net.tab
 
 -- ---- jitters
 
--- a bound; no table that is accepted has one of more than a thousand seconds
+-- a bound, if it is at most a thousand seconds; no table that is accepted has a greater one
 abbrev pub within_reason : ℕ → Option ℕ
 within_reason bound = if nat_le bound 1000000000000 then Some bound else None
 
@@ -211,12 +211,12 @@ abbrev pub way_within : ℕ → Network → Row → Delays → Option (ℕ × De
 way_within zero net r after = None
 way_within (suc n) net r after = way_by (way_within n net) net r after (wire_to net (ingress r))
 
--- the row and what it has, where that is less than it needs
+-- the row, what it has and what it needs, if it has less than that
 abbrev pub short_by : Row → (need : ℕ) → Option Short
 short_by r need =
     if nat_lt (r.link.jitter / 1000) need then Some (record { switch = r.switch; link = r.link.id; need = need; has = r.link.jitter / 1000 }) else None
 
--- after the whole way to it; there is one where the tables fit together and are accepted
+-- after the whole way to it; there is one if the tables fit together and are accepted
 abbrev pub short_after : Row → (far : Option (ℕ × Delays)) → Result (Option Short) NetworkFault
 short_after r None = Err (fault.NoSource r.switch r.link.id)
 short_after r (Some far) = Ok (short_by r (least_jitter far.1 far.0))

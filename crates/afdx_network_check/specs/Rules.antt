@@ -44,7 +44,7 @@ pub record HasJitters (net : Network) : Type 0 where
   pub enough : (r : Row) (backs : List Back) (d : Delays) → Contains (rows_of net) r → IsWayBack net r backs → AreDelays net backs d
       → IsEnough d (source_of r backs).link.jitter r.link.jitter
 
--- a switch is said to take at least no more than its table's latency, and is accepted where its latencies may differ so much
+-- the least time that a switch is said to take is at most its table's latency, and the table is accepted with latencies that may differ so much
 pub record FitsSwitch (net : Network) (switch : ℕ) (t : Content) : Type 0 where
   pub latency : stated_least net switch ≤ t.latency
   pub accepted : IsAcceptedWith (scatter_at net switch t) t

@@ -37,19 +37,20 @@ exits_of net = flat_map (exits_at net) (rows_of net)
 abbrev pub by_link : Exit → Exit → Ordering
 by_link x y = ordering_then (nat_cmp x.link y.link) (ordering_then (nat_cmp x.switch y.switch) (nat_cmp x.port y.port))
 
--- the line behind an exit, which is no wire of the network: its delay is not counted
+-- the line after an exit, which is no wire of the network: its delay is not counted
 abbrev pub line_of : Exit → Wire
 line_of x = record { from = end_of x; to = end_of x; delay = 0; down = false }
 
 -- ---- ways
 
--- the jitters in whole microseconds that a link needs at the switches of these stages, the last one first, where its source has this jitter
+-- the jitters in whole microseconds that a link needs at the switches of these stages if its source has this jitter. The stages are given
+-- with the last one first, the jitters with the first one first
 abbrev pub AreNeedsOn : Network → (first : ℕ) → List Back → List ℕ → Type 0
 AreNeedsOn net first [] needs = needs ≡ []
 AreNeedsOn net first (b ∷ more) needs =
     (d : Delays) × (earlier : List ℕ) × AreDelays net more d × AreNeedsOn net first more earlier × (needs ≡ earlier ++ least_jitter d first ∷ [])
 
--- the way from a source over these stages, each a row and the line behind its port, the last one first
+-- the way from a source over these stages, each a row and the line after its port, the last one first
 pub record IsWayOver (net : Network) (source : Row) (stages : List Back) (w : Way) : Type 0 where
   pub link : w.link ≡ source.link.id
   pub from : w.from ≡ ingress source

@@ -53,7 +53,7 @@ greatest_text names w = codes "greatest " ++ decimal w.delays.most ++ codes " li
 abbrev pub lost_text : Names → Way → List ℕ
 lost_text names w = codes "link " ++ decimal w.link ++ codes " to " ++ end_text names (last_end w) ++ codes " none"
 
--- that it rests on what the network file says of end systems' lines
+-- the premise, if the report rests on what the network file says of end systems' lines
 abbrev pub premise_text : (one_line : Bool) → List ℕ
 premise_text one_line = if one_line then as_line (codes "premise one_line") else []
 

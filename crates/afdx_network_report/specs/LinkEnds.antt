@@ -14,7 +14,7 @@ use Rattle.afdx_network_report.specs.Lines.{Names, end_text, last_end}
 abbrev pub link_end_of : Way → LinkEnd
 link_end_of w = record { link = w.link; from = Some w.from; to = last_end w; bounds = Some w.delays }
 
--- a number, or - where there is none
+-- a number, or - if there is none
 abbrev pub number_text : Option ℕ → List ℕ
 number_text n = option_map_or decimal n (codes "-")
 

@@ -64,7 +64,8 @@ bound_of e = option_map (λ b. b.most) e.bounds
 abbrev pub come_in_field : Names → Option End → List ℕ
 come_in_field names from = option_map_or (end_text names) from []
 
--- under some columns, between these ports: how many frames left, what they took in nanoseconds, what they may take, and what the greatest left of that
+-- under some columns, between these ports: how many frames left, what they took in nanoseconds, what they may take, and what the greatest left of
+-- that, in nanoseconds and per mille
 abbrev pub end_fields : List (List ℕ) → List ℕ → List ℕ → LinkEnd → Delays → List ℕ
 end_fields columns from to e d = row columns ((codes "kind", codes "way") ∷ (codes "link", decimal e.link) ∷ (codes "from", from) ∷ (codes "to", to)
     ∷ (codes "sent", decimal d.count) ∷ (codes "least", optional (least_of d)) ∷ (codes "greatest", optional (greatest_of d))

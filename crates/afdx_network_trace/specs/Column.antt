@@ -7,7 +7,7 @@ abbrev pub number_or_none : Option ℕ → List ℕ
 number_or_none (Some number) = decimal number
 number_or_none None = []
 
--- the field of a line: the heading, or the number of the arrival of which it is the line
+-- the field of a line: the heading, or the number that the line's arrival had at its first switch; nothing, if this is its first
 abbrev pub field_of : (line : ℕ) → List (Option ℕ) → List ℕ
 field_of zero firsts = codes ",origin"
 field_of (suc line) firsts = codes "," ++ number_or_none (option_and_then (λ first. first) (slice_get firsts line))

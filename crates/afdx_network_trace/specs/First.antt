@@ -1,5 +1,5 @@
--- The numbers that frames had among the arrivals at their first switches (profile). A record at the end of a wire is the copy of as many
--- before it that left the wire's start.
+-- The numbers that frames had among the arrivals at their first switches (profile). The first record at the end of a wire is the
+-- first copy that left at its start, the second record is the second copy, and so on.
 use Rattle.std.specs.Prelude.{◌≡◌, ℕ, zero, suc, ◌<◌, ◌==◌, List, [], ◌∷◌, length, slice_get, slice_index_or, Option, Some, None, option_map, option_and_then}
 use Rattle.std.specs.List.{count_by}
 use Rattle.afdx_table.specs.Content.{port_row}
@@ -18,11 +18,11 @@ place_of before row = count_by (λ other. other.in_port == row.in_port) before
 abbrev pub places_of : List Row → List ℕ
 places_of rows = each_after (λ before row. place_of before row ∷ []) [] rows
 
--- that of the arrival of a number at a switch
+-- that of the arrival with this number at a switch
 abbrev pub place_at : List State → (switch number : ℕ) → Option ℕ
 place_at runs switch number = option_and_then (λ s. slice_get (places_of s.run.rows) number) (slice_get runs switch)
 
--- the wire over which it came
+-- that arrival, and the wire over which it came
 abbrev pub row_at : List State → (switch number : ℕ) → Option Row
 row_at runs switch number = option_and_then (λ s. slice_get s.run.rows number) (slice_get runs switch)
 
@@ -46,7 +46,7 @@ abbrev pub first_by : (ℕ → ℕ → Option ℕ) → List State → (switch nu
 first_by further runs switch number None = None
 first_by further runs switch number (Some w) = option_map (λ own. first_or own (further w.from.switch own)) (number_before runs w switch number)
 
--- none where it came to its first switch here
+-- none, if this is its first switch
 abbrev pub first_within : ℕ → Network → List State → (switch number : ℕ) → Option ℕ
 first_within zero net runs switch number = None
 first_within (suc n) net runs switch number = first_by (first_within n net runs) runs switch number (wire_of net runs switch number)

@@ -29,14 +29,14 @@ after_sending e x o = record { net = o.net; sent = o.sent ++ record { from = e; 
 
 -- ---- where a frame came from
 
--- a copy that left at the start of a wire so long before another one's frame came, and the row of its link there
+-- a hop back over a wire: the wire, the row of the link at its start, and the copy that left there
 pub record Hop : Type 0 where
   pub wire : Wire
   pub row : Row
   pub copy : Sent
 
--- the frame of a copy that was sent for a row had come to its first switch at this instant: where no wire goes to the row's port, when it
--- came there; else a copy of the link left at the wire's start, so much earlier as the wire takes, and its frame had come at that instant
+-- the frame of a copy that was sent for a row had come to its first switch at this instant. If no wire goes to the row's port, it came there
+-- then; else a copy of the link left at the wire's start, earlier by what the wire takes, and that copy's frame had come so at this instant
 abbrev pub CameOver : Network → List Departure → Row → Sent → List Hop → ℕ → Type 0
 CameOver net sent r x [] first = IsSource net r × (x.item.stamp ≡ first)
 CameOver net sent r x (h ∷ hops) first =

@@ -29,7 +29,7 @@ abbrev pub NothingEndsBefore : Type 0
 NothingEndsBefore = (s : Settings) (t : ℕ) (items : List Item) → (rest : List Sent) × (sent_of (service s 0 items) ≡ sent_of (before t (service s 0 items)) ++ rest)
     × AllByRecursion (λ x. t + cost_of s.speed x.item.size ≤ x.end) rest
 
--- where so many frames are all that leaves a port up to an instant, each further one leaves at least one latency and the line time of the
+-- if no more than so many frames leave a port up to an instant, each further one leaves at least one latency and the line time of the
 -- least frame later
 abbrev pub NothingLeavesBefore : Type 0
 NothingLeavesBefore = (v : Paced) (p : PortRow) (h k : ℕ) (r : Record) → length (out_up_to v (Some h) p) ≤ k
@@ -45,12 +45,12 @@ abbrev pub LaterRecordsSendNothing : Type 0
 LaterRecordsSendNothing = (v : Paced) (port : ℕ) (frame : Record) (h : ℕ) (p : PortRow) → h ≤ frame.stamp
     → sends_up_to (after_put port frame v) (Some h) p ≡ sends_up_to v (Some h) p
 
--- what is sent up to an instant comes first of what is sent up to a later one, and of all
+-- what is sent up to an instant is the first part of what is sent up to a later one, and of all
 pub record SendsGoOn : Type 0 where
   pub until : (v : Paced) (h n : ℕ) (p : PortRow) → h ≤ n → (rest : List Sent) × (sends_up_to v (Some n) p ≡ sends_up_to v (Some h) p ++ rest)
   pub in_the_end : (v : Paced) (h : ℕ) (p : PortRow) → (rest : List Sent) × (sends_up_to v None p ≡ sends_up_to v (Some h) p ++ rest)
 
--- what leaves up to an instant comes first of what leaves up to a later one, and of all
+-- what leaves up to an instant is the first part of what leaves up to a later one, and of all
 pub record OutGoesOn : Type 0 where
   pub until : (v : Paced) (h n : ℕ) (p : PortRow) → h ≤ n → (rest : List Record) × (out_up_to v (Some n) p ≡ out_up_to v (Some h) p ++ rest)
   pub in_the_end : (v : Paced) (h : ℕ) (p : PortRow) → (rest : List Record) × (out_up_to v None p ≡ out_up_to v (Some h) p ++ rest)

@@ -41,7 +41,7 @@ captures_of lanes = map capture_of lanes
 abbrev pub arrivals : Paced → List Arrival
 arrivals v = merged (captures_of v.lanes)
 
--- what a port sends of what came in, as far as it starts before what an instant reaches; all where there is none
+-- what a port sends of what came in, as far as it starts before what an instant reaches; all, if there is none
 abbrev pub sends_up_to : Paced → Option ℕ → PortRow → List Sent
 sends_up_to v h p = sent_up_to v.table (arrivals v) h p
 
@@ -57,7 +57,7 @@ fresh_paced keeps t = record { table = t; lanes = map fresh_lane t.ports; reache
 
 -- ---- what calls do
 
--- the lanes where that of a port is another
+-- the lanes, with that of a port changed
 abbrev pub changed : ℕ → (Lane → Lane) → List Lane → List Lane
 changed port f [] = []
 changed port f (l ∷ lanes) = if l.port == port then f l ∷ lanes else l ∷ changed port f lanes
@@ -116,7 +116,7 @@ abbrev pub IsNextOut : Paced → Paced → ℕ → Option Record → Type 0
 IsNextOut old new port None = NoneGoesOut old new port
 IsNextOut old new port (Some out) = GoesOut old new port out
 
--- what the next record of a port was sent as: of what it sends up to the instant, what comes behind as many as left so far
+-- what the next record of a port was sent as: of what it sends up to the instant, what comes after as many as left so far
 abbrev pub IsNextSent : Paced → ℕ → Option Sent → Type 0
 IsNextSent v port next = (lane : Lane) (row : PortRow) → lane_at v port ≡ Some lane → port_row v.table port ≡ Some row
     → next ≡ slice_get (sends_up_to v (Some v.reached) row) (length lane.left)
@@ -125,7 +125,7 @@ IsNextSent v port next = (lane : Lane) (row : PortRow) → lane_at v port ≡ So
 abbrev pub IsQuietUntil : Paced → Option ℕ → Type 0
 IsQuietUntil v h = (p : PortRow) → Contains v.table.ports p → out_up_to v h p ≡ out_up_to v (Some v.reached) p
 
--- such an instant, which it has not passed; where there is none, nothing is left
+-- such an instant, which it has not passed; if there is none, nothing is left
 abbrev pub IsNext : Paced → Option ℕ → Type 0
 IsNext v None = IsQuietUntil v None
 IsNext v (Some n) = (v.reached ≤ n) × IsQuietUntil v (Some n)

@@ -1,4 +1,4 @@
--- Which records left a port for a link, and which frames they are, where recordings begin and end somewhere (profile).
+-- Which records left a port for a link, and which frames they are, if recordings begin and end somewhere (profile).
 use Rattle.std.specs.Prelude.{◌≡◌, ℕ, ◌+◌, ◌<◌, ◌≤◌, Bool, true, false, List, [], ◌∷◌, ◌++◌, map, length, Option, Some, None}
 use Rattle.std.specs.List.{AllByRecursion, AllZip}
 use Rattle.afdx_units.specs.Line.{size_of, cost_of}
@@ -21,7 +21,7 @@ pub record IsInBound (m : Limits) (came left : Record) : Type 0 where
 abbrev pub Apart : Limits → List Record → Record → Type 0
 Apart m own left = AllByRecursion (λ f. came_within m 2 f left ≡ false) own
 
--- a frame may leave after the instant at which the records end; not where all had left
+-- a frame may leave after the instant at which the records end; not if all had left
 abbrev pub MayCome : Limits → Option ℕ → Record → Type 0
 MayCome m None f = ⊥
 MayCome m (Some last) f = last < f.stamp + most_of m
@@ -29,9 +29,9 @@ MayCome m (Some last) f = last < f.stamp + most_of m
 abbrev pub bytes_of : List Record → List (List ℕ)
 bytes_of records = map (λ r. r.bytes) records
 
--- of a link's own frames, and of those that its account passed, these records are what left a port: but for some at the beginning, which
--- may be of frames that came before, and some frames at the end, which may leave later, they are one by one the passed frames in
--- their order, each within its bounds
+-- these records are what left a port of a link's own frames, of which its account passed some: they are the passed frames one by one, in
+-- their order, each within its bounds. But some records at the beginning may be of frames that came before, and some passed frames at
+-- the end may leave later
 pub record IsKeptFor (m : Limits) (last : Option ℕ) (own passed out : List Record) : Type 0 where
   pub before : List Record
   pub seen : List Record
@@ -73,8 +73,8 @@ left_of (Came n passes ∷ sights) = left_of sights
 left_of (Left n ∷ sights) = n.frame ∷ left_of sights
 left_of (Until at ∷ sights) = left_of sights
 
--- no record comes before a frame that came before the record left, nor before a record that left before it, nor after the instant before
--- which nothing leaves any more
+-- a record is taken after all frames that came before it left, and after all records that left before it. After an instant before which
+-- nothing leaves any more, no record is taken that left before it
 abbrev pub AreInOrder : Limits → List Sight → Type 0
 AreInOrder m [] = Unit {0}
 AreInOrder m (Came n passes ∷ sights) = AreInOrder m sights
@@ -110,7 +110,7 @@ all_told p last sights = told_by_all p sights ++ end_told (after_all p sights) l
 abbrev pub IsFine : Event → Type 0
 IsFine e = differs e ≡ false
 
--- where nothing speaks against it, the records are what left of the frames
+-- if nothing speaks against it, the records are what left of the frames
 abbrev pub FineIsKept : Type 0
 FineIsKept = (m : Limits) (last : Option ℕ) (sights : List Sight) → AreInOrder m sights
     → AllByRecursion IsFine (all_told (at_first m) last sights) → IsKeptFor m last (own_of sights) (passed_of sights) (left_of sights)

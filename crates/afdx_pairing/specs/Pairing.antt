@@ -25,14 +25,14 @@ at_first m = record { limits = m; waiting = []; policed = []; begun = false }
 
 -- ---- a frame came
 
--- it waits where the account passed it
+-- it waits if the account passed it
 abbrev pub with_frame : Pairing → Numbered → Bool → Pairing
 with_frame p n true = record p { waiting = p.waiting ++ n ∷ [] }
 with_frame p n false = record p { policed = p.policed ++ n ∷ [] }
 
 -- ---- a record left
 
--- frames that came more than twice the bound before an instant are no longer of what leaves then
+-- how many frames came more than twice the bound before an instant: no record that leaves from then on is of them
 abbrev pub gone_by : Limits → ℕ → List Numbered → ℕ
 gone_by m at ns = position_or_len (λ n. stays m at n.frame) ns
 
@@ -53,8 +53,8 @@ taken_for m came left =
     else if is_late m came.frame left.frame then Late pair
     else Kept pair
 
--- and without one: it may have come before the recording where it left soon after it began, none was paired before it, and it has the
--- bytes of no frame that was policed then
+-- and without one: it may be of a frame from before the recording if it left soon after that began, none was paired before it, and it has
+-- the bytes of no frame that was policed then; else it is extra
 abbrev pub taken_alone : Pairing → Numbered → Event
 taken_alone p left =
     if not p.begun && nat_lt (left_at p.limits left.frame) p.limits.before && not (list_any (λ n. came_within p.limits 2 n.frame left.frame) p.policed)
@@ -95,7 +95,7 @@ left_told p left =
 
 -- ---- the end
 
--- what becomes of a frame that waits where records ended at an instant, or where all had left
+-- what becomes of a frame that waits if records ended at an instant, or if all had left
 abbrev pub ended : Limits → Option ℕ → Numbered → Event
 ended m None n = Missing (mark_of n)
 ended m (Some last) n = if nat_lt last (n.frame.stamp + most_of m) then After (mark_of n) else Missing (mark_of n)

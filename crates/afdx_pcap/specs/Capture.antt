@@ -66,7 +66,7 @@ stamp_of resolution h = h.seconds * second + h.fraction * nanos resolution
 abbrev pub greatest_seconds : ℕ
 greatest_seconds = 4294967294
 
--- the bytes begin with this record, which follows one of the stamp last;
+-- the bytes begin with this record, which follows one with the stamp `last`;
 -- profile: the limit, no stamp in the last second, and no stamp below the one before
 pub record Begins (f : Format) (last : ℕ) (bytes : List ℕ) (r : Record) : Type 0 where
   pub whole : 16 + length r.bytes ≤ length bytes

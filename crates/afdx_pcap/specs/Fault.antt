@@ -1,4 +1,4 @@
--- What is wrong with a file that is no capture. The rules are those of the grammar; which of them is the fault where
+-- What is wrong with a file that is no capture. The rules are those of the grammar; which of them is the fault if
 -- several are broken is profile.
 use Rattle.std.specs.Prelude.{◌≡◌, ℕ, ◌+◌, ◌<◌, List, [], ◌∷◌, length, drop, Option, Some, None, Ok, Err, ◌⊎◌, nat_lt, nat_le, if◌then◌else◌, Bool, true, false}
 use Rattle.std.specs.Option.{option_or}
@@ -25,7 +25,7 @@ head_fault resolution last n h =
 abbrev pub data_fault : ℕ → Head → ℕ → Option PcapFault
 data_fault n h left = if nat_lt left (16 + h.captured) then Some (CutData n) else None
 
--- the first thing that is wrong with the nth record, where these bytes are all that is left
+-- the first thing that is wrong with the nth record, if these bytes are all that is left
 unfoldable pub record_fault : Format → ℕ → ℕ → List ℕ → Option PcapFault
 record_fault f last n bytes =
     if nat_lt (length bytes) 16 then Some (CutHeader n)
@@ -35,7 +35,7 @@ record_fault f last n bytes =
 
 -- ---- files
 
--- the stamp of the last of these records, or the one before them where there are none
+-- the stamp of the last of these records, or the one before them if there are none
 abbrev pub last_stamp : ℕ → List Record → ℕ
 last_stamp last [] = last
 last_stamp last (r ∷ rs) = last_stamp r.stamp rs
@@ -54,7 +54,7 @@ IsFault bytes fault =
     (header_of bytes ≡ Err fault)
     ⊎ ((f : Format) × (header_of bytes ≡ Ok f) × Breaks f (drop 24 bytes) fault)
 
--- a fault that more bytes may mend: it is found only where the input ends
+-- a fault that more bytes may mend: it is found only if the input has ended
 abbrev pub is_cut : PcapFault → Bool
 is_cut Memory = false
 is_cut NoHeader = true

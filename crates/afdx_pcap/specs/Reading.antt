@@ -41,7 +41,7 @@ IsNext bytes n r =
 abbrev pub HasNext : List ℕ → ℕ → Type 0
 HasNext bytes n = (r : Record) × IsNext bytes n r
 
--- the bytes begin with a header and these whole records, where there are any
+-- the bytes begin with a header and these whole records, if there are any
 abbrev pub AreFirst : List ℕ → List Record → Type 0
 AreFirst bytes [] = Unit {0}
 AreFirst bytes (r ∷ rs) = (rest : List ℕ) × Holds bytes (r ∷ rs) rest
@@ -59,13 +59,13 @@ taking_on t = record t { given = t.given + 1 }
 abbrev pub NoNext : List ℕ → ℕ → Type 0
 NoNext bytes n = (r : Record) → IsNext bytes n r → ⊥
 
--- nothing is wrong after n records: they are the capture, where the input has ended; while it is open,
+-- nothing is wrong after n records: they are the capture, if the input has ended; while it is open,
 -- whatever is wrong may still be mended
 abbrev pub IsSound : List ℕ → ℕ → Bool → Type 0
 IsSound bytes n true = (rs : List Record) × IsCapture bytes rs × (length rs ≡ n)
 IsSound bytes n false = (fault : PcapFault) → IsEarlyFault bytes fault → ⊥
 
--- what is wrong: the fault, where the input has ended; while it is open, only an early one
+-- what is wrong: the fault, if the input has ended; while it is open, only an early one
 abbrev pub IsWrong : List ℕ → Bool → PcapFault → Type 0
 IsWrong bytes true fault = IsFault bytes fault
 IsWrong bytes false fault = IsEarlyFault bytes fault
@@ -76,7 +76,7 @@ Answers bytes n closed (Ok (Some r)) = IsNext bytes n r
 Answers bytes n closed (Ok None) = NoNext bytes n × IsSound bytes n closed
 Answers bytes n closed (Err fault) = fault ≢ Memory → NoNext bytes n × IsWrong bytes closed fault
 
--- the answer where there is no next record: the fault, or none
+-- the answer if there is no next record: the fault, or none
 abbrev pub answer_without : Option PcapFault → Result (Option Record) PcapFault
 answer_without None = Ok None
 answer_without (Some fault) = Err fault

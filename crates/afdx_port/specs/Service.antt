@@ -40,21 +40,21 @@ came s item = reach s item.stamp
 abbrev pub is_urgent : Settings → ℕ → Item → Bool
 is_urgent s b item = is_high item.priority && nat_le (came s item) b
 
--- ARINC 664 Part 7: the place of the item whose turn it is at b: the first urgent one, or the first of all where there is none
+-- ARINC 664 Part 7: the place of the item whose turn it is at b: the first urgent one, or the first of all if there is none
 abbrev pub turn : Settings → ℕ → List Item → ℕ
 turn s b items = unwrap_or (position (is_urgent s b) items) 0
 
--- the item whose turn it is, where the line is free from `free` on and `first ∷ rest` wait; profile: at one instant the ends
+-- the item whose turn it is, if the line is free from `free` on and `first ∷ rest` wait; profile: at one instant the ends
 -- come first, then the arrivals, then the starts, so what is queued at the instant of the start takes part
 abbrev pub in_turn : Settings → ℕ → Item → List Item → Item
 in_turn s free first rest = slice_index_or (first ∷ rest) (turn s (max free (came s first)) (first ∷ rest)) first
 
--- profile: what becomes of x at b: it is discarded where it has waited longer than max_delay, and takes no line time; else it is
+-- profile: what becomes of x at b: it is discarded if it has waited longer than max_delay, and takes no line time; else it is
 -- sent, and the line is free again after its line time
 abbrev pub fate : Settings → ℕ → Item → Event
 fate s b x = if nat_lt s.max_delay (b - x.stamp) then aging (record { item = x; at = b }) else sending (record { item = x; begin = b; end = b + cost_of s.speed x.size })
 
--- the next event: it lies where the line is free and the first of all has come
+-- the next event: it lies at the first instant at which the line is free and the first of all has come
 unfoldable pub next : Settings → ℕ → Item → List Item → Event
 next s free first rest = fate s (max free (came s first)) (in_turn s free first rest)
 
@@ -69,7 +69,7 @@ serve (suc count) s free [] = []
 serve (suc count) s free (first ∷ rest) =
     next s free first rest ∷ serve count s (free_after (next s free first rest)) (others s free first rest)
 
--- all events of the items, whose stamps do not fall, where the line is free from `free` on
+-- all events of the items, whose stamps do not fall, if the line is free from `free` on
 abbrev pub service : Settings → ℕ → List Item → List Event
 service s free items = serve (length items) s free items
 

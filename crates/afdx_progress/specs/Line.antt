@@ -13,7 +13,7 @@ unit_of bytes = if nat_lt bytes 1000000000 then codes "MB" else codes "GB"
 abbrev pub tenths : ℕ → ℕ → List ℕ
 tenths tenth bytes = decimal (bytes / tenth / 10) ++ codes "." ++ decimal (bytes / tenth % 10)
 
--- what was read, of the whole where it is known
+-- what was read, of the whole if that is known
 abbrev pub amount_of : ℕ → Option ℕ → List ℕ
 amount_of read None = tenths (tenth_of read) read ++ codes " " ++ unit_of read
 amount_of read (Some whole) = tenths (tenth_of whole) read ++ codes " of " ++ tenths (tenth_of whole) whole ++ codes " " ++ unit_of whole

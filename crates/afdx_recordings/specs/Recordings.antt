@@ -27,7 +27,7 @@ is_recorded outputs port = unwrap_or (slice_get outputs.by_port port) false
 
 -- ---- what texts say
 
--- the parts of a text, which commas part
+-- the parts of a text, between its commas
 abbrev pub parts_of : Text → List Text
 parts_of text = slice_split (λ b. b == 44) text
 
@@ -47,7 +47,7 @@ pub record Says (text : Text) (port : ℕ) (offset : ℤ) : Type 0 where
 abbrev pub no_offsets : Offsets
 no_offsets = record { by_port = replicate 25 (pos 0) }
 
--- the same offsets, but for those at one port
+-- the same offsets, but for that of one port
 abbrev pub with_offset : Offsets → ℕ → ℤ → Offsets
 with_offset offsets port offset = record { by_port = slice_set offsets.by_port port offset }
 

@@ -1,4 +1,4 @@
--- What is found out of recordings in folders, and what is put of it (profile).
+-- What is found out from recordings in folders, and what is put of it (profile).
 use Rattle.std.specs.Prelude.{◌≡◌, ◌⊎◌, ℕ, ◌-◌, Bool, true, false, codes, List, [], ◌∷◌, ◌++◌, map, flat_map, length, Option, Some, is_some, option_to_list, string_bytes}
 use Rattle.std.specs.Prelude.{if◌then◌else◌}
 use Rattle.afdx_pcap.specs.declared.fault.PcapFault.{PcapFault}
@@ -46,13 +46,13 @@ recording_names c r t = names_of c r.outputs t.ports
 
 -- ---- what is found out
 
--- of the captures under these names, which readers give that give exactly these texts
+-- from the captures under these names, if readers give exactly their texts
 pub record IsFoundUnder (names : List (List ℕ)) (t : Content) (r : Recordings) (keeping : Bool) (files : Option Files) (from until : ℕ) (found : Comparison) : Type 0 where
   pub texts : List (List ℕ)
   pub shown : ShowsAll files names texts
   pub is_found : IsFound (λ (text : List ℕ). Some text) t r keeping texts from until found
 
--- of the files: differences are kept where a folder is named for them
+-- from the files: differences are kept if a folder is named for them
 abbrev pub IsFoundIn : Compare → Recordings → Option Files → ℕ → ℕ → Comparison → Type 0
 IsFoundIn c r files from until found =
     (t : Content) × HasVaryingTable files c.table.now r t × IsFoundUnder (recording_names c r t) t r (is_some c.rows) files from until found
@@ -63,14 +63,14 @@ IsFoundIn c r files from until found =
 abbrev pub rows_name : List ℕ → List ℕ
 rows_name folder = folder ++ codes "/differences.csv"
 
--- one file where a folder is named, and else none
+-- one file if a folder is named, and else none
 abbrev pub rows_names : Compare → List (List ℕ)
 rows_names c = map (λ folder. rows_name folder.now) (option_to_list c.rows)
 
 abbrev pub rows_texts : Compare → Recordings → Comparison → List (List ℕ)
 rows_texts c r found = map (λ folder. differences_of r found) (option_to_list c.rows)
 
--- what was found out of the files was put
+-- what was found out from the files was put
 abbrev pub PutsRows : Compare → Recordings → Option Files → Option Files → DeviceLog → DeviceLog → ℕ → ℕ → Comparison → Type 0
 PutsRows c r old new before after from until found =
     IsFoundIn c r old from until found × PutsFiles old new (rows_names c) (rows_texts c r found) × (after ≡ settled_after (length (rows_names c)) before)
@@ -82,7 +82,7 @@ abbrev pub FailsToGetVarying : Failure → Option Files → List ℕ → Recordi
 FailsToGetVarying (failure.Load fault) files path r before after = HasFaultyTable files path r fault × (after ≡ before)
 FailsToGetVarying f files path r before after = FailsToRead f files path before after
 
--- of the captures under these names one of what left, or of what came, at a port is the first that is none, and has this fault
+-- of the files under these names, that of what left, or of what came, at a port is the first that is no capture, and has this fault
 pub record IsFaultyUnder (names : List (List ℕ)) (t : Content) (r : Recordings) (files : Option Files) (leaves : Bool) (port : ℕ) (why : PcapFault) : Type 0 where
   pub texts : List (List ℕ)
   pub shown : ShowsAll files names texts
@@ -96,7 +96,7 @@ FailsUnder (failure.OutputCapture port why) names t r files before after = IsFau
 FailsUnder failure.Memory names t r files before after = Unit {0}
 FailsUnder _ names t r files before after = ⊥
 
--- nothing is found out of the files
+-- nothing is found out from the files
 abbrev pub FailsToFind : Failure → Compare → Recordings → Option Files → DeviceLog → DeviceLog → Type 0
 FailsToFind f c r files before after =
     FailsToGetVarying f files c.table.now r before after
@@ -104,7 +104,7 @@ FailsToFind f c r files before after =
 
 -- ---- why it is not put
 
--- what was put before this name
+-- what comes before this name was put
 abbrev pub StopsRows : List ℕ → Compare → Recordings → Option Files → Option Files → Type 0
 StopsRows name c r old new =
     (from until : ℕ) × (found : Comparison) × IsFoundIn c r old from until found × StopsAt name (rows_names c) (rows_texts c r found) old new

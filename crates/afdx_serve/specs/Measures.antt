@@ -40,7 +40,7 @@ measures_text Csv promised r = heading measure_columns ++ measures_rows measure_
 abbrev pub MeasuresTo : Form → Inputs → Option Files → List ℕ → Type 0
 MeasuresTo form inputs files text = (tally : Tally) × (done : State) × IsMeasured inputs files tally done × (text ≡ measures_text form (not inputs.unchecked) done.run)
 
--- what is written of it beside its counts: the report of `run`, and then what was measured
+-- what is written of it and of its counts: the report of `run`, and then what was measured, and when links were policed and frames came
 abbrev pub survey_text : Form → Bool → Tally → Run → List ℕ
 survey_text Lines promised counts r = counts_text Lines counts ++ survey_of promised r
 survey_text Csv promised counts r = heading survey_columns ++ counts_rows survey_columns [] counts ++ survey_rows survey_columns promised r

@@ -107,7 +107,7 @@ FailsToGetGiven (failure.Network (network.Line port number name)) files path net
     × (string_bytes name ≡ name_of (names_of net.layout.switches) switch)) × (after ≡ before)
 FailsToGetGiven _ files path net before after = ⊥
 
--- a network was not accepted for a run, unless that is unchecked
+-- a network was not accepted for a run, which is not unchecked
 abbrev pub FailsToPlanNetwork : Failure → Bool → Network → Type 0
 FailsToPlanNetwork f unchecked net = (unchecked ≡ false) × FailsToAcceptNetwork f net
 

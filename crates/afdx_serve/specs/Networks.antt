@@ -94,7 +94,7 @@ NetworkVerdict = Result (List Short) NetworkFault
 abbrev pub judged : Network → NetworkVerdict
 judged net = misfit net >>= λ fits. shortages net
 
--- of a network that is there: a load, or else what comes then
+-- of a network that is there: the refusal of a load, or else that
 unfoldable pub verdict_of : Network → NetworkVerdict
 verdict_of net = loads_fit net >>= λ loads. judged net
 

@@ -124,7 +124,7 @@ FailsToGetAll (failure.Get name) files path t before after = GetsUpTo (string_by
 FailsToGetAll failure.Memory files path t before after = Unit {0}
 FailsToGetAll _ files path t before after = ⊥
 
--- a table was not taken for a run that is unchecked or not
+-- the load of a table was not accepted for a run, which is not unchecked
 abbrev pub FailsToPlan : Failure → Bool → Content → Type 0
 FailsToPlan (failure.Load fault) unchecked t = (unchecked ≡ false) × (first_fault t.latency t.links t.ports ≡ Some fault)
 FailsToPlan _ unchecked t = ⊥
@@ -174,7 +174,7 @@ EndsRun name paths old new before after =
     (results : Results) × LeadsTo paths old results
     × EndsAt name (names_in paths.output.now results.captures) (bytes_of_captures results.captures) old new before after
 
--- what the files of a run lead to was not put, where `Ends` says of a name that it failed, and `Stops` that the files before it were put
+-- what the files of a run lead to was not put; `Ends` says of a name that it failed, and `Stops` that the files before it were put
 abbrev pub FailsToEnd : (List ℕ → Type 0) → (List ℕ → Type 0) → Failure → Paths → Option Files → Option Files → DeviceLog → DeviceLog → Type 0
 FailsToEnd Ends Stops (failure.Put name) paths old new before after = Ends (string_bytes name)
 FailsToEnd Ends Stops failure.Memory paths old new before after = KeepsFiles old new ⊎ ((name : List ℕ) × Stops name)

@@ -153,7 +153,7 @@ SaysJitters form path net rows past old new = Reports (JittersAre form old.files
 abbrev pub GivesJitters : Form → List ℕ → World → World → Type 0
 GivesJitters form path old new = (net : Network) × (rows : List RowNeed) × SaysJitters form path net rows None old new
 
--- all were, and rows need more than a table can have; this is the first of those that are refused
+-- all were, and rows need more than a table can have: these are refused
 abbrev pub FailsPastJitters : Failure → Form → List ℕ → World → World → Type 0
 FailsPastJitters f form path old new =
     (net : Network) × (rows : List RowNeed) × (short : Short) × SaysJitters form path net rows (Some short) old new
@@ -233,16 +233,16 @@ PutsResults paths old new results =
     LeadsTo paths old.files results × PutsFiles old.files new.files (names_in paths.output.now results.captures) (bytes_of_captures results.captures)
     × (new.failed ≡ settled_after (length (names_in paths.output.now results.captures)) old.failed)
 
--- and this is their report; there is one of what the run is to fail on, or not
+-- and this is their report; there is something that the run is to fail on, or nothing
 abbrev pub RunsTo : Bool → Paths → RunOptions → World → World → List ℕ → Type 0
 RunsTo found paths options old new text =
     (results : Results) × PutsResults paths old new results × (text ≡ text_of options results.counts) × (is_found options.fail_on (verdict_of results.counts) ≡ found)
 
--- it was written, and there is none
+-- it was written, and there is nothing
 abbrev pub Runs : Paths → RunOptions → World → World → Type 0
 Runs paths options old new = Writes (RunsTo false paths options old new) old.written new.written
 
--- there is one, or why not all was done, and what was done
+-- there is something, or why not all was done, and what was done
 abbrev pub FailsToRunAll : Failure → Paths → RunOptions → World → World → Type 0
 FailsToRunAll failure.Found paths options old new = Writes (RunsTo true paths options old new) old.written new.written
 FailsToRunAll failure.Write paths options old new = (found : Bool) × WritesSome (RunsTo found paths options old new) old.written new.written
@@ -264,7 +264,7 @@ FailsToSurvey f form inputs old new = FailsToReport f (SurveysTo form inputs old
 
 -- ---- recordings
 
--- what was found out of the files was put, where a folder is named for it, and this is its report; nothing speaks against the switch, or something
+-- what was found out from the files was put, if a folder is named for it, and this is its report; nothing speaks against the switch, or something does
 abbrev pub ComparesTo : Form → Bool → Compare → Recordings → World → World → List ℕ → Type 0
 ComparesTo form conforms c r old new text =
     (from until : ℕ) × (found : Comparison) × PutsRows c r old.files new.files old.failed new.failed from until found
@@ -328,7 +328,7 @@ Helps arguments old new = AskForHelp arguments × ((text : List ℕ) × Appends 
 abbrev pub Serves : List (List ℕ) → Option (List ℕ) → World → World → Type 0
 Serves arguments input old new = Helps arguments old new ⊎ ((r : Request) × Asks arguments r × Performs r input old new)
 
--- what may be there where memory ran out: some of a run's files, and nothing written
+-- what may be there if memory ran out: some of a run's files, and nothing written
 abbrev pub RunsOut : List (List ℕ) → Option (List ℕ) → World → World → Type 0
 RunsOut arguments input old new =
     (WritesNothing old new × KeepsFiles old.files new.files) ⊎ ((r : Request) × Asks arguments r × FailsToPerform failure.Memory r input old new)

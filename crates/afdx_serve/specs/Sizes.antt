@@ -25,7 +25,7 @@ use Rattle.afdx_serve.specs.Runs.{HasTable}
 abbrev pub pair_text : List ℕ → ℕ → List ℕ
 pair_text need limit = need ++ codes " of " ++ decimal limit
 
--- a bound in nanoseconds; there is none where the high links ask for the whole line or more
+-- a bound in nanoseconds; there is none if the high links ask for the whole line or more
 abbrev pub need_text : Option ℕ → List ℕ
 need_text None = codes "none"
 need_text (Some bound) = decimal bound
@@ -63,7 +63,7 @@ delays_text row load = codes " high " ++ delay_text load.highs (high_bound load)
 abbrev pub size_text : PortRow → Load → ℕ → List ℕ
 size_text row load least = amounts_text row load least ++ delays_text row load ++ verdict_text (broken_rules row load)
 
--- the name of the switch whose table it is, where it is one of a network's: as a fault names it
+-- the name of the switch whose table it is, if it is one of a network's: as a fault names it
 abbrev pub of_switch : Option (List ℕ) → List ℕ
 of_switch None = []
 of_switch (Some name) = codes ", switch " ++ name

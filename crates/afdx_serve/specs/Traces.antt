@@ -28,7 +28,7 @@ trace_names folder = arrivals_name folder ∷ departures_name folder ∷ []
 abbrev pub trace_texts : Selection → Run → List (List ℕ)
 trace_texts selection r = arrivals_text selection r ∷ departures_text selection r ∷ []
 
--- that is these texts, where the selection is what the options say
+-- that is these texts, if the selection is what the options say
 abbrev pub AreTracesOf : TraceOptions → Run → List (List ℕ) → Type 0
 AreTracesOf options r texts =
     (selection : Selection) × (selection.links.now ≡ options.links.items) × (selection.relative ≡ options.relative) × (texts ≡ trace_texts selection r)

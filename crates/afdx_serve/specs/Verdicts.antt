@@ -1,4 +1,4 @@
--- What is written of a run's counters, and whether there is one of what it is to fail on (profile).
+-- What is written of a run's counters, and whether there is something that it is to fail on (profile).
 use Rattle.std.specs.Prelude.{ℕ, ◌&&◌, ◌||◌, ◌++◌, nat_lt, Bool, true, false, List, []}
 use Rattle.afdx_count.specs.Tally.{Tally}
 use Rattle.afdx_count.specs.Report.{report_of}
@@ -21,7 +21,7 @@ abbrev pub verdict_text : Form → RunVerdict → List ℕ
 verdict_text Lines = verdict_line
 verdict_text Csv = verdict_row
 
--- the verdict, where it is asked for
+-- the verdict, if it is asked for
 abbrev pub verdict_part : Form → Bool → Tally → List ℕ
 verdict_part form false counts = []
 verdict_part form true counts = verdict_text form (verdict_of counts)
@@ -30,6 +30,6 @@ verdict_part form true counts = verdict_text form (verdict_of counts)
 abbrev pub text_of : RunOptions → Tally → List ℕ
 text_of options counts = counts_text options.form counts ++ verdict_part options.form options.verdict counts
 
--- there is one of what the run is to fail on
+-- there is something that the run is to fail on
 abbrev pub is_found : FailOn → RunVerdict → Bool
 is_found chosen v = (chosen.policed && nat_lt 0 v.policed) || (chosen.filtered && nat_lt 0 v.filtered) || (chosen.lost && nat_lt 0 v.lost)

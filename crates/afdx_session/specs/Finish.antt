@@ -29,8 +29,8 @@ pub record IsFinished (v : Seen) (results : Results) : Type 0 where
   -- on a checked table the headline holds of it
   pub isolated : v.accepted ≡ true → IsIsolated v.table (texts_in v) whole
 
--- there is no outcome: a call had failed, and nothing changes; or memory ran out or a capture has a fault, that of the lowest port, and
--- nothing changes but that a call has failed
+-- there is no outcome. Either a call had failed, and nothing changes; or memory ran out or a capture has a fault, that of the lowest port,
+-- and nothing changes but that a call has failed
 abbrev pub IsNotFinished : Seen → RunFault × Seen → Type 0
 IsNotFinished v e =
     ((v.failed ≡ true) × (e.0 ≡ run.Failed) × (e.1 ≡ v))

@@ -31,7 +31,7 @@ pub record HaveTaken {F : Type 0} (contents : F → Option (List ℕ)) (v : Seen
   pub long : length now ≡ length start
   pub each : (place : ℕ) (p : PortRow) (f g : F) → slice_get v.table.ports place ≡ Some p → slice_get start place ≡ Some f → slice_get now place ≡ Some g → HasTaken contents v p.id f g
 
--- what is left of each port's output was appended: files that have what was taken before have the output of a run over the whole
+-- what is left of each port's output was appended: files that had what was taken before now have the output of a run over the whole
 -- captures; its counts are given
 pub record IsFinishedInto {F : Type 0} (contents : F → Option (List ℕ)) (v : Seen) (old new : List F) (counts : Tally) : Type 0 where
   pub none_failed : v.failed ≡ false

@@ -54,7 +54,7 @@ pub record HasGoneOut (v : Seen) (p : PortRow) (text : List ℕ) : Type 0 where
   pub are : AreStreams v.intakes streams
   pub text_is : text ≡ (if v.begun then text_so_far v.table streams p else [])
 
--- the capture of a port has not ended, and its last record is where the frontier is: nothing more goes out before it goes on
+-- the capture of a port has not ended, and its last record is at the frontier: nothing more goes out before it goes on
 pub record IsHeldBackBy (v : Seen) (port : ℕ) : Type 0 where
   pub streams : List Stream
   pub are : AreStreams v.intakes streams
@@ -85,7 +85,7 @@ fed_bytes v port = intake_bytes (intake_at v port)
 abbrev pub taken_of : Seen → ℕ → ℕ
 taken_of v port = taken_in (intake_at v port)
 
--- the first refusal that is none of memory or of the bytes
+-- the first refusal other than one of memory or of the bytes
 abbrev pub refusal_at : Option Intake → Option RunFault
 refusal_at None = Some run.WrongPorts
 refusal_at (Some i) = if i.closed then Some run.Closed else None
@@ -93,7 +93,7 @@ refusal_at (Some i) = if i.closed then Some run.Closed else None
 abbrev pub refusal : Seen → ℕ → Option RunFault
 refusal v port = if v.failed then Some run.Failed else refusal_at (intake_at v port)
 
--- the intakes where that of a port is another
+-- the intakes, with that of a port changed
 abbrev pub changed : ℕ → (Intake → Intake) → List Intake → List Intake
 changed port f [] = []
 changed port f (i ∷ intakes) = if i.port == port then f i ∷ intakes else i ∷ changed port f intakes
@@ -107,7 +107,7 @@ closed_intake i = record { port = i.port; bytes = i.bytes; closed = true; taken 
 abbrev pub took : ℕ → Intake → Intake
 took n i = record { port = i.port; bytes = i.bytes; closed = i.closed; taken = n }
 
--- a piece of a port's capture came; the capture ended; so many bytes were taken; a call failed
+-- a piece of a port's capture came; the capture ended; so many bytes in all were taken; a call failed
 abbrev pub after_feed : Seen → ℕ → List ℕ → Seen
 after_feed v port piece = record { table = v.table; accepted = v.accepted; intakes = changed port (fed piece) v.intakes; begun = true; failed = v.failed }
 
@@ -120,7 +120,7 @@ after_take v port n = record { table = v.table; accepted = v.accepted; intakes =
 abbrev pub after_failure : Seen → Seen
 after_failure v = record { table = v.table; accepted = v.accepted; intakes = v.intakes; begun = v.begun; failed = true }
 
--- some bytes have no early fault
+-- these bytes have no early fault
 abbrev pub IsSoundSoFar : List ℕ → Type 0
 IsSoundSoFar bytes = (fault : PcapFault) → IsEarlyFault bytes fault → ⊥
 
@@ -131,7 +131,7 @@ IsRefused old new port fault Why = ((refusal old port ≡ Some fault) × (new �
 
 -- ---- how intakes go on
 
--- more bytes came while it was open, or it was closed, or nothing happened
+-- more bytes may have come, and it may have been closed; once it is closed, no more come and it stays so
 pub record IsFedOn (i later : Intake) : Type 0 where
   pub port : later.port ≡ i.port
   pub more : List ℕ
@@ -149,6 +149,6 @@ abbrev pub OutputGrowsWithBytes : Type 0
 OutputGrowsWithBytes = (t : Content) (intakes later : List Intake) (streams others : List Stream) (p : PortRow) → AreFedOn intakes later → AreStreams intakes streams → AreStreams later others
     → (rest : List ℕ) × (text_so_far t others p ≡ text_so_far t streams p ++ rest)
 
--- some bytes have one list of whole records
+-- of the same bytes there is only one list of whole records
 abbrev pub WholeRecordsAreUnique : Type 0
 WholeRecordsAreUnique = (intakes : List Intake) (streams others : List Stream) → AreStreams intakes streams → AreStreams intakes others → streams ≡ others

@@ -8,7 +8,7 @@ use Rattle.afdx_session.specs.declared.sources.SourceFault.TheVariants as fault
 use Rattle.afdx_session.specs.Texts.{Text, AreOfPorts}
 use Rattle.afdx_session.specs.Reading.{IsFirstFault}
 
--- each text has all the bytes that the reader at its place gives, where that is known
+-- each text has all the bytes that the reader at its place gives, if these are known
 pub record AreRead {R : Type 0} (remaining : R → Option (List ℕ)) (readers : List R) (texts : List Text) : Type 0 where
   pub many : length texts ≡ length readers
   pub each : (place : ℕ) (reader : R) (text : Text) → slice_get readers place ≡ Some reader → slice_get texts place ≡ Some text → AreGiven (remaining reader) text.1

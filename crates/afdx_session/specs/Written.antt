@@ -13,7 +13,7 @@ AreAppended {F} contents old new texts =
     × ((place : ℕ) (o n : F) (text : Text) → slice_get old place ≡ Some o → slice_get new place ≡ Some n → slice_get texts place ≡ Some text
     → Appends (contents o) (contents n) text.1)
 
--- an outcome of these texts: its counts, and its captures behind what the files had
+-- there is an outcome of these texts: these are its counts, and its captures were appended to the files
 pub record IsWritten {F : Type 0} (contents : F → Option (List ℕ)) (t : Content) (texts : List Text) (old new : List F) (counts : Tally) : Type 0 where
   pub results : Results
   pub outcome : IsOutcome t texts results

@@ -1,10 +1,10 @@
--- Spells of policing of a link (profile): its policed frames, parted wherever it kept to its allowance for one gap of its own.
+-- Spells of policing of a link (profile): its policed frames, parted wherever it kept to its allowance for more than one gap of its own.
 use Rattle.std.specs.Prelude.{ℕ, ◌+◌, min, max, nat_le, if◌then◌else◌, List, [], ◌∷◌, length, map, flat_map}
 use Rattle.std.specs.List.{fold}
 use Rattle.afdx_spells.specs.declared.spell.Excess.{Excess}
 use Rattle.afdx_spells.specs.declared.spell.Spell.{Spell}
 
--- a policed frame before those of some spells: it joins the first one where no more than a gap lies between the two, else it is a
+-- a policed frame before those of some spells: it joins the first one if no more than a gap lies between the two, else it is a
 -- spell by itself
 abbrev pub before_all : ℕ → Excess → List (List Excess) → List (List Excess)
 before_all gap x [] = (x ∷ []) ∷ []
@@ -31,7 +31,7 @@ spell_from x frames = record {
   greatest = fold max x.early (map (λ (y : Excess). y.early) frames);
 }
 
--- no spell is without a frame
+-- what is reported of some frames that are one spell; no spell is without a frame
 abbrev pub spell_in : List Excess → List Spell
 spell_in [] = []
 spell_in (x ∷ frames) = spell_from x frames ∷ []

@@ -27,7 +27,7 @@ are_known ks (member text d ms) = is_one_of ks text && are_known ks ms
 unfoldable pub known_at : At → List Key → Members → Result (Unit {0}) TableFault
 known_at at ks ms = if are_known ks ms then Ok tt else Err (UnknownKey at)
 
--- what f says of each item, where it says something of all
+-- what f says of each item, if it says something of all
 abbrev pub all_of : {A : Type 0} → (Data → Option A) → Items → Option (List A)
 all_of f no_items = Some []
 all_of f (item d ds) = option_and_then (λ x. option_map (λ xs. x ∷ xs) (all_of f ds)) (f d)
@@ -50,7 +50,7 @@ text_in at k d = or_refuse (Kind at k) (as_str d)
 unfoldable pub number_at : At → Key → Members → Result ℕ TableFault
 number_at at k ms = value_at at k ms >>= number_in at k
 
--- this number, where it is from low to high
+-- this number, if it is from low to high
 unfoldable pub bounded : At → Key → ℕ → ℕ → ℕ → Result ℕ TableFault
 bounded at k low high n = if nat_le low n && nat_le n high then Ok n else Err (Range at k)
 
@@ -75,7 +75,7 @@ optional_number_at at k ms = if_present (number_in at k) (get_member (key_text k
 unfoldable pub optional_text_at : At → Key → Members → Result (Option (List ℕ)) TableFault
 optional_text_at at k ms = if_present (text_in at k) (get_member (key_text k) ms)
 
--- an optional array of tables: none where it is missing
+-- an optional array of tables: no tables if it is missing
 abbrev pub tables_in : At → Key → Option Data → Result (List Members) TableFault
 tables_in at k None = Ok []
 tables_in at k (Some d) = or_refuse (Kind at k) (option_and_then (all_of as_table) (as_array d))
@@ -83,7 +83,7 @@ tables_in at k (Some d) = or_refuse (Kind at k) (option_and_then (all_of as_tabl
 unfoldable pub tables_at : At → Key → Members → Result (List Members) TableFault
 tables_at at k ms = tables_in at k (get_member (key_text k) ms)
 
--- a whole number: no number where it is negative
+-- a whole number: no number if it is negative
 abbrev pub as_natural : Data → Option (Option ℕ)
 as_natural d = option_map natural_of (as_integer d)
 

@@ -30,7 +30,7 @@ targets at ports from before (p ∷ rest) =
     else if list_any (λ q. q == p) before then Err (ToTwice at)
     else targets at ports from (before ++ p ∷ []) rest
 
--- in each version
+-- the keys of a link in each version
 abbrev pub first_keys : List Key
 first_keys = key.Id ∷ key.From ∷ key.To ∷ key.Bag ∷ key.Jitter ∷ key.MaxSize ∷ key.Priority ∷ []
 
@@ -60,7 +60,7 @@ row_at version at ms = do
   police ← police_from at stated_police
   Ok (record { id = id; from = from; to = to; bag = bag; jitter = jitter_us * 1000; max_size = max_size; priority = priority; police = police })
 
--- a link beside the ports and the links before it
+-- the link, if it goes with the ports and the links before it
 unfoldable pub fitting : At → List PortRow → List Link → Link → Result Link TableFault
 fitting at ports before row =
     if has_link before row.id then Err (TwiceLink at)
@@ -72,7 +72,7 @@ fitting at ports before row =
 unfoldable pub link_at : ℕ → At → List PortRow → List Link → Members → Result Link TableFault
 link_at version at ports before ms = row_at version at ms >>= fitting at ports before
 
--- the links, where n of them were read before and these are the rest
+-- the links, of which n were read before and these are the rest
 unfoldable pub links_from : ℕ → List PortRow → ℕ → List Link → List Members → Result (List Link) TableFault
 links_from version ports n before [] = Ok before
 links_from version ports n before (ms ∷ rest) = do

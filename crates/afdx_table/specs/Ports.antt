@@ -35,7 +35,7 @@ port_at version at before ms = do
   max_delay_us ← bounded_at at key.MaxDelay 1 500000 ms
   if has_port before id then Err (TwicePort at) else Ok (record { id = id; speed = speed; buffer = buffer; max_delay = max_delay_us * 1000 })
 
--- the ports, where n of them were read before and these are the rest
+-- the ports, of which n were read before and these are the rest
 unfoldable pub ports_from : ℕ → ℕ → List PortRow → List Members → Result (List PortRow) TableFault
 ports_from version n before [] = Ok before
 ports_from version n before (ms ∷ rest) = do

@@ -11,11 +11,11 @@ use Rattle.afdx_table.specs.declared.fault.TableFault.TheVariants.{Constant, Too
 use Rattle.afdx_table.specs.Refusal.{◌>>=◌}
 use Rattle.afdx_table.specs.Fields.{known_at, bounded, tables_at, optional_number_at, optional_text_at}
 
--- in each version
+-- the keys of the top in each version
 abbrev pub first_keys : List Key
 first_keys = key.Version ∷ key.Constant ∷ key.Port ∷ key.Link ∷ []
 
--- in any version
+-- the keys of the top in any version
 abbrev pub all_keys : List Key
 all_keys = key.Version ∷ key.Constant ∷ key.Latency ∷ key.Port ∷ key.Link ∷ []
 

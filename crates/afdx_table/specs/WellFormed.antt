@@ -40,7 +40,7 @@ pub record IsLink (ports : List PortRow) (l : Link) : Type 0 where
 
 pub record IsWellFormed (c : Content) : Type 0 where
   pub constant_length : length c.constant ≡ 4
-  -- ARINC 664 Part 7: its two lowest bits are set
+  -- ARINC 664 Part 7: the two lowest bits of its first byte are set
   pub constant_first : slice_index c.constant 0 % 4 ≡ 3
   -- profile
   pub latency_most : c.latency ≤ 100000

@@ -29,7 +29,7 @@ abbrev pub sent_line : Shown → ℕ → Settings → ℕ → Sent → List ℕ
 sent_line shown port s number x = decimal port ++ next_field (decimal number) ++ item_fields shown s x.item
     ++ flat_map next_field (decimal (x.begin - shown.origin) ∷ decimal (x.end - shown.origin) ∷ decimal (x.end - x.item.stamp) ∷ codes "sent\n" ∷ [])
 
--- a copy that a port discarded for its age at an instant: it is no record, and leaves at none
+-- a copy that a port discarded for its age at an instant: it is no record, and leaves at no instant
 abbrev pub aged_line : Shown → ℕ → Settings → Aged → List ℕ
 aged_line shown port s x = decimal port ++ next_field [] ++ item_fields shown s x.item ++ flat_map next_field (decimal (x.at - shown.origin) ∷ [] ∷ [] ∷ codes "aged\n" ∷ [])
 
@@ -37,7 +37,7 @@ aged_line shown port s x = decimal port ++ next_field [] ++ item_fields shown s 
 abbrev pub if_shown : Shown → Item → List ℕ → List ℕ
 if_shown shown x line = if is_shown shown (Some x.link) then line else []
 
--- a port's events in order, where so many copies were sent before them
+-- the lines of a port's events in order, if so many copies were sent before them
 abbrev pub event_lines : Shown → ℕ → Settings → ℕ → List Event → List ℕ
 event_lines shown port s before [] = []
 event_lines shown port s before (sending x ∷ events) = if_shown shown x.item (sent_line shown port s (before + 1) x) ++ event_lines shown port s (before + 1) events
@@ -60,13 +60,13 @@ pub record LinesAreAppended {F : Type 0} (contents : F → Option (List ℕ)) (s
 
 -- ---- the order of events
 
--- the next of two lists of events, in order, is one that was discarded
+-- whether of the next sent and the next discarded copy the discarded one comes first
 abbrev pub ages_next : List Sent → List Aged → Bool
 ages_next sent [] = false
 ages_next [] (a ∷ aged) = true
 ages_next (x ∷ sent) (a ∷ aged) = nat_le a.at x.begin
 
--- none lies before another that comes before it; after a copy was sent none lies at the instant of its start
+-- no event lies at an earlier instant than one before it in the list. After a copy was sent, none lies at the instant of its start either
 abbrev pub AreInOrder : List Event → Type 0
 AreInOrder [] = Unit {0}
 AreInOrder (sending x ∷ events) = AllByRecursion (λ event. x.begin < instant event) events × AreInOrder events

@@ -5,7 +5,7 @@ use Rattle.afdx_core.specs.declared.step.Row.{Row}
 use Rattle.afdx_trace.specs.declared.shown.Selection.{Selection}
 use Rattle.afdx_trace.specs.declared.shown.Shown.{Shown}
 
--- a link, if there is one, is among these; each frame's is if they are none
+-- whether a frame's link, if it has one, is among these; if these are none, each frame counts
 abbrev pub is_among : List ℕ → Option ℕ → Bool
 is_among [] link = true
 is_among (l ∷ links) None = false

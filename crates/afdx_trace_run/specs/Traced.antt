@@ -11,8 +11,8 @@ use Rattle.afdx_session.specs.Texts.{Text}
 use Rattle.afdx_session.specs.Sources.{AreRead}
 use Rattle.afdx_session.specs.Outcome.{IsDoneOf}
 
--- the readers give captures of the table's ports, and of the finished switch that took the program's merge of their records the lines of
--- arrivals were appended to a file, and those of each port to the file at its place; over a checked table the headline holds of it
+-- the readers give captures of the table's ports, and a finished switch took the program's merge of their records. The lines of its
+-- arrivals were appended to a file, and those of each port to the file at its place. Over a checked table the headline holds of it
 pub record IsTraced {R F : Type 0} (remaining : R → Option (List ℕ)) (contents : F → Option (List ℕ)) (cleared : Bool) (t : Content) (s : Selection) (readers : List R)
     (old new : F) (olds news : List F) : Type 0 where
   pub texts : List Text

@@ -38,7 +38,7 @@ number_from at k greatest missing (Some d) = number_in at k greatest d
 unfoldable pub optional_number_at : At → Key → ℕ → (missing : ℕ) → Members → Result ℕ NetworkFault
 optional_number_at at k greatest missing ms = number_from at k greatest missing (get_member (key_text k) ms)
 
--- an optional truth value: false where it is missing
+-- an optional truth value: false if it is missing
 abbrev pub flag_from : At → Key → Option Data → Result Bool NetworkFault
 flag_from at k None = Ok false
 flag_from at k (Some d) = or_refuse (Kind at k) (as_bool d)
@@ -52,7 +52,7 @@ text_at at k ms = do
   d ← or_refuse (MissingKey at k) (get_member (key_text k) ms)
   or_refuse (Kind at k) (as_str d)
 
--- an optional array of tables: none where it is missing
+-- an optional array of tables: none if it is missing
 abbrev pub tables_in : At → Key → Option Data → Result (List Members) NetworkFault
 tables_in at k None = Ok []
 tables_in at k (Some d) = or_refuse (Kind at k) (option_and_then (all_of as_table) (as_array d))

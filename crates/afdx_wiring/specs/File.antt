@@ -48,8 +48,8 @@ is_down switches place = option_map_or (λ s. s.down) (slice_get switches place)
 abbrev pub has_switch : List Switch → List ℕ → Bool
 has_switch switches name = list_any (λ s. bytes_eq s.name name) switches
 
--- the switch of these fields, after the switches before it; its least latency is in whole microseconds, as its table has the most, and 0
--- where it is not stated
+-- the switch of these fields, after the switches before it; its least latency is in whole microseconds from 0 to 100, as the greatest is
+-- in its table, and 0 if it is not stated
 unfoldable pub switch_at : At → List Switch → Members → Result Switch NetworkFault
 switch_at at before ms = do
   known ← known_at at (key.Name ∷ key.Table ∷ key.LeastLatency ∷ key.Down ∷ []) ms
@@ -97,8 +97,8 @@ fitting at before w = do
   others ← unless (is_end w.from w.to) (OwnPort at)
   Ok w
 
--- the wire of these fields, after the switches and the wires before it; a millisecond at most, 5 ns for each metre. It is down where it is
--- said to be, and where a switch at one of its ends is
+-- the wire of these fields, after the switches and the wires before it; a millisecond at most, 5 ns for each metre. It is down if it is
+-- said to be, or if a switch at one of its ends is
 unfoldable pub wire_at : At → List Switch → List Wire → Members → Result Wire NetworkFault
 wire_at at switches before ms = do
   known ← known_at at (key.From ∷ key.To ∷ key.Delay ∷ key.Down ∷ []) ms

@@ -6,7 +6,7 @@ use Rattle.afdx_pcap.specs.Fault.{IsFault}
 use Rattle.recapture.specs.declared.Failure.{Failure}
 use Rattle.recapture.specs.declared.Failure.TheVariants.{Capture, Device}
 
--- a capture that was refused has this fault, and nothing was written
+-- a capture that was refused has this fault, and nothing was written; of a failure of the device nothing is said
 abbrev pub Explains : Option (List ℕ) → Option (List ℕ) → Option (List ℕ) → Failure → Type 0
 Explains input old new (Capture fault) = Keeps old new × (fault ≢ Memory → IfSome input (λ xs. IsFault xs fault))
 Explains input old new Device = ⊤

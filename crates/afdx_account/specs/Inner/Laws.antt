@@ -17,7 +17,7 @@ StepsPassWhatConforms = (t : Terms) (frames : List Frame) → InOrder 0 frames
 abbrev pub ConformingIsTested : Type 0
 ConformingIsTested = (t : Terms) (passed : List Frame) (f : Frame) → IsTrue (conforms t passed f) ↔ Conforms t passed f
 
--- of a list of things that carry frames, the next one joins those passed so far exactly where its frame
+-- of a list of things that carry frames, the next one joins those passed so far exactly if its frame
 -- conforms to theirs
 abbrev pub NextJoinsWhereItConforms : Type 0 → Type 0
 NextJoinsWhereItConforms A = (frame_of : A → Frame) (t : Terms) (xs : List A) (x : A)
@@ -42,12 +42,12 @@ abbrev pub HeadroomIsCredited : Type 0
 HeadroomIsCredited = (t : Terms) (frames : List Frame) (now later : ℕ) → now ≤ later → NoneLater frames now
     → headroom t (passed_frames t frames) later ≡ credited_level t (headroom t (passed_frames t frames) now) (later - now)
 
--- a frame conforms where its price is within it
+-- a frame conforms exactly if its price is within it
 abbrev pub HeadroomDecides : Type 0
 HeadroomDecides = (t : Terms) (frames : List Frame) (f : Frame) → NoneLater frames f.stamp
     → conforms t (passed_frames t frames) f ≡ nat_le (t.price f.size) (headroom t (passed_frames t frames) f.stamp)
 
--- and takes its price away from it where it is passed
+-- and takes its price away from it if it is passed
 abbrev pub HeadroomIsDebited : Type 0
 HeadroomIsDebited = (t : Terms) (passed : List Frame) (f : Frame)
     → headroom t (passed ++ f ∷ []) f.stamp ≡ headroom t passed f.stamp - t.price f.size

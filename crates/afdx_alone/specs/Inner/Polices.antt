@@ -52,13 +52,13 @@ pub record HasOffered {Z : Type 0} (link : Alone) (r : Record) (old new : Polici
   pub count : new.count ≡ old.count + 1
   pub format : new.format ≡ old.format
 
--- what is left of some bytes: nothing, where the input has ended; else no more than waits for the rest of a record
+-- what is left of some bytes: nothing, if the input has ended; else no more than waits for the rest of a record
 abbrev pub Leaves : Bool → Option Format → List ℕ → Type 0
 Leaves true None rest = ⊥
 Leaves true (Some format) rest = rest ≡ []
 Leaves false format rest = length rest ≤ longest_record
 
--- what is wrong with these bytes; where more may come, none of them mends it
+-- what is wrong with these bytes; if more may come, none of them mends it
 abbrev pub IsPieceFault : List ℕ → Bool → AloneFault → Type 0
 IsPieceFault bytes ended Memory = ⊤
 IsPieceFault bytes ended (Capture fault) = IsFault bytes fault × (ended ≡ false → is_cut fault ≡ false)

@@ -43,7 +43,7 @@ counts w (Some s) a = counts_as w s.leaves a.head.frame.stamp
 abbrev pub AreFrom : Watch → List Source → ℕ → List Arrival → Type 0
 AreFrom w captures at arrivals = AllByRecursion (λ a. counts w (slice_get captures a.place) a ≡ true → at ≤ a.due) arrivals
 
--- a record is in the turn of what was told before
+-- a record comes in its turn after what was told before
 abbrev pub MayArriveBy : Source → Bool → Arrival → Comparison → Type 0
 MayArriveBy s true a c = IsInTurn s a.head c
 MayArriveBy s false a c = has_frame c.watch a.head.frame.stamp ≡ true → IsBy a.head.frame.stamp c
@@ -52,7 +52,7 @@ abbrev pub MayArrive : Option Source → Arrival → Comparison → Type 0
 MayArrive None a c = ⊥
 MayArrive (Some s) a c = MayArriveBy s s.leaves a c
 
--- each is, of these one after the other
+-- each of these does, one after the other
 abbrev pub MayAllArrive : List Source → List Arrival → Comparison → Type 0
 MayAllArrive captures [] c = Unit {0}
 MayAllArrive captures (a ∷ arrivals) c = MayArrive (slice_get captures a.place) a c × MayAllArrive captures arrivals (with_arrival captures a c)

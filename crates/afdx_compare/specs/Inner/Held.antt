@@ -1,4 +1,4 @@
--- Records that wait until it is known whether they count, where recordings end with the greatest stamp of all.
+-- Records that wait until it is known whether they count, if recordings end with the greatest stamp of all.
 use Rattle.std.specs.Prelude.{◌≡◌, ℕ, ◌+◌, nat_le, not, Bool, true, false, ◌||◌, List, [], ◌∷◌, ◌++◌, Option, Some, None, slice_get}
 use Rattle.std.specs.List.{AllByRecursion}
 use Rattle.std.specs.Option.{is_some, option_map_or}
@@ -8,7 +8,8 @@ use Rattle.afdx_compare.specs.declared.sources.Source.{Source}
 use Rattle.afdx_compare.specs.Comparison.{Comparison}
 use Rattle.afdx_compare.specs.Arrivals.{with_arrivals}
 
--- wherever the recordings end, no sooner than this greatest stamp, the record counts: frames do, and a record whose stamp is less by the tolerance
+-- it is known whether a record counts, wherever the recordings end from this greatest stamp on: it is what came, or their end was given, or its stamp is
+-- less by at least the tolerance
 abbrev pub is_settled : Recordings → Option ℕ → Bool → ℕ → Bool
 is_settled r greatest leaves stamp = (not leaves || is_some r.until) || option_map_or (λ at. nat_le (stamp + r.tolerance) at) greatest false
 

@@ -40,7 +40,7 @@ OurRunsKeepToIt = (t : Content) (texts : List Text) (results : Results) → IsWe
 
 -- ---- what conforms is kept to
 
--- what is known of the recorders and of the switch, where the recordings begin and end at these instants
+-- what is known of the recorders and of the switch, if the recordings begin and end at these instants
 abbrev pub watch_within : Content → Recordings → ℕ → ℕ → Watch
 watch_within t r from until = record (watch_of t r from) { until = Some until }
 
@@ -69,7 +69,7 @@ left_among r (p ∷ ps) (rs ∷ captures) at = if p.id == at.id then by_clock r 
 abbrev pub left_out : Content → Recordings → List (List Record) → PortRow → List Record
 left_out t r captures at = left_among r (recorded_ports t r) (drop (length t.ports) captures) at
 
--- where nothing speaks against the switch, once all of these captures were taken, it keeps to what is proved of ours
+-- if nothing speaks against the switch after all of these captures were taken, it keeps to what is proved of ours
 abbrev pub ConformsIsKept : Type 0
 ConformsIsKept = (t : Content) (r : Recordings) (from until : ℕ) (keeping : Bool) (captures : List (List Record)) (arrivals : List Arrival) (first : Comparison)
     → IsWellFormed t → IsAcceptedWith (t.latency - r.least) t → AllByRecursion (AllByRecursion (λ x. x.stamp ≤ last_instant)) captures

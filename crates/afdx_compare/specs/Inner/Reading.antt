@@ -1,4 +1,4 @@
--- Captures are read, and their records taken as far as it is known that they count.
+-- Captures are read, and their records taken as far as it is known whether they count.
 use Rattle.std.specs.Prelude.{◌≡◌, ℕ, Bool, List, Option, Some, slice_get}
 use Rattle.std.specs.List.{AllByRecursion}
 use Rattle.afdx_table.specs.WellFormed.{IsWellFormed}

@@ -8,12 +8,12 @@ use Rattle.afdx_compare.specs.declared.sources.Source.{Source}
 use Rattle.afdx_compare.specs.Comparison.{Comparison, place_of_own, link_at}
 use Rattle.afdx_compare.specs.Arrivals.{with_arrival}
 
--- a frame that came is told the link at a place if it is its own
+-- the link at a place is told of a frame that came, if it is its own
 abbrev pub told_own : ℕ → Option ℕ → Numbered → List Notice
 told_own place None n = []
 told_own place (Some link) n = if link == place then Arrived n ∷ [] else []
 
--- and a record that left, if it is the link's
+-- and of a record that left, if it is the link's
 abbrev pub told_record : ℕ → Option (ℕ × ℕ) → Numbered → List Notice
 told_record place None n = []
 told_record place (Some (link, output)) n = if link == place then Departed output n ∷ [] else []

@@ -1,4 +1,4 @@
--- What one more arrival adds, behind what the arrivals before it came to.
+-- What one more arrival adds, after what the arrivals before it came to.
 use Rattle.std.specs.Prelude.{◌≡◌, ℕ, List, [], ◌∷◌, ◌++◌}
 use Rattle.afdx_table.specs.Content.{Content}
 use Rattle.afdx_port.specs.declared.Item.{Item}

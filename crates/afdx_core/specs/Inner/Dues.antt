@@ -1,4 +1,4 @@
--- What is due next at each place: a list of instants, none where nothing is due.
+-- What is due next at each place: a list of instants, none if nothing is due there.
 use Rattle.std.specs.Prelude.{◌≡◌, ℕ, ◌<◌, false, List, length, slice_index_or, Option, Some, None, All}
 use Rattle.afdx_port.specs.Course.{starts_before}
 

@@ -17,7 +17,7 @@ use Rattle.afdx_core.specs.Rows.{named, passes, copy_of, copies, frame_of_row, a
 use Rattle.afdx_core.specs.State.{Run, port_in, sent_in, occupied_in, early_in, answer_of, after_row, after_advance, after_finish}
 use Rattle.afdx_core.specs.Isolation.{IsRun}
 
--- what ports had sent comes first of what they sent later
+-- what each port had sent is a prefix of what it has sent later
 abbrev pub GoesOn : Run → Run → Type 0
 GoesOn old new = (p : PortRow) → (more : List Sent) × (sent_in new (Some p) ≡ sent_in old (Some p) ++ more)
 
@@ -43,13 +43,13 @@ abbrev pub BecomesOf : Run → Row → PortRow → Item → Offer → Type 0
 BecomesOf r row p x Queued = Joins r row p x
 BecomesOf r row p x Full = StaysOut r row p
 
--- a passed frame's copies join where ports answer that they queued them; other ports admit nothing
+-- a passed frame's copy joins at a port of its link if the port answers that it queued it; other ports admit nothing
 pub record ArrivalsJoin : Type 0 where
   pub offered : (r : Run) (row : Row) (p : PortRow) (l : Link) → IsRun (after_row row r) → named r.table row.verdict ≡ Some l → passes l r.rows row ≡ true → leads_to p.id l ≡ true
       → BecomesOf r row p (copy_of l r.rows row) (answer_of r (copy_of l r.rows row) (Some p))
   pub others : (r : Run) (row : Row) (p : PortRow) → copies r.table p.id r.rows row ≡ [] → StaysOut r row p
 
--- a frame that is policed comes as early afterwards as it came
+-- by how much a policed frame came too early is the same after it was taken as before
 abbrev pub PolicedComeEarly : Type 0
 PolicedComeEarly = (r : Run) (row : Row) (l : Link) → named r.table row.verdict ≡ Some l → passes l r.rows row ≡ false
     → early_in (after_row row r) (Some l) (frame_of_row row) ≡ early_by (terms_of l) (passed_frames (terms_of l) (account_frames l.id r.rows)) (frame_of_row row)

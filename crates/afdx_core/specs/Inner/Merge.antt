@@ -17,7 +17,7 @@ pub record IsMerge (captures : List Capture) (arrivals : List Arrival) : Type 0 
   pub in_order : AreInOrder arrivals
   pub parts : (port : ℕ) → part_at port arrivals ≡ records_of captures port
 
--- arrivals in their order are of those that came, and their stamps do not fall
+-- these ordered arrivals are of those that came, and their stamps do not fall
 pub record IsOrdered (arrivals ordered : List Arrival) : Type 0 where
   pub among : All (Contains arrivals) ordered
   pub in_order : AreInOrder ordered
@@ -26,7 +26,7 @@ pub record IsOrdered (arrivals ordered : List Arrival) : Type 0 where
 abbrev pub ByStampIsOrdered : Type 0
 ByStampIsOrdered = (arrivals : List Arrival) → IsOrdered arrivals (by_stamp arrivals)
 
--- where no port's stamps fall, the program's merge is one
+-- if no port's stamps fall, the program's merge is one
 abbrev pub MergedIsAMerge : Type 0
 MergedIsAMerge = (captures : List Capture) → ((port : ℕ) → Rises (records_of captures port)) → IsMerge captures (merged captures)
 
@@ -43,6 +43,6 @@ abbrev pub PortsRise : List Arrival → Type 0
 PortsRise [] = Unit {0}
 PortsRise (a ∷ arrivals) = AllByRecursion (λ b. a.port ≤ b.port) arrivals × PortsRise arrivals
 
--- where the captures are by rising port number, the program's merge is by stamp, then by port number
+-- if the captures are by rising port number, the program's merge is by stamp, then by port number
 abbrev pub MergedIsByStampAndPort : Type 0
 MergedIsByStampAndPort = (captures : List Capture) → PortsRise (arrivals_of captures) → AreByStampAndPort (merged captures)

@@ -49,7 +49,7 @@ PassedAndPolicedAreClean = (t : Content) (l : Link) (rows : List Row) → link_r
     → (link_counts l.id (fates_of t rows)).passed < greatest_count → (link_counts l.id (fates_of t rows)).policed < greatest_count
     → (link_counts l.id (fates_of t rows)).passed + (link_counts l.id (fates_of t rows)).policed ≡ length (own_frames l.id rows)
 
--- the copies of a priority at a port, at the end
+-- the counts of the copies of a priority at a port, at the end
 abbrev pub copies_at_end : Priority → Settings → List Item → OutCount
 copies_at_end priority s feed = output_counts priority s feed (service s 0 (admitted s feed))
 

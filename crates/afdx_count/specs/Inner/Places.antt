@@ -6,10 +6,10 @@ use Rattle.std.specs.List.{position_or_len}
 abbrev pub IsPlaceOf : {X : Type 0} → (X → ℕ) → ℕ → List X → ℕ → Type 0
 IsPlaceOf number id xs place = slice_get (map number xs) place ≡ Some id
 
--- the element of the number changed
+-- the elements, with that of the number changed
 abbrev pub changed_at : {X : Type 0} → (X → ℕ) → ℕ → (X → X) → List X → List X
 changed_at number id f xs = map (λ x. if number x == id then f x else x) xs
 
--- under each number of one byte lies its first place among these, and their count where it is none of them
+-- under each number of one byte lies its first place among these, or their count if it is none of them
 abbrev pub LeadTo : List ℕ → List ℕ → Type 0
 LeadTo places numbers = (n d : ℕ) → n < 256 → slice_index_or places n d ≡ position_or_len (λ k. k == n) numbers

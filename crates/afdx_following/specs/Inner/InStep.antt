@@ -10,7 +10,7 @@ abbrev pub ComeInOrder : List Numbered → Type 0
 ComeInOrder [] = Unit {0}
 ComeInOrder (n ∷ ns) = AllByRecursion (λ other. n.frame.stamp ≤ other.frame.stamp) ns × ComeInOrder ns
 
--- the records that wait left no later than an instant, by the stamps at most
+-- the records that wait left no later than an instant, whatever the stamps are off by
 abbrev pub WaitsBy : ℕ → Output → Type 0
 WaitsBy at o = AllByRecursion (λ n. left_by n o ≤ at) o.waiting
 

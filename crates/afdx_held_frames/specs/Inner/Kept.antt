@@ -5,7 +5,7 @@ use Rattle.afdx_held_frames.specs.declared.store.Store.TheInside.{Inside}
 use Rattle.afdx_held_frames.specs.declared.store.Slot.{Slot}
 use Rattle.afdx_held_frames.specs.Seen.{Held, StoreValue}
 
--- what a slot holds of the arrival of this number: nothing where it names another
+-- what a slot holds of the arrival of this number: nothing if it names another
 abbrev pub seen_at : {Z : Type 0} → ℕ → Option (Slot Z) → Option Held
 seen_at n None = None
 seen_at n (Some slot) = if slot.number == n then Some (record { copies = slot.copies; frame = slot.frame }) else None
@@ -22,7 +22,7 @@ value_of s = record { held = seen_from 0 s.keys.items s.slots.slots; room = s.ro
 abbrev pub NoneHeld : {Z : Type 0} → Slab (Slot Z) → List ℕ → ℕ → ℕ → Type 0
 NoneHeld slots keys from to = (i : ℕ) → from ≤ i → i < to → is_some (seen_at i (get slots (slice_index_or keys i 0))) ≡ false
 
--- a slot is that of its arrival's key, and some copy is left
+-- a slot lies under its arrival's key, and at least one copy is left
 pub record IsNamed {Z : Type 0} (keys : List ℕ) (key : ℕ) (slot : Slot Z) : Type 0 where
   pub at : slice_get keys slot.number ≡ Some key
   pub left : 0 < slot.copies

@@ -12,7 +12,7 @@ AreWithinCaps flows level = All (λ flow. level flow ≤ flow.terms.cap) flows
 abbrev pub Grow : List Flow → ℕ → (Flow → ℕ) → (Flow → ℕ) → Type 0
 Grow flows d level after = All (λ flow. (after flow ≤ flow.terms.cap) × (after flow ≤ level flow + flow.terms.rate * d)) flows
 
--- what an item takes from a flow's account: its price, where it is of that flow
+-- what an item takes from a flow's account: its price if it is of that flow, else nothing
 abbrev pub charge : Item → Flow → ℕ
 charge x flow = if nat_eq flow.id x.link then flow.terms.price x.size else 0
 

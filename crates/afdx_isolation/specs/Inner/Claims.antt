@@ -35,18 +35,18 @@ abbrev pub IsTimely : Settings → Demand → Event → Type 0
 IsTimely s demand (sending x) = IsInBound s demand x
 IsTimely s demand (aging x) = ⊥
 
--- at each instant from the last arrival on the potentials hold, where the flows ask for no more than the line gives
+-- at each instant from the last arrival on the potentials hold, if the flows ask for no more than the line gives
 abbrev pub PotentialsHold : Type 0
 PotentialsHold = (s : Settings) (flows : List Flow) (arrivals : List Item) (now : ℕ) → Arrive s flows arrivals → IsWithinRate s flows
     → All (λ (x : Item). x.stamp ≤ now) arrivals
     → KeepsPotentials s flows (reach s now) (level_after arrivals now) (line_at s (reach s now) (feed_of flows arrivals))
 
--- the first gives the buffer's fit: no copy is Full
+-- the first gives that all fits into the buffer: no copy is Full
 abbrev pub NoneIsFull : Type 0
 NoneIsFull = (s : Settings) (flows : List Flow) (arrivals : List Item) → Arrive s flows arrivals → IsWithinRate s flows → HasBuffer s flows
     → admitted s (feed_of flows arrivals) ≡ feed_of flows arrivals
 
--- where the bound of a priority is within the greatest delay, no item of it is Aged, and each is sent within the bound
+-- if the bound of a priority is within the greatest delay, no item of it is Aged, and each is sent within the bound
 abbrev pub KeepsBound : Priority → Type 0
 KeepsBound priority = (s : Settings) (flows : List Flow) (arrivals : List Item) → Arrive s flows arrivals → IsWithinRate s flows → IsWithinDelay s flows priority
     → All (λ event. (item_of event).priority ≡ priority → IsTimely s (demand_of s flows) event) (service s 0 (feed_of flows arrivals))
@@ -70,13 +70,13 @@ pub record IsIsolatedPort (s : Settings) (flows : List Flow) (arrivals : List It
 abbrev pub Isolates : Type 0
 Isolates = (s : Settings) (flows : List Flow) (arrivals : List Item) → Arrive s flows arrivals → CarriesFlows s flows → IsIsolatedPort s flows arrivals
 
--- of each link a prefix of what its policing passes of its own arrivals has left, in order, all of it once the port is finished
+-- of each link a prefix of what its policing passes of its own arrivals has left, in order; once the port is finished, all of it
 abbrev pub PrefixLeaves : List Flow → List Item → Content → Type 0
 PrefixLeaves flows arrivals c = (flow : Flow) → Contains flows flow → (rest : List Item)
     × (own flow.id (map (λ (x : Sent). x.item) (sent_of (done c))) ++ rest ≡ passed flow arrivals)
     × (c.finished ≡ true → rest ≡ [])
 
--- what a port has done so far that was offered what these arrivals gave it
+-- what a port has done so far if it was offered what these arrivals gave it
 pub record IsIsolatedSoFar (flows : List Flow) (arrivals : List Item) (c : Content) : Type 0 where
   pub none_full : c.admitted ≡ feed_of flows arrivals
   pub none_aged : aged_of (done c) ≡ []
@@ -92,7 +92,7 @@ IsolatesSoFar = (c : Content) (flows : List Flow) (arrivals : List Item) → Arr
 abbrev pub frames_for : ℕ → Settings → List Flow → List Item → List Frame
 frames_for id s flows arrivals = map frame_of_item (own id (map item_of (service s 0 (admitted s (feed_of flows arrivals)))))
 
--- they are the same at two ports, of two tables and two lists of arrivals, where the link's terms and its own frames are the
+-- they are the same at two ports, of two tables and two lists of arrivals, if the link's terms and its own frames are the
 -- same, whatever the other links are and send
 abbrev pub OthersChangeNothing : Type 0
 OthersChangeNothing = (s s' : Settings) (flows flows' : List Flow) (flow flow' : Flow) (arrivals arrivals' : List Item)

@@ -33,7 +33,7 @@ rates flows = sum_by (λ flow. flow.weight * flow.terms.rate) flows
 abbrev pub bursts : List Flow → ℕ
 bursts flows = sum_by (λ flow. flow.weight * flow.terms.cap) flows
 
--- the line time in nanoseconds of their longest frame, 0 where there are none
+-- the line time in nanoseconds of their longest frame, 0 if there are none
 abbrev pub longest : Settings → List Flow → ℕ
 longest s [] = 0
 longest s (flow ∷ flows) = max (cost_of s.speed flow.largest) (longest s flows)
@@ -77,7 +77,7 @@ IsWithinRate s flows = (demand_of s flows).rate ≤ parts
 abbrev pub HasBuffer : Settings → List Flow → Type 0
 HasBuffer s flows = (demand_of s flows).burst + parts * (demand_of s flows).largest ≤ parts * (tick_of s.speed * s.buffer)
 
--- the bound of a priority, where it has flows, is within the greatest delay
+-- the bound of a priority, if it has flows, is within the greatest delay
 abbrev pub IsWithinDelay : Settings → List Flow → Priority → Type 0
 IsWithinDelay s flows priority = All (λ flow. flow.priority ≡ priority → bound (demand_of s flows) priority ≤ s.max_delay) flows
 

@@ -12,7 +12,7 @@ use Rattle.afdx_isolation.specs.Inner.Flow.{Flow, IsPaidFor, IsWithinRate, HasBu
 use Rattle.afdx_isolation.specs.Inner.Potential.{KeepsPotentials, EndsBy, BeginsAs}
 use Rattle.afdx_isolation.specs.Inner.Account.{AreWithinCaps, Grow, AreDebited, IsOfAFlow}
 
--- at `now`, where these items were admitted and the accounts have these levels
+-- what is true at `now` if these items were admitted and the accounts have these levels
 pub record IsKeptLevel (s : Settings) (flows : List Flow) (items : List Item) (now : ℕ) (level : Flow → ℕ) : Type 0 where
   pub come : HaveCome s now items
   pub of_flows : All (IsOfAFlow flows) items
@@ -34,7 +34,7 @@ abbrev pub IsKeptByWhatIsPaidFor : Type 0
 IsKeptByWhatIsPaidFor = (s : Settings) (flows : List Flow) (items : List Item) (x : Item) (level after : Flow → ℕ) → All (IsPaidFor s) flows → IsWithinRate s flows
     → IsOfAFlow flows x → AreDebited flows x level after → IsKeptLevel s flows items (came s x) level → IsKeptLevel s flows (items ++ x ∷ []) (came s x) after
 
--- which has room in a buffer for the bursts
+-- such an item fits into a buffer that holds the bursts and one frame
 abbrev pub WhatIsPaidForFits : Type 0
 WhatIsPaidForFits = (s : Settings) (flows : List Flow) (items : List Item) (x : Item) (level after : Flow → ℕ) → All (IsPaidFor s) flows → IsWithinRate s flows → HasBuffer s flows
     → IsOfAFlow flows x → AreDebited flows x level after → IsKeptLevel s flows items (came s x) level → fits s items x ≡ true

@@ -21,14 +21,14 @@ pub record CarriesLines (s : Settings) (flows : List Flow) (lines : List Line) (
   pub buffer : burst + parts * (demand_by s flows burst high_burst).largest ≤ parts * (tick_of s.speed * s.buffer)
   pub delay : (priority : Priority) → All (λ (flow : Flow). flow.priority ≡ priority → bound (demand_by s flows burst high_burst) priority ≤ s.max_delay) flows
 
--- as without lines, by a demand
+-- as without lines, with the bounds of this demand
 pub record IsIsolatedBy (s : Settings) (flows : List Flow) (demand : Demand) (arrivals : List Item) : Type 0 where
   pub none_full : admitted s (feed_of flows arrivals) ≡ feed_of flows arrivals
   pub timely : All (IsTimely s demand) (service s 0 (admitted s (feed_of flows arrivals)))
   pub exactly_passed : (flow : Flow) → Contains flows flow
       → own flow.id (map item_of (service s 0 (admitted s (feed_of flows arrivals)))) ≡ passed flow arrivals
 
--- where frames over each line whose speed is said come one after the other, the lesser bursts are enough
+-- if frames come one after the other over each line of which that is known, the lesser bursts are enough
 abbrev pub LinesIsolate : Type 0
 LinesIsolate = (s : Settings) (flows : List Flow) (lines : List Line) (burst high_burst : ℕ) (arrivals : List Item) → Arrive s flows arrivals → KeepToLines lines arrivals
     → CarriesLines s flows lines burst high_burst → IsIsolatedBy s flows (demand_by s flows burst high_burst) arrivals

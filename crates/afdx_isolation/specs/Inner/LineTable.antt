@@ -28,7 +28,7 @@ line_at links rounding_at q =
 abbrev pub lines_of : Content → (ℕ → Option ℕ) → List Line
 lines_of t rounding_at = map (line_at t.links rounding_at) t.ports
 
--- a load whose links ask for less at once
+-- a load with these bursts in the place of its own
 abbrev pub lesser : Load → (burst high_burst : ℕ) → Load
 lesser load burst high_burst = record load { burst = burst; high_burst = high_burst }
 

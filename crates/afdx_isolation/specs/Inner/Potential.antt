@@ -15,7 +15,7 @@ use Rattle.afdx_isolation.specs.Inner.Flow.{Flow, Demand, high_flows, demand_of}
 abbrev pub costs : Settings → List Item → ℕ
 costs s items = sum_by (item_cost s) items
 
--- Q holds of the end of each item, where they are sent one right after the other from `start` on
+-- Q holds of the end of each item, if they are sent one right after the other from `start` on
 abbrev pub Ahead : Settings → (ℕ → Item → Type 0) → ℕ → List Item → Type 0
 Ahead s Q start [] = Unit {0}
 Ahead s Q start (y ∷ items) = Q (start + item_cost s y) y × Ahead s Q (start + item_cost s y) items
@@ -24,7 +24,8 @@ Ahead s Q start (y ∷ items) = Q (start + item_cost s y) y × Ahead s Q (start 
 abbrev pub HighEnds : ℕ → Settings → Demand → ℕ → Item → Type 0
 HighEnds n s demand end y = n * end ≤ n * (came s y + demand.low_largest) + demand.high_burst
 
--- a low item that would end at `end` if no high one came after `now`, where the high accounts hold `high_level`
+-- a low item that would end at `end` if no high one came after `now`: the time from its queueing to that end, and the `high_level` that
+-- the high accounts hold, are within all bursts and what the high accounts were credited since
 abbrev pub LowEnds : ℕ → Settings → Demand → ℕ → ℕ → ℕ → Item → Type 0
 LowEnds n s demand now high_level end y = n * end + high_level + demand.high_rate * came s y ≤ n * came s y + demand.high_rate * now + demand.burst
 
@@ -33,7 +34,7 @@ abbrev pub EndsBy : ℕ → Settings → Demand → ℕ → Item → Type 0
 EndsBy n s demand end y = (is_high y.priority ≡ true → HighEnds n s demand end y)
     × (is_high y.priority ≡ false → n * end + demand.high_rate * came s y ≤ n * came s y + demand.high_rate * end + demand.burst)
 
--- the potentials at `now`, where the line starts its next item at `start`, `high` and `low` wait, and the accounts of all
+-- the potentials at `now`, if the line starts its next item at `start`, `high` and `low` wait, and the accounts of all
 -- flows and of the high ones hold line time of `level` and `high_level` parts
 pub record IsWithinPotentials (n : ℕ) (s : Settings) (demand : Demand) (now start level high_level : ℕ) (high low : List Item) : Type 0 where
   pub all_work : n * (start + costs s high + costs s low) + level ≤ n * now + demand.burst

@@ -21,7 +21,7 @@ pub record Supply : Type 0 where
   pub high : ℕ → ℕ
   pub high_level : ℕ
 
--- at `now`, where the line starts its next item at `start`, and `first` and `second` wait, the high and the low: by each later
+-- at `now`, if the line starts its next item at `start`, and the high items `first` and the low items `second` wait: by each later
 -- instant the work and what may come are no more than the line sends until then, and the burst
 pub record IsWithinSupply (n : ℕ) (s : Settings) (demand : Demand) (now start : ℕ) (u : Supply) (first second : List Item) : Type 0 where
   pub all_work : (v : ℕ) → now ≤ v → n * (start + costs s first + costs s second) + u.all v ≤ n * v + demand.burst
@@ -32,7 +32,8 @@ pub record IsWithinSupply (n : ℕ) (s : Settings) (demand : Demand) (now start 
 abbrev pub KeepsSupply : Settings → Demand → ℕ → Supply → LineState → Type 0
 KeepsSupply s demand now u line = IsWithinSupply parts s demand now line.free u (highs line.waiting) (lows line.waiting)
 
--- until a later instant the supply by each instant after it does not grow, and there it is within the bursts
+-- from `now` to a later instant the supply by each instant after that does not grow; there it is within what the line sends from there
+-- on, and the bursts
 pub record GoesOnTo (n : ℕ) (demand : Demand) (now to : ℕ) (u w : Supply) : Type 0 where
   pub all_falls : (v : ℕ) → to ≤ v → w.all v ≤ u.all v
   pub high_falls : (v : ℕ) → to ≤ v → w.high v ≤ u.high v
@@ -40,7 +41,7 @@ pub record GoesOnTo (n : ℕ) (demand : Demand) (now to : ℕ) (u w : Supply) : 
   pub all_covered : (v : ℕ) → to ≤ v → n * to + w.all v ≤ n * v + demand.burst
   pub high_covered : (v : ℕ) → to ≤ v → n * to + w.high v ≤ n * v + demand.high_burst
 
--- an item takes its line time from it
+-- an item takes its line time from the supply
 pub record IsTakenFrom (n : ℕ) (s : Settings) (now : ℕ) (x : Item) (u w : Supply) : Type 0 where
   pub all_pays : (v : ℕ) → now ≤ v → n * item_cost s x + w.all v ≤ u.all v
   pub high_pays : is_high x.priority ≡ true → (v : ℕ) → now ≤ v → n * item_cost s x + w.high v ≤ u.high v
@@ -49,7 +50,7 @@ pub record IsTakenFrom (n : ℕ) (s : Settings) (now : ℕ) (x : Item) (u w : Su
   pub level_falls : w.high_level ≤ u.high_level
   pub part : w.high_level ≤ w.all now
 
--- at `now`, where these items were admitted
+-- what is true at `now` if these items were admitted
 pub record IsKeptSupply (s : Settings) (flows : List Flow) (demand : Demand) (items : List Item) (now : ℕ) (u : Supply) : Type 0 where
   pub come : HaveCome s now items
   pub of_flows : All (IsOfAFlow flows) items

@@ -44,7 +44,7 @@ pub record ArriveAt (t : Content) (arrivals : List Item) : Type 0 where
 abbrev pub passed_by : Link → List Item → List Item
 passed_by link arrivals = passed_of frame_of_item (terms_of link) (own link.id arrivals)
 
--- what a port of the table has done so far, that was offered what these arrivals gave it
+-- what a port of the table has done so far if it was offered what these arrivals gave it
 pub record IsIsolatedAt (t : Content) (row : PortRow) (arrivals : List Item) (c : PortContent) : Type 0 where
   -- no copy was Full
   pub none_full : c.admitted ≡ feed_of (flows_at t row) arrivals
@@ -62,13 +62,13 @@ AcceptedTablesIsolate = (t : Content) (arrivals : List Item) → ArriveAt t arri
     → (c : PortContent) → c.settings ≡ settings_of t.latency row → c.admitted ≡ admitted (settings_of t.latency row) (feed_of (flows_at t row) arrivals)
     → IsIsolatedAt t row arrivals c
 
--- whatever number of bytes holds all that a port's links may ask for at once, its buffer never held more
+-- if a number of bytes holds all that a port's links may ask for at once, and their longest frame, the port's buffer never held more
 abbrev pub BuffersHoldTheBacklog : Type 0
 BuffersHoldTheBacklog = (t : Content) (arrivals : List Item) → ArriveAt t arrivals → (row : PortRow) → Contains t.ports row
     → (bytes : ℕ) → backlog (load_of t.latency row.speed row.id t.links) ≤ byte_time row.speed bytes
     → AllFitIn bytes (settings_of t.latency row) [] (admitted (settings_of t.latency row) (feed_of (flows_at t row) arrivals))
 
--- a copy of an arrival of a link is offered to a port exactly where the link leads there and its policing passes the frame
+-- a copy of an arrival of a link is offered to a port exactly if the link leads there and its policing passes the frame
 abbrev pub OffersWhatThePolicingPasses : Type 0
 OffersWhatThePolicingPasses = (t : Content) → IsWellFormed t → (row : PortRow) (link : Link) → Contains t.links link → (before : List Item) (x : Item) → x.link ≡ link.id
     → joins (flows_at t row) before x ≡ (leads_to row.id link && conforms (terms_of link) (passed_frames (terms_of link) (map frame_of_item (own link.id before))) (frame_of_item x))

@@ -27,12 +27,12 @@ chosen (passes ∷ fates) (x ∷ xs) = if passes then x ∷ chosen fates xs else
 abbrev pub AllFit : Terms → List Frame → Type 0
 AllFit t frames = AllByRecursion (λ f. t.price f.size ≤ t.cap) frames
 
--- without noise fates are allowed exactly where there is a level, within what is known, whose account gives them
+-- without noise fates are allowed exactly if there is a level, within what is known, whose account gives them
 abbrev pub AllowedIsALevel : Type 0
 AllowedIsALevel = (t : Terms) (l : Levels) (frames : List Frame) (fates : List Bool) → l.least ≤ l.most → AllFit t frames
     → Allowed t 0 l frames fates ↔ ((level : ℕ) × (l.least ≤ level) × (level ≤ l.most) × (fates_from t level l.since frames ≡ fates))
 
--- at rest these are the fates of the policing's own account, and no others
+-- at rest and without noise these are the fates of the policing's own account, and no others
 abbrev pub AtRestIsTheAccount : Type 0
 AtRestIsTheAccount = (t : Terms) (frames : List Frame) (fates : List Bool) → AllFit t frames
     → Allowed t 0 (at_rest t 0) frames fates ↔ (fates ≡ fates_from t t.cap 0 frames)
@@ -77,14 +77,14 @@ pub record IsNear (tolerance : ℕ) (came seen : Frame) : Type 0 where
   pub late : seen.stamp ≤ came.stamp + tolerance
   pub early : came.stamp ≤ seen.stamp + tolerance
 
--- however the stamps of what came are off by the tolerance, what the account did with it is allowed of what was recorded: where it
--- was full
+-- if the account was full at first, what it did with what came is allowed of what was recorded, however the stamps are off within the
+-- tolerance
 abbrev pub NoiseIsAllowedAtRest : Type 0
 NoiseIsAllowedAtRest = (t : Terms) (tolerance : ℕ) (came seen : List Frame) → InOrder 0 came → InOrder 0 seen → AllFit t seen
     → AllZip (IsNear tolerance) came seen
     → Allowed t tolerance (at_rest t tolerance) seen (fates_from t t.cap 0 came)
 
--- and whatever level it had at an instant from which on it was recorded
+-- and also whatever level it had at the instant from which on all was recorded
 abbrev pub NoiseIsAllowed : Type 0
 NoiseIsAllowed = (t : Terms) (tolerance level since : ℕ) (came seen : List Frame) → level ≤ t.cap → InOrder since came → InOrder since seen → AllFit t seen
     → AllZip (IsNear tolerance) came seen

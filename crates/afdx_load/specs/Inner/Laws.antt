@@ -35,21 +35,21 @@ SumsTakeEachLinkOnce = (latency : ℕ) (speed : Speed) (port : ℕ) (links : Lis
     × (load.high_rate ≡ sum_by (λ link. if leads_to port link && is_high_link link then rate_of speed link else 0) links)
     × (load.high_burst ≡ sum_by (λ link. if leads_to port link && is_high_link link then burst_of speed link else 0) links)
 
--- a port has links exactly where its longest frame takes time
+-- a port has links exactly if its longest frame takes time
 abbrev pub LongestShowsLinks : Type 0
 LongestShowsLinks = (speed : Speed) (port : ℕ) (links : List Link) → let load = asked_of speed port links in
     (0 < load.largest) ↔ (0 < load.highs + load.lows)
 
--- where the line can give the rate and there is a low link, the high links leave a part of the line
+-- if the line can give the rate and there is a low link, the high links leave a part of the line
 abbrev pub HighLinksLeaveAPart : Type 0
 HighLinksLeaveAPart = (c : Content) (speed : Speed) (port : ℕ) → IsWellFormed c → let load = load_of c.latency speed port c.links in
     load.rate ≤ parts → 0 < load.lows → load.high_rate < parts
 
--- a port carries a load exactly where that load breaks no rule there
+-- a port carries a load exactly if that load breaks no rule there
 abbrev pub CarriesWithoutAFault : Type 0
 CarriesWithoutAFault = (row : PortRow) (load : Load) → Carries row load ↔ (fault_at row load ≡ None)
 
--- a table is accepted exactly where it has no fault
+-- a table is accepted exactly if it has no fault
 abbrev pub AcceptedMeansNoFault : Type 0
 AcceptedMeansNoFault = (c : Content) → IsAccepted c ↔ (first_fault c.latency c.links c.ports ≡ None)
 

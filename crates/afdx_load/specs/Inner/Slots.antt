@@ -27,7 +27,7 @@ AreLoads links ports loads = All (λ row. (row.id < 25) × ((d : Load) → slice
 abbrev pub HaveRoom : List Load → Type 0
 HaveRoom loads = (port : ℕ) (d : Load) → port < 25 → (slice_index_or loads port d).highs + (slice_index_or loads port d).lows < 4096
 
--- the load in a place, with a link where it leads there
+-- the load in a place, with a link if it leads there
 abbrev pub with_routed : List Speed → List Load → Link → ℕ → Load → Load
 with_routed speeds loads link port d =
     if leads_to port link then with_link (speed_at speeds port) (slice_index_or loads port d) link else slice_index_or loads port d

@@ -44,7 +44,7 @@ pub record AreGauged {Z : Type 0} (r : Run) (g : Gauges Z) : Type 0 where
   pub many : length g.ports.items ≡ length r.table.ports
   pub each : (place : ℕ) (p : PortRow) (a : AtPort Z) → slice_get r.table.ports place ≡ Some p → IsGaugedAt r place p (slice_index_or g.ports.items place a)
 
--- where anything is noted
+-- if anything is noted, it agrees with the run
 abbrev pub AgreesWith : {Z : Type 0} → Run → Option (Gauges Z) → Type 0
 AgreesWith r None = Unit {0}
 AgreesWith r (Some g) = AreGauged r g
@@ -63,7 +63,7 @@ pub record AreFresh {Z : Type 0} (t : Content) (ports : List (AtPort Z)) : Type 
 
 -- ---- notes at a port
 
--- it held so much more
+-- its buffer held so much, which is noted after what it held before
 pub record IsFilledAt {Z : Type 0} (place : ℕ) (filling : Filling) (old new : List (AtPort Z)) : Type 0 where
   pub long : length new ≡ length old
   pub others : (k : ℕ) (a : AtPort Z) → k ≢ place → slice_index_or new k a ≡ slice_index_or old k a
@@ -95,7 +95,7 @@ FillsBy r now at p Full = peak_at now p ≡ peak_at r p
 abbrev pub asked : List (ℕ × Offer) → List ℕ
 asked offers = map (λ (o : ℕ × Offer). o.0) offers
 
--- of each port, that was asked once or not at all
+-- so it is of each port that was asked. None was asked twice, and the peak of each other port is as it was
 pub record Fill (r now : Run) (at : ℕ) (offers : List (ℕ × Offer)) : Type 0 where
   pub formed : IsWellFormed now.table
   pub once : IsDistinct nat_eq (asked offers)

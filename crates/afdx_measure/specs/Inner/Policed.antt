@@ -10,7 +10,7 @@ use Rattle.afdx_measure.specs.declared.policing.Policing.{Policing}
 use Rattle.afdx_measure.specs.declared.policing.Span.{Span}
 use Rattle.afdx_measure.specs.Policing.{spells_in, stamp_at}
 
--- these are the stamps of the first and of the last arrival, where there is one
+-- these are the stamps of the first and of the last arrival, if there is one
 abbrev pub EndsAre : Option (ℕ × ℕ) → Run → Type 0
 EndsAre None r = length r.rows ≡ 0
 EndsAre (Some ends) r = (stamp_at 0 r.rows ≡ Some ends.0) × (stamp_at (length r.rows - 1) r.rows ≡ Some ends.1)
@@ -21,14 +21,14 @@ pub record HaveSpells (r : Run) (spells : List Noted) : Type 0 where
   pub each : (place : ℕ) (l : Link) (d : Noted) → slice_get r.table.links place ≡ Some l
       → ((slice_index_or spells place d).gap ≡ bag_ns l.bag) × ((slice_index_or spells place d).spells ≡ spells_in r l)
 
--- these, and when frames came
+-- these, how many frames came, and when the first and the last of them did
 pub record IsPoliced {Z : Type 0} (r : Run) (p : Policing Z) : Type 0 where
   pub formed : IsWellFormed r.table
   pub spells : HaveSpells r p.spells.items
   pub count : p.span.count ≡ length r.rows
   pub ends : EndsAre p.span.ends r
 
--- where anything is noted
+-- if anything is noted, it agrees with the run
 abbrev pub KnowsPolicing : {Z : Type 0} → Run → Option (Policing Z) → Type 0
 KnowsPolicing r None = Unit {0}
 KnowsPolicing r (Some p) = IsPoliced r p
@@ -42,7 +42,7 @@ ends_with at (Some ends) = Some (ends.0, at)
 abbrev pub with_arrival : ℕ → ℕ → Span → Span
 with_arrival number at s = record { count = number + 1; ends = ends_with at s.ends }
 
--- at a place a policed frame more was noted
+-- one more policed frame was noted, of the link at a place
 pub record IsNotedAt (place : ℕ) (frame : Excess) (old new : List Noted) : Type 0 where
   pub long : length new ≡ length old
   pub others : (k : ℕ) (d : Noted) → k ≢ place → slice_index_or new k d ≡ slice_index_or old k d

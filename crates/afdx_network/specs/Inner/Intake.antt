@@ -37,14 +37,14 @@ records_at place came = map (λ a. a.head.frame) (at_place place came)
 abbrev pub came_at : List End → List Arrival → (switch port : ℕ) → List Record
 came_at ends came switch port = records_at (end_place ends (end_at switch port)) came
 
--- there is a line of each port where the file says so, and it has brought those of these arrivals that came in there; each port is there once
+-- if the file says so, each port to which no wire goes is there once and has a line, which has brought those of these arrivals that came in there
 pub record AreMet (net : Network) (lines : List Line) (came : List Arrival) : Type 0 where
   pub formed : net.layout.one_line ≡ true → All IsWellFormed net.tables
   pub many : length lines ≡ (if net.layout.one_line then length (open_ends net) else 0)
   pub each : (place : ℕ) (line : Line) (e : End) (row : PortRow) → slice_get lines place ≡ Some line → slice_get (open_ends net) place ≡ Some e
       → port_at net e ≡ Some row → (line.speed ≡ row.speed) × HasBrought line (records_at place came)
 
--- readers gave this at first, and of what they gave these arrivals were taken
+-- these arrivals were taken from the readers, which were as these at first and are as these now
 pub record HasTaken {R : Type 0} (remaining : R → Option (List ℕ)) (net : Network) (first now : List R) (i : Intake) (came : List Arrival) : Type 0 where
   pub ends : i.ends.items ≡ open_ends net
   pub met : AreMet net i.lines.items came
@@ -54,7 +54,7 @@ pub record HasTaken {R : Type 0} (remaining : R → Option (List ℕ)) (net : Ne
 abbrev pub next_of : Intake → Option ℕ
 next_of i = least_of i.merging.lanes.items
 
--- none of them comes before this instant
+-- the next record, if there is one, does not come before this instant
 abbrev pub IsNotBefore : ℕ → Option ℕ → Type 0
 IsNotBefore h None = Unit {0}
 IsNotBefore h (Some n) = h ≤ n
@@ -64,13 +64,13 @@ pub record AreGivenSoFar (net : Network) (came : List Arrival) (given : Given) :
   pub are : AreGiven net given
   pub each : (switch : ℕ) (own : List Text) (text : Text) → slice_get given switch ≡ Some own → Contains own text → IsCapture text.1 (came_at (open_ends net) came switch text.0)
 
--- no record of these came in the last 64 seconds that pcap can hold
+-- each record of these came at least 64 seconds before the last second that pcap can hold
 abbrev pub NoneCameLate : List Arrival → Type 0
 NoneCameLate came = AllByRecursion (λ a. a.head.frame.stamp + 64 * second ≤ last_second) came
 
 -- ---- a record is taken
 
--- the next arrival of all came at this port
+-- the next of all arrivals is this record, which came in at this port
 pub record IsNextIn {R : Type 0} (remaining : R → Option (List ℕ)) (net : Network) (first now : List R) (old new : Intake) (came : List Arrival) (to : End) (frame : Record) : Type 0 where
   pub arrival : Arrival
   pub to_is : slice_get (open_ends net) arrival.place ≡ Some to
@@ -80,18 +80,18 @@ pub record IsNextIn {R : Type 0} (remaining : R → Option (List ℕ)) (net : Ne
   pub least : lesser (Some frame.stamp) (next_of new) ≡ next_of old
   pub early : frame.stamp < last_second
 
--- ---- the lines, where all were taken
+-- ---- the lines, when all were taken
 
 -- those that came in at the port at a place came over one line
 abbrev pub IsOverItsLine : Network → List Arrival → (place : ℕ) → Type 0
 IsOverItsLine net came place = (e : End) (row : PortRow) → slice_get (open_ends net) place ≡ Some e → port_at net e ≡ Some row
     → RecordsKeepToLineWithin stamp_rounding row.speed (records_at place came)
 
--- where the file says so, all did
+-- if the file says so, all did
 abbrev pub AreOverLines : Network → List Arrival → Type 0
 AreOverLines net came = net.layout.one_line ≡ true → (place : ℕ) → IsOverItsLine net came place
 
--- the file says so, and this is the first port of which it is not so, and the first record there that came too soon
+-- the file says so; this is the first port of which it is not so, and this is the first record there that came too soon
 pub record BreaksALine (net : Network) (came : List Arrival) (switch port number : ℕ) : Type 0 where
   pub said : net.layout.one_line ≡ true
   pub formed : All IsWellFormed net.tables
@@ -121,14 +121,14 @@ IsFaultAt ends merge.Memory why = why ≡ fault.Memory
 IsFaultAt ends (merge.Read place) why = why ≡ fault.Read place
 IsFaultAt ends (merge.Capture place reason) why = (e : End) × (slice_get ends place ≡ Some e) × (why ≡ fault.Capture e.switch e.port reason)
 
--- it is of one of so many captures
+-- the fault is of one of so many captures, or memory ran out
 abbrev pub IsAmong : ℕ → MergeFault → Type 0
 IsAmong count merge.Memory = Unit {0}
 IsAmong count (merge.Read place) = place < count
 IsAmong count (merge.Capture place reason) = place < count
 
--- memory ran out or a reader failed, which may be at any time; or all was read, and what this port's gives is the first that is no capture, or
--- all are, and this port's line is broken
+-- memory ran out or a reader failed, which may be at any time; or all was read, and what this port's reader gives is the first that is no
+-- capture; or all are captures, and this port's line is the first that is broken
 abbrev pub IsIntakeFault : {R : Type 0} → (R → Option (List ℕ)) → Network → List R → NetworkRunFault → Type 0
 IsIntakeFault remaining net readers fault.Memory = Unit {0}
 IsIntakeFault remaining net readers (fault.Read place) = place < length readers

@@ -35,12 +35,12 @@ pub record NoneHasLeft (keeps : Bool) (s : Site) : Type 0 where
   pub kept : s.paced.keeps ≡ keeps
   pub each : (port : ℕ) (l : Lane) → lane_at s.paced port ≡ Some l → l.left ≡ []
 
--- where anything is noted
+-- so it is, if anything is noted
 abbrev pub AreNoted : Network → (keeps : Bool) → List Site → Option Origins → Type 0
 AreNoted net keeps sites None = Unit {0}
 AreNoted net keeps sites (Some o) = AreNotedAt net keeps o sites
 
--- where nothing was sent at first, what ports send was noted
+-- if copies are noted and none was sent at first, what ports send was noted, or all that was noted was let go
 abbrev pub HasNoted : Network → (keeps : Bool) → (old new : Option Origins) → List Site → Type 0
 HasNoted net keeps old new sites = old ≡ Some (record { net = net; sent = [] }) → AreNoted net keeps sites new
 

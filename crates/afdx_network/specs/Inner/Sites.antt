@@ -36,7 +36,7 @@ pub record Site : Type 0 where
   pub gone : List (List ℕ)
   pub next : Option ℕ
 
--- the earlier of two instants, of which there may be one alone
+-- the earlier of two instants, of which the first may be missing
 abbrev pub earlier : Option ℕ → ℕ → ℕ
 earlier None n = n
 earlier (Some m) n = min m n
@@ -63,7 +63,7 @@ pub record IsCame (net : Network) (switch : ℕ) (own : List Text) (l : Lane) : 
   pub given : wire_to net (end_at switch l.port) ≡ None → (bytes : List ℕ) × Contains own (l.port, bytes) × IsCapture bytes l.came
   pub brought : (w : Wire) → wire_to net (end_at switch l.port) ≡ Some w → AreReadable 0 l.came × All IsWithinLimit l.came
 
--- what left a port comes first of what leaves it
+-- what has left a port is the first part of what leaves it up to the instant that its switch has come to
 abbrev pub IsPrefix : Paced → PortRow → Lane → Type 0
 IsPrefix v p l = (rest : List Record) × (out_up_to v (Some v.reached) p ≡ l.left ++ rest)
 
@@ -76,7 +76,7 @@ pub record IsRunning (s : Site) : Type 0 where
   pub next : IsNext s.paced s.next
   pub prefix : AtPorts (IsPrefix s.paced) s.paced
 
--- that of a place in the network
+-- the switch at a place in the network
 pub record IsSite (net : Network) (given : Given) (switch : ℕ) (s : Site) : Type 0 where
   pub own : List Text
   pub table_is : slice_get net.tables switch ≡ Some s.paced.table
@@ -84,7 +84,7 @@ pub record IsSite (net : Network) (given : Given) (switch : ℕ) (s : Site) : Ty
   pub running : IsRunning s
   pub came : AllByRecursion (IsCame net switch own) s.paced.lanes
 
--- all that leaves the ports of a switch up to an instant has left; all at all, where there is none
+-- all that leaves the ports of a switch up to an instant has left; all that ever leaves them, if there is none
 abbrev pub HasSent : Option ℕ → Site → Type 0
 HasSent h s = AtPorts (λ p l. length (out_up_to s.paced h p) ≤ length l.left) s.paced
 
@@ -92,7 +92,7 @@ HasSent h s = AtPorts (λ p l. length (out_up_to s.paced h p) ≤ length l.left)
 abbrev pub HasSentAt : Option ℕ → ℕ → Site → Type 0
 HasSentAt h port s = (p : PortRow) (l : Lane) → port_row s.paced.table port ≡ Some p → lane_at s.paced port ≡ Some l → length (out_up_to s.paced h p) ≤ length l.left
 
--- how much leaves a port up to the instant that its switch has come to, beside what has left
+-- how many records leave a port up to the instant that its switch has come to and have not left yet
 abbrev pub behind : Paced → Option PortRow → Option Lane → ℕ
 behind v None l = 0
 behind v (Some p) None = 0
@@ -104,7 +104,7 @@ behind v (Some p) (Some l) = length (out_up_to v (Some v.reached) p) - length l.
 abbrev pub carried : Wire → List Record → List Record
 carried w left = if w.down then [] else map (delayed w.delay) left
 
--- what came in at the end of a wire is what left at its start, so much later; nothing where the wire is down
+-- what came in at the end of a wire is what left at its start, later by the wire's delay; nothing, if the wire is down
 pub record IsCarried (sites : List Site) (w : Wire) : Type 0 where
   pub start : Lane
   pub there : Lane
@@ -142,7 +142,7 @@ pub record AreCarried (net : Network) (given : Given) (sites : List Site) : Type
 -- ---- a window
 
 -- in a window that begins at one instant and ends at another, a switch has come no further than its end, and all that leaves up to its
--- begin has left
+-- beginning has left
 pub record IsIn (begin end : ℕ) (s : Site) : Type 0 where
   pub reached : s.paced.reached ≤ end
   pub sent : HasSent (Some begin) s
@@ -151,12 +151,12 @@ pub record IsIn (begin end : ℕ) (s : Site) : Type 0 where
 abbrev pub HasCome : ℕ → Site → Type 0
 HasCome end s = IsIn end end s
 
--- a time is no longer than that from an arrival at the switch where a wire begins to the arrival that it causes at the wire's end
+-- a time is no longer than the least from an arrival at the switch where a wire begins to the arrival that it causes at the wire's end
 abbrev pub IsWithin : Network → (look : ℕ) → Wire → Type 0
 IsWithin net look w = (t : Content) (p : PortRow) → slice_get net.tables w.from.switch ≡ Some t → port_row t w.from.port ≡ Some p
     → look ≤ t.latency + cost_of p.speed least_size + w.delay
 
--- no longer than that of any wire
+-- a time above 0 that is no longer than that of any wire
 pub record IsLook (net : Network) (look : ℕ) : Type 0 where
   pub positive : 0 < look
   pub least : All (IsWithin net look) net.layout.wires
@@ -176,18 +176,18 @@ pub record AreInCarry (net : Network) (given : Given) (begin end : ℕ) (from : 
   pub inside : All (IsIn begin end) sites
   pub wires : All (IsPending sites from frame net.layout.wires k) net.layout.wires
 
--- an instant before which something can happen
+-- something can happen before this instant
 abbrev pub acts_before : ℕ → Option ℕ → Bool
 acts_before end None = false
 acts_before end (Some n) = nat_lt n end
 
--- the earlier of two instants, of which there may be none
+-- the earlier of two instants, each of which may be missing
 abbrev pub earlier_of : Option ℕ → Option ℕ → Option ℕ
 earlier_of (Some a) (Some b) = Some (min a b)
 earlier_of (Some a) None = Some a
 earlier_of None other = other
 
--- the first instant at which anything can happen at these switches
+-- before this instant nothing can happen at these switches; nothing at all, if there is none
 abbrev pub IsFirst : List Site → Option ℕ → Type 0
 IsFirst sites None = All (λ s. s.next ≡ None) sites
 IsFirst sites (Some n) = All (λ s. acts_before n s.next ≡ false) sites
@@ -218,7 +218,7 @@ pub record IsFresh (keeps : Bool) (t : Content) (s : Site) : Type 0 where
   pub gone : s.gone ≡ map (λ p. []) t.ports
   pub next : IsNext s.paced s.next
 
--- the switch went to an instant, and next is another one
+-- the switch went to an instant, and its next one may be another
 pub record WentTo (h : ℕ) (old new : Site) : Type 0 where
   pub paced : new.paced ≡ after_going h old.paced
   pub left : new.left ≡ old.left
@@ -238,7 +238,7 @@ abbrev pub IsHandedOut : Site → Site → (place port : ℕ) → Option Record 
 IsHandedOut old new place port None = NoneGoesOut old.paced new.paced port × (new.left ≡ old.left) × (new.gone ≡ old.gone) × (new.next ≡ old.next)
 IsHandedOut old new place port (Some out) = HandsOut old new place port out
 
--- what has gone to the files of a switch may be more; it is as it was else
+-- more may have gone to the files of a switch, which is as it was otherwise
 pub record HandsOver (old new : Site) : Type 0 where
   pub paced : new.paced ≡ old.paced
   pub left : new.left ≡ old.left
@@ -265,7 +265,7 @@ pub record HasLed (s : Site) (results : Results) : Type 0 where
 abbrev pub counts_at : List Site → List Tally
 counts_at sites = map (λ s. counts_of s.paced.table (rows_of s.paced.table (arrivals s.paced))) sites
 
--- the port at a wire's end takes a record that much later
+-- the port at a wire's end takes a record, later by the wire's delay
 pub record CanCome (sites : List Site) (w : Wire) (frame : Record) : Type 0 where
   pub site : Site
   pub at : slice_get sites w.to.switch ≡ Some site
@@ -280,7 +280,7 @@ pub record CameOver (old new : List Site) (w : Wire) (frame : Record) : Type 0 w
   pub small : IsWithinLimit frame
   pub new_is : new ≡ slice_set old w.to.switch (after_putting w.to.port (delayed w.delay frame) site)
 
--- why it did not: memory ran out, or it would come in the last second
+-- why it did not: memory ran out, or it would come in the last second that pcap can hold, or later
 abbrev pub IsLateFault : Wire → Record → NetworkRunFault → Type 0
 IsLateFault w frame fault.Memory = Unit {0}
 IsLateFault w frame (fault.Capture switch port why) = (switch ≡ w.to.switch) × (port ≡ w.to.port) × (last_second ≤ frame.stamp + w.delay)
@@ -288,7 +288,7 @@ IsLateFault w frame (fault.Read place) = ⊥
 IsLateFault w frame fault.WrongWires = ⊥
 IsLateFault w frame (fault.Line switch port number) = ⊥
 
--- a switch goes on within a window: nothing that leaves it up to the window's end becomes more, and no less has left
+-- a switch goes on within a window: what leaves it up to the window's end stays as it was, and no less has left
 pub record SendsOn (end : ℕ) (old new : Site) : Type 0 where
   pub table : new.paced.table ≡ old.paced.table
   pub reached : new.paced.reached ≡ old.paced.reached
@@ -300,12 +300,12 @@ pub record SendOn (end : ℕ) (old new : List Site) : Type 0 where
   pub all : length new ≡ length old
   pub each : (n : ℕ) (s : Site) → slice_get new n ≡ Some s → (was : Site) × (slice_get old n ≡ Some was) × SendsOn end was s
 
--- what still waits to be handed out at a port, where it has come to
+-- how many records still wait to be handed out at a port, up to the instant that its switch has come to
 abbrev pub waits_at : Option Site → ℕ → ℕ
 waits_at None port = 0
 waits_at (Some s) port = behind s.paced (port_row s.paced.table port) (lane_at s.paced port)
 
--- a record, or none, that left a port of a switch went over the port's wires within a window
+-- a record that left a port of a switch went over the port's wires within a window; or there was none, and all had left there
 pub record Carries (net : Network) (given : Given) (begin end : ℕ) (from : End) (more : Bool) (old new : List Site) : Type 0 where
   pub window : AreInWindow net given begin end new
   pub on : SendOn end old new
@@ -331,7 +331,7 @@ after_hops n = latest + n * 501000000
 abbrev pub AreEarly : (place : ℕ → ℕ) → List Site → Type 0
 AreEarly place sites = (n : ℕ) (s : Site) → slice_get sites n ≡ Some s → AllByRecursion (λ (l : Lane). AllByRecursion (λ (r : Record). r.stamp ≤ after_hops (place n)) l.came) s.paced.lanes
 
--- where no frame can be late, none is late after a call either, which fails for memory alone
+-- if the loads are accepted, no frame can be late and none was late before a call, none is late after it, and it fails for lack of memory alone
 abbrev pub StayEarly : {X : Type 0} → Network → Given → List Site → List Site → Result X NetworkRunFault → Type 0
 StayEarly net given old new result = (none : NoneIsLateAnywhere net given) → All IsAccepted net.tables → AreEarly none.order.place old
     → MatchResult result (λ _. AreEarly none.order.place new) (λ why. why ≡ fault.Memory)

@@ -21,7 +21,7 @@ pub record IsOnWay {R : Type 0} (remaining : R → Option (List ℕ)) (net : Net
   pub come : HaveCome net given h sites
   pub next : IsNotBefore h (next_of i)
 
--- more came in, and the switches went on
+-- more came in, and the switches went on; none is late, if none can be
 pub record GoesOn {R : Type 0} (remaining : R → Option (List ℕ)) (net : Network) (first now : List R) (i : Intake) (came : List Arrival) (old : List Site) (h : ℕ) (sites : List Site) : Type 0 where
   pub more : List Arrival
   pub given : Given
@@ -43,14 +43,14 @@ abbrev pub IsRunFault : Network → NetworkRunFault → Type 0
 IsRunFault net fault.WrongWires = NoneShareAPort net → ⊥
 IsRunFault net why = IsWireFault net why
 
--- the run stopped, where these were given; where no frame can be late, for memory alone
+-- the run stopped after these arrivals were taken; if no frame can be late, for lack of memory alone
 pub record StopsOnWay {R : Type 0} (remaining : R → Option (List ℕ)) (net : Network) (first now : List R) (i : Intake) (why : NetworkRunFault) : Type 0 where
   pub came : List Arrival
   pub taken : HasTaken remaining net first now i came
   pub wired : IsRunFault net why
   pub never : (order : HasOrder net) → All (λ w. w.delay ≤ 1000000) net.layout.wires → All IsAccepted net.tables → NoneCameLate came → why ≡ fault.Memory
 
--- why it stopped: what is given is not read on, or the run is not
+-- why it stopped: what is given cannot be read on, or the run cannot go on
 abbrev pub IsStop : {R : Type 0} → (R → Option (List ℕ)) → Network → List R → List R → Intake → Stop → Type 0
 IsStop remaining net first now i (stop.Intake why) = IsIntakeFault remaining net first why
 IsStop remaining net first now i (stop.Run why) = StopsOnWay remaining net first now i why

@@ -91,7 +91,7 @@ pub record IsFreshSwitch (t : Content) (s : AtSwitch) : Type 0 where
   pub many : length s.links.items ≡ length t.links
   pub each : (place : ℕ) (l : Link) (a : AtLink) → slice_get t.links place ≡ Some l → IsFreshLink (length l.to) (slice_index_or s.links.items place a)
 
--- some of the first frames were forgotten, and one came in behind the others
+-- some of the first frames were forgotten, and one came in after the others
 pub record HasJoined (c : Coming) (old new : List Coming) : Type 0 where
   pub gone : List Coming
   pub kept : List Coming

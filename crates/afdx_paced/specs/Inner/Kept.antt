@@ -88,7 +88,7 @@ pub record IsCut (h : ℕ) (l : Parts) : Type 0 where
 abbrev pub given_of : List Parts → List Arrival
 given_of lanes = merged (map gone_of lanes)
 
--- what the port at a place handed out is what left there, and comes first of what leaves it up to the instant
+-- what the port at a place handed out is what left there, and is the first part of what leaves it up to the instant
 pub record HasLeft {Z : Type 0} (h : ℕ) (f : Feeder Z) (place : ℕ) (p : PortRow) (l : Parts) : Type 0 where
   pub count : slice_index f.switch.run.handed place ≡ length l.left
   pub rest : List Record
@@ -108,17 +108,17 @@ pub record IsGoing {Z : Type 0} (h : ℕ) (f : Feeder Z) : Type 0 where
 
 -- ---- what comes next
 
--- the stamp of the first of what waits
+-- nothing that waits came before this instant; if there is none, nothing waits
 abbrev pub IsFirstHead : List Parts → Option ℕ → Type 0
 IsFirstHead lanes None = AllByRecursion (λ (l : Parts). l.waiting ≡ []) lanes
 IsFirstHead lanes (Some n) = AllByRecursion (λ (l : Parts). AllByRecursion (λ (r : Record). n ≤ r.stamp) l.waiting) lanes
 
--- no event that was not carried out lies before what the instant reaches
+-- the next event does not lie before what the instant reaches, unless that instant is 0; if there is none, each event was carried out
 abbrev pub IsNextStart : Run → Option ℕ → Type 0
 IsNextStart r None = IsNextEvent r None
 IsNextStart r (Some n) = (at : ℕ) × IsNextEvent r (Some at) × ((n ≡ 0) ⊎ (n + r.table.latency ≤ at))
 
--- of two instants, or none, the first is no later
+-- of two instants the first is no later; one that is missing is later than any other
 abbrev pub IsNoLater : Option ℕ → Option ℕ → Type 0
 IsNoLater None other = other ≡ None
 IsNoLater (Some n) None = Unit {0}

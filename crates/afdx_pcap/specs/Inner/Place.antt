@@ -11,7 +11,7 @@ use Rattle.afdx_pcap.specs.Fault.{is_cut, record_fault, last_stamp}
 
 -- ---- in the bytes that are kept
 
--- where the first record begins, behind this header
+-- where the first record begins, after this header
 abbrev pub first_place : Result Format PcapFault → Result Progress PcapFault
 first_place (Ok f) = Ok (record { format = f; place = 24; last = 0 })
 first_place (Err fault) = Err fault
@@ -64,7 +64,7 @@ NoneComes kept n o = (p : Progress) → place_of kept o ≡ Ok p → record_faul
 abbrev pub lasting : Bool → PcapFault → Option PcapFault
 lasting closed fault = if closed || not (is_cut fault) then Some fault else None
 
--- what is answered where none comes: nothing, where nothing is left
+-- what is answered if none comes: nothing, if nothing is left
 abbrev pub IsRestAnswer : List ℕ → ℕ → Bool → Result Progress PcapFault → Option PcapFault → Type 0
 IsRestAnswer kept n closed (Err fault) answer = answer ≡ lasting closed fault
 IsRestAnswer kept n closed (Ok p) answer =

@@ -5,8 +5,8 @@ use Rattle.afdx_pcap.specs.Record.{Record, IsWithinLimit}
 use Rattle.afdx_pcap.specs.Capture.{IsCapture}
 use Rattle.afdx_pcap.specs.Text.{capture_text}
 
--- where a written text is a capture, it is one of the records that were written: nothing is asked of their order, nor of the last
--- second, since a text that has either is no capture
+-- if a written text is a capture, it is one of the records that were written: nothing is asked of their order, nor of the last
+-- second, since a text in which stamps fall or lie in the last second is no capture
 abbrev pub WrittenTextsReadBack : Type 0
 WrittenTextsReadBack = (rs qs : List Record) → All IsWithinLimit rs → All (λ r. IsInstant r.stamp) rs → All (λ r. r.original ≡ length r.bytes) rs
     → IsCapture (capture_text rs) qs → qs ≡ rs

@@ -7,12 +7,12 @@ use Rattle.afdx_port.specs.Service.{came, service, before}
 use Rattle.afdx_port.specs.Admission.{occupied, admit, admit_all, admitted, AllFitIn, AllFit}
 use Rattle.afdx_port.specs.Content.{Content, answer}
 
--- an arrival at t changes no event before t
+-- an arrival that is queued at t or later changes no event before t
 abbrev pub EarlierEventsStay : Type 0
 EarlierEventsStay = (s : Settings) (t free : ℕ) (items : List Item) (x : Item) → t ≤ came s x
     → before t (service s free (items ++ x ∷ [])) ≡ before t (service s free items)
 
--- nor does an offer at t
+-- nor does an offer of it
 abbrev pub EarlierEventsStayAdmitted : Type 0
 EarlierEventsStayAdmitted = (s : Settings) (t : ℕ) (admitted : List Item) (x : Item) → t ≤ came s x
     → before t (service s 0 (admit s admitted x)) ≡ before t (service s 0 admitted)
@@ -21,7 +21,7 @@ EarlierEventsStayAdmitted = (s : Settings) (t : ℕ) (admitted : List Item) (x :
 abbrev pub IsFull : Settings → List Item → Item → Type 0
 IsFull s admitted x = s.buffer < x.size + occupied s (came s x) admitted
 
--- an offer is answered Full exactly where the item is refused
+-- an offer is answered Full exactly if the item is refused
 abbrev pub FullIsExact : Type 0
 FullIsExact = (c : Content) (x : Item) → (answer x c ≡ Full) ↔ IsFull c.settings c.admitted x
 
@@ -41,6 +41,7 @@ AdmittedInParts = (s : Settings) (before feed later : List Item) → admit_all s
 abbrev pub with_buffer : ℕ → Settings → Settings
 with_buffer bytes s = record { speed = s.speed; buffer = bytes; max_delay = s.max_delay; latency = s.latency }
 
--- what a port does with what it admitted, and when, does not rest on the size of its buffer
+-- what fits into a port with a buffer of so many bytes would fit into so many bytes at this port: what a port does with what it
+-- admitted, and when, does not rest on the size of its buffer
 abbrev pub BuffersServeAlike : Type 0
 BuffersServeAlike = (s : Settings) (bytes : ℕ) (items : List Item) → AllFit (with_buffer bytes s) [] items → AllFitIn bytes s [] items

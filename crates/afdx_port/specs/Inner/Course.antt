@@ -1,4 +1,4 @@
--- The course of a line where all that wait have come: one item starts after the other.
+-- The course of a line once all that wait have come: one item starts after the other.
 use Rattle.std.specs.Prelude.{ℕ, ◌+◌, ◌-◌, ◌≤◌, ◌≡◌, max, All, Contains, sum_by, Option, Some, None, nat_lt, if◌then◌else◌, List, [], ◌∷◌, ◌++◌}
 use Rattle.afdx_port.specs.declared.Settings.{Settings}
 use Rattle.afdx_port.specs.declared.Item.{Item}
@@ -9,17 +9,17 @@ use Rattle.afdx_port.specs.Inner.Order.{line_up, in_line}
 use Rattle.afdx_port.specs.Inner.Progress.{LineState, left}
 use Rattle.afdx_port.specs.Inner.Work.{item_cost, work, HaveCome}
 
--- the next event, if any, where the next start is at b
+-- the next event, at b, if any item waits
 abbrev pub next_in_line : Settings → ℕ → List Item → List Event
 next_in_line s b [] = []
 next_in_line s b (x ∷ items) = fate s b x ∷ []
 
--- the next start and the items after it
+-- the next start and the items that wait, after the next event
 abbrev pub after_next : Settings → ℕ → List Item → LineState
 after_next s b [] = record { free = b; waiting = [] }
 after_next s b (x ∷ items) = record { free = free_after (fate s b x); waiting = items }
 
--- the next start and the items after all events before t
+-- the next start and the items that wait, after all events before t
 abbrev pub rest_in_line : Settings → ℕ → ℕ → List Item → LineState
 rest_in_line s t b [] = record { free = b; waiting = [] }
 rest_in_line s t b (x ∷ items) = if nat_lt b t then rest_in_line s t (free_after (fate s b x)) items else record { free = b; waiting = x ∷ items }
@@ -42,7 +42,7 @@ abbrev pub LineGoesOn : Type 0
 LineGoesOn = (s : Settings) (t u : ℕ) (items : List Item) → t ≤ u → HaveCome s t items
     → line_at s u items ≡ reached u (rest_in_line s u (line_at s t items).free (line_at s t items).waiting)
 
--- an arrival is behind those of its priority
+-- an arrival comes after those of its priority
 abbrev pub ArrivalJoinsTheLine : Type 0
 ArrivalJoinsTheLine = (s : Settings) (t : ℕ) (items : List Item) (x : Item) → t ≤ came s x
     → line_at s t (items ++ x ∷ []) ≡ record { free = (line_at s t items).free; waiting = line_up ((line_at s t items).waiting ++ x ∷ []) }

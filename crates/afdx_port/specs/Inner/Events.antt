@@ -7,7 +7,7 @@ use Rattle.afdx_port.specs.declared.Item.{Item}
 use Rattle.afdx_port.specs.declared.Sent.{Sent}
 use Rattle.afdx_port.specs.Service.{Event, sending, item_of, fate, service, before, sent_of, aged_of}
 
--- each item has one event, so that as many events as items are of any kind of items
+-- each item has one event: of each kind of items there are as many events as items
 abbrev pub EachHasOneEvent : Type 0
 EachHasOneEvent = (s : Settings) (free : ℕ) (items : List Item) (kind : Item → Bool) → count_by (λ event. kind (item_of event)) (service s free items) ≡ count_by kind items
 
@@ -18,7 +18,7 @@ SentInParts = (first second : List Event) → sent_of (first ++ second) ≡ sent
 abbrev pub AgedInParts : Type 0
 AgedInParts = (first second : List Event) → aged_of (first ++ second) ≡ aged_of first ++ aged_of second
 
--- what is sent before an instant comes first of what is sent before a later one, and of all that is sent
+-- what is sent before an instant is a prefix of what is sent before a later one, and of all that is sent
 pub record SentGoesOn : Type 0 where
   pub until : (s : Settings) (t u : ℕ) (items : List Item) → t ≤ u
       → (later : List Sent) × (sent_of (before u (service s 0 items)) ≡ sent_of (before t (service s 0 items)) ++ later)

@@ -12,7 +12,8 @@ use Rattle.afdx_port.specs.Inner.Order.{InOrder}
 abbrev pub gone : ℕ → List Sent → List Aged → ℕ
 gone t sent aged = sum_by (λ x. x.item.size) (filter (λ x. nat_le x.end t) sent) + sum_by (λ a. a.item.size) (filter (λ a. nat_lt a.at t) aged)
 
--- whatever comes later, what is occupied for x and what has gone by then are what was admitted before x
+-- whatever comes later, the bytes occupied when x is queued and those gone by then are together the bytes of all that was admitted
+-- before x
 abbrev pub OccupiedIsWhatHasNotGone : Type 0
 OccupiedIsWhatHasNotGone = (s : Settings) (items later : List Item) (x : Item) → InOrder s (items ++ x ∷ later)
     → occupied s (came s x) items + gone (came s x) (sent_of (service s 0 (items ++ x ∷ later))) (aged_of (service s 0 (items ++ x ∷ later))) ≡ sum_by (λ item. item.size) items

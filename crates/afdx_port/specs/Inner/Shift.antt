@@ -14,7 +14,7 @@ abbrev pub later_by : ℕ → Event → Event
 later_by d (sending x) = sending (record { item = x.item; begin = x.begin + d; end = x.end + d })
 later_by d (aging x) = aging (record { item = x.item; at = x.at + d })
 
--- the laws: where the latency is within the greatest delay, the events are those of such a port, each one latency later
+-- the laws: if the latency is within the greatest delay, the events are those of such a port, each one latency later
 abbrev pub LatencyMovesEvents : Type 0
 LatencyMovesEvents = (s : Settings) (items : List Item) → s.latency ≤ s.max_delay → service s 0 items ≡ map (later_by s.latency) (service (at_once s) 0 items)
 

@@ -18,7 +18,7 @@ abbrev pub rest_at : Settings → ℕ → Event → ℕ
 rest_at s t (sending x) = min (item_cost s x.item) (x.end - t)
 rest_at s t (aging x) = if nat_lt x.at t then 0 else item_cost s x.item
 
--- the work at t, where all the items have come by t
+-- the work at t, if all the items have come by t
 abbrev pub work : Settings → ℕ → List Item → ℕ
 work s t items = sum_by (rest_at s t) (service s 0 items)
 
@@ -48,15 +48,15 @@ abbrev pub EndsWithinASecond : Type 0
 EndsWithinASecond = (s : Settings) (free : ℕ) (items : List Item) → s.max_delay ≤ 500000000 → All (λ item. item.size ≤ greatest_size) items
     → All (λ x. x.end < x.item.stamp + second) (sent_of (service s free items))
 
--- the laws: what was admitted is worked off or still to do
+-- the laws: while no item is discarded, what was admitted is worked off or still to do
 abbrev pub WorkBalances : Type 0
 WorkBalances = (s : Settings) (t : ℕ) (items : List Item) → NoneAged s t items → work s t items + line_time t s items ≡ sum_by (item_cost s) items
 
--- the line rests only where no work is left
+-- and the line rests only if no work is left
 abbrev pub WorkFalls : Type 0
 WorkFalls = (s : Settings) (t u : ℕ) (items : List Item) → t ≤ u → HaveCome s t items → NoneAged s u items → work s u items ≡ work s t items - (u - t)
 
--- a new arrival adds its line time
+-- and a new arrival adds its line time
 abbrev pub WorkGrows : Type 0
 WorkGrows = (s : Settings) (t : ℕ) (items : List Item) (x : Item) → t ≤ came s x → NoneAged s t items → work s t (items ++ x ∷ []) ≡ work s t items + item_cost s x
 
@@ -64,22 +64,23 @@ WorkGrows = (s : Settings) (t : ℕ) (items : List Item) (x : Item) → t ≤ ca
 abbrev pub WorkBoundsBytes : Type 0
 WorkBoundsBytes = (s : Settings) (t most : ℕ) (items : List Item) → All (λ item. item_cost s item ≤ most) items → tick_of s.speed * occupied s t items ≤ work s t items + most
 
--- while no high item is discarded, the high work falls, save that a low item may be begun where there is none
+-- while no item is discarded, the high work falls, save that a low item may be begun when there is none
 abbrev pub HighWorkFalls : Type 0
 HighWorkFalls = (s : Settings) (t u most : ℕ) (items : List Item) → t ≤ u → HaveCome s t items → NoneAged s u items
     → All (λ item. is_high item.priority ≡ false → item_cost s item ≤ most) items
     → high_work s u items ≤ max (high_work s t items - (u - t)) most
 
--- in each window that ends with the list, the line time that comes is at most most/scale, and rate/scale for each nanosecond until t
+-- in each window that begins with an item and ends with the list, the line time that comes is at most `most`/`scale`, and
+-- `rate`/`scale` for each nanosecond until t
 abbrev pub WithinCurve : Settings → ℕ → ℕ → ℕ → ℕ → List Item → Type 0
 WithinCurve s scale most rate t items = (pre mid : List Item) (x : Item) → items ≡ pre ++ x ∷ mid → scale * sum_by (item_cost s) (x ∷ mid) ≤ most + rate * (t - came s x)
 
--- such arrivals keep the work within `most`
+-- such arrivals keep the work within `most`/`scale`
 abbrev pub WorkWithin : Type 0
 WorkWithin = (s : Settings) (scale most rate t : ℕ) (items : List Item) → rate ≤ scale → InOrder s items → HaveCome s t items → NoneAged s t items
     → WithinCurve s scale most rate t items → scale * work s t items ≤ most
 
--- what a high item counts
+-- the line time of a high item, and 0 of a low one
 abbrev pub high_cost : Settings → Item → ℕ
 high_cost s item = if is_high item.priority then item_cost s item else 0
 
@@ -87,7 +88,7 @@ high_cost s item = if is_high item.priority then item_cost s item else 0
 abbrev pub HighWithinCurve : Settings → ℕ → ℕ → ℕ → ℕ → List Item → Type 0
 HighWithinCurve s scale most rate t items = (pre mid : List Item) (x : Item) → items ≡ pre ++ x ∷ mid → scale * sum_by (high_cost s) (x ∷ mid) ≤ most + rate * (t - came s x)
 
--- high arrivals within a curve keep the high work within it and one low item
+-- high arrivals within a curve keep the high work within `most`/`scale` and one low item
 abbrev pub HighWorkWithin : Type 0
 HighWorkWithin = (s : Settings) (scale most rate low t : ℕ) (items : List Item) → rate ≤ scale → InOrder s items → HaveCome s t items → NoneAged s t items
     → All (λ item. is_high item.priority ≡ false → item_cost s item ≤ low) items

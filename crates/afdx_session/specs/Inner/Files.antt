@@ -36,7 +36,7 @@ pub record HavePrefixes {F : Type 0} (contents : F → Option (List ℕ)) (t : C
 abbrev pub HaveMore : {F : Type 0} → (F → Option (List ℕ)) → Content → List Text → List ℕ → List F → List F → Type 0
 HaveMore contents t texts taken start now = (read : List Capture) → AreCaptures texts read → HavePrefixes contents t (merged read) taken start now
 
--- what some lanes had of their outputs went to their files, and nothing else was done
+-- what lanes had of their outputs, or a part of it, went to their files, and nothing else was done
 pub record PutsOut {F Z : Type 0} (contents : F → Option (List ℕ)) (m : Machine Z) (files : List F) (lanes : List (Lane Z)) (now : List F) : Type 0 where
   pub of : AreOfTable m.switch.run.table lanes
   pub going : IsGoing m.switch.run.table lanes m.switch m.counts

@@ -33,7 +33,7 @@ pub record AreOfTable {Z : Type 0} (t : Content) (lanes : List (Lane Z)) : Type 
   pub formed : IsWellFormed t
   pub ports : map (λ (l : Lane Z). l.port) lanes ≡ map (λ (p : PortRow). p.id) t.ports
 
--- the instant that a switch comes to: the frontier, or the last one where all captures have ended
+-- the instant that a switch comes to: the frontier, or the last instant if all captures have ended
 abbrev pub come_to : Option ℕ → ℕ
 come_to None = last_instant
 come_to (Some h) = h
@@ -70,7 +70,7 @@ pub record IsGoing {Z : Type 0} (t : Content) (lanes : List (Lane Z)) (s : State
   pub settling : IsSettling streams given (map waiting_of lanes)
   pub is_given : IsGiven t given s
   pub come : since ≤ s.run.latest
-  -- what waits comes where the switch is, or later, and the switch is not past the frontier
+  -- what waits comes at the instant of the switch or later, and the switch is not past the frontier
   pub later : AllByRecursion (λ a. s.run.latest ≤ a.frame.stamp) (merged (map waiting_of lanes))
   pub until : s.run.latest ≤ come_to (frontier streams)
   pub counts_are : counts ≡ counts_so_far t (rows_of t given)
@@ -88,7 +88,7 @@ pub record IsRunning {Z : Type 0} (t : Content) (lanes : List (Lane Z)) (s : Sta
   -- a table without ports takes no arrival
   pub out : 0 < length lanes → going.since ≡ come_to (frontier going.streams)
 
--- a lane in the course of a call: its output may have grown, and records may have gone from it; nothing else of it is another
+-- a lane in the course of a call: it is as it was, but for what waits, for its last stamp and for its output, which may have grown
 pub record IsTouched {Z : Type 0} (old new : Lane Z) : Type 0 where
   pub port : new.port ≡ old.port
   pub reader : new.reader ≡ old.reader
@@ -106,7 +106,7 @@ AreTouched [] (n ∷ new) = ⊥
 AreTouched (l ∷ old) [] = ⊥
 AreTouched (l ∷ old) (n ∷ new) = IsTouched l n × AreTouched old new
 
--- a lane was drained
+-- a port was drained to its lane: the lane's output may have grown, and nothing else of it has changed
 pub record IsGrown {Z : Type 0} (old new : Lane Z) : Type 0 where
   pub touched : IsTouched old new
   pub last : new.last ≡ old.last
@@ -118,7 +118,7 @@ AreGrown [] (n ∷ new) = ⊥
 AreGrown (l ∷ old) [] = ⊥
 AreGrown (l ∷ old) (n ∷ new) = IsGrown l n × AreGrown old new
 
--- a lane as it was, but for what waits and for its output
+-- a lane as it was, but for what waits, for its last stamp, for its output and for how much of that was taken
 pub record IsAlike {Z : Type 0} (old new : Lane Z) : Type 0 where
   pub port : new.port ≡ old.port
   pub reader : new.reader ≡ old.reader
@@ -133,7 +133,7 @@ AreAlike [] (n ∷ new) = ⊥
 AreAlike (l ∷ old) [] = ⊥
 AreAlike (l ∷ old) (n ∷ new) = IsAlike l n × AreAlike old new
 
--- a lane as it was, but for its output
+-- a lane as it was, but for its output and for how much of that was taken
 pub record IsDrawnOff {Z : Type 0} (old new : Lane Z) : Type 0 where
   pub alike : IsAlike old new
   pub last : new.last ≡ old.last
@@ -145,7 +145,7 @@ AreDrawnOff [] (n ∷ new) = ⊥
 AreDrawnOff (l ∷ old) [] = ⊥
 AreDrawnOff (l ∷ old) (n ∷ new) = IsDrawnOff l n × AreDrawnOff old new
 
--- a switch is over the same table, of the same ports, and keeps its lists or lets go of them as before
+-- a switch is over the same table, accepted or not as before, and keeps its lists or lets go of them as before
 pub record IsOfSameTable (old new : State) : Type 0 where
   pub table : new.run.table ≡ old.run.table
   pub accepted : new.accepted ≡ old.accepted

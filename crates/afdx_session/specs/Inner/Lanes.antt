@@ -26,13 +26,14 @@ pub record HasRead {Z : Type 0} (l : Lane Z) (records : List Record) : Type 0 wh
   pub taken : HasTaken (record { bytes = l.reader.bytes; given = l.reader.given }) records
   pub last : l.last ≡ last_stamp 0 records
 
--- nothing else is there, and nothing is wrong; the lane has ended where the input has
+-- nothing else is there, and nothing is wrong; the lane has ended exactly if the input has
 pub record HasReadAll {Z : Type 0} (l : Lane Z) : Type 0 where
   pub none_left : NoNext l.reader.bytes l.reader.given
   pub sound : IsSound l.reader.bytes l.reader.given l.reader.closed
   pub ended : l.ended ≡ l.reader.closed
 
--- a lane was read on: but for what waits, for its last stamp and for how far the reader has come it is as it was
+-- a lane was read on: it is as it was, but for what waits, for its last stamp, for how far the reader has come and for whether the lane
+-- has ended
 pub record IsReadOn {Z : Type 0} (old new : Lane Z) : Type 0 where
   pub port : new.port ≡ old.port
   pub bytes : new.reader.bytes ≡ old.reader.bytes
@@ -75,7 +76,7 @@ IsLaneFault l run.WrongPorts = ⊥
 IsLaneFault l run.Closed = ⊥
 IsLaneFault l run.Failed = ⊥
 
--- the least place that a lane that has not ended has come to
+-- the least place that a lane that has not ended has come to; none if all have ended
 abbrev pub limit_at : {Z : Type 0} → List (Lane Z) → Option (ℕ × ℕ)
 limit_at [] = None
 limit_at (l ∷ lanes) = if l.ended then limit_at lanes else Some (first_place (l.last, l.port) (limit_at lanes))
@@ -85,12 +86,12 @@ abbrev pub best_place : Option (ℕ × ℕ) → ℕ × ℕ → ℕ × ℕ
 best_place None q = q
 best_place (Some p) q = if nat_le p.0 q.0 then p else q
 
--- the stamp of the first of some records
+-- the stamp of the first of these records, if there is one
 abbrev pub head_of : List Record → Option ℕ
 head_of [] = None
 head_of (r ∷ rs) = Some r.stamp
 
--- those of lanes
+-- those of what waits in each lane
 abbrev pub heads_of : {Z : Type 0} → List (Lane Z) → List (Option ℕ)
 heads_of lanes = map (λ l. head_of l.waiting.items) lanes
 
@@ -98,7 +99,7 @@ heads_of lanes = map (λ l. head_of l.waiting.items) lanes
 abbrev pub IsFirstOf : {Z : Type 0} → List (Lane Z) → Option (ℕ × ℕ) → Type 0
 IsFirstOf lanes first = IsFirstIn (heads_of lanes) (length lanes) first
 
--- what no call changes but that one that answers Ok
+-- what of a lane stays as it was while bytes of its capture come or the capture ends
 pub record IsStill {Z : Type 0} (old new : Lane Z) : Type 0 where
   pub port : new.port ≡ old.port
   pub out : new.out ≡ old.out
@@ -133,7 +134,7 @@ pub record NoneGoes {Z : Type 0} (limit : Option (ℕ × ℕ)) (old : List (Lane
   pub is : IsFirstOf old first
   pub past : (place stamp : ℕ) (lane : Lane Z) → first ≡ Some (place, stamp) → slice_get old place ≡ Some lane → IsWithin limit stamp lane.port → ⊥
 
--- it says of the first of what waits the same as the least place that a lane that has not ended has come to
+-- a limit: the first of what waits is within it exactly if it is within the least place that a lane that has not ended has come to
 abbrev pub IsLimit : {Z : Type 0} → Option (ℕ × ℕ) → List (Lane Z) → Type 0
 IsLimit {Z} limit lanes = (place stamp : ℕ) (lane : Lane Z) → IsFirstUpTo (heads_of lanes) (length lanes) place stamp → slice_get lanes place ≡ Some lane
     → IsWithin limit stamp lane.port ↔ IsWithin (limit_at lanes) stamp lane.port

@@ -27,7 +27,7 @@ texts_over lanes = map (λ l. (l.port, l.reader.bytes)) lanes
 abbrev pub taken_by : {Z : Type 0} → List (Lane Z) → List ℕ
 taken_by lanes = map (λ l. l.taken) lanes
 
--- no more than so many records are still to be read, and the end of each capture
+-- how many records are still to be read at most, with one more for the end of the capture; 0 once it has ended
 abbrev pub left_of : {Z : Type 0} → Lane Z → ℕ
 left_of l = if l.ended then 0 else length l.reader.bytes - l.reader.given + 1
 
@@ -39,7 +39,7 @@ left_in (l ∷ lanes) = left_of l + left_in lanes
 abbrev pub AreSound : List Text → Type 0
 AreSound texts = AllByRecursion IsSound texts
 
--- one of these captures has this fault
+-- memory ran out, or one of these captures has this fault
 abbrev pub IsOneFault : List Text → RunFault → Type 0
 IsOneFault texts run.Memory = Unit {0}
 IsOneFault texts (run.Capture port why) = (place : ℕ) × (bytes : List ℕ) × (slice_get texts place ≡ Some (port, bytes)) × IsFault bytes why

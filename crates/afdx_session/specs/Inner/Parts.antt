@@ -22,7 +22,8 @@ use Rattle.afdx_session.specs.Inner.Sources.{HaveSameBytes}
 
 -- ---- a port is drained to a file
 
--- what was taken of a lane's output, what it has of it and what its port sent and did not hand out are not more than can be counted
+-- what was taken of a lane's output, what it has of it and what its port sent and did not hand out can be counted: they are together
+-- fewer than 2 ^ 128 bytes
 pub record CanTake {Z : Type 0} (given : List Arrival) (s : State) (l : Lane Z) : Type 0 where
   pub long : length given ≡ length s.run.rows
   pub frames : HasBytesOf given s
@@ -54,7 +55,7 @@ pub record HavePut {F Z : Type 0} (contents : F → Option (List ℕ)) (t : Cont
   pub each : (place : ℕ) (p : PortRow) (l n : Lane Z) (f g : F) → slice_get t.ports place ≡ Some p → slice_get old place ≡ Some l → slice_get new place ≡ Some n
       → slice_get files place ≡ Some f → slice_get now place ≡ Some g → HasPut contents t given h p l n f g
 
--- all has gone out up to the frontier, and the first of it to the files
+-- all has gone out up to the frontier, and the first of what was not taken went to the files
 pub record RunsInto {F Z : Type 0} (contents : F → Option (List ℕ)) (old : Machine Z) (files : List F) (m : Machine Z) (now : List F) : Type 0 where
   pub same : IsOfSameTable old.switch m.switch
   pub alike : AreAlike old.lanes.items m.lanes.items

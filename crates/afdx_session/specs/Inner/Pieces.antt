@@ -10,7 +10,7 @@ use Rattle.afdx_session.specs.Finish.{IsFinished}
 
 -- ---- how a session goes on
 
--- it has the same table, and each capture went on; once a call has brought something, one has
+-- it has the same table, and each capture went on; if a call had brought something, that is still so
 pub record GoesOnTo (v later : Seen) : Type 0 where
   pub table : later.table ≡ v.table
   pub fed : AreFedOn v.intakes later.intakes
@@ -38,7 +38,7 @@ pub record WasTaken (v : Seen) (port : ℕ) (taken : List ℕ) : Type 0 where
   pub rest : List ℕ
   pub prefix : text ≡ taken ++ rest
 
--- at first nothing was
+-- at first nothing was taken
 abbrev pub NothingWasTaken : Type 0
 NothingWasTaken = (accepted : Bool) (t : Content) (port : ℕ) (p : PortRow) → port_row t port ≡ Some p → WasTaken (fresh_session accepted t) port []
 
@@ -47,14 +47,14 @@ abbrev pub TakenStays : Type 0
 TakenStays = (v later : Seen) (port : ℕ) (p : PortRow) (taken text : List ℕ) → GoesOnTo v later → taken_of later port ≡ taken_of v port → port_row v.table port ≡ Some p → HasGoneOut later p text
     → WasTaken v port taken → WasTaken later port taken
 
--- what a take gives comes behind what was taken before, and with it all that has gone out was taken
+-- what a take gives comes after what was taken before, and with it all that has gone out was taken
 abbrev pub TakesJoin : Type 0
 TakesJoin = (v : Seen) (port : ℕ) (p : PortRow) (taken text : List ℕ) → port_row v.table port ≡ Some p → HasGoneOut v p text → WasTaken v port taken
     → (taken ++ drop (taken_of v port) text ≡ text) × WasTaken (after_take v port (length text)) port text
 
 -- ---- the output
 
--- the text is a capture so far with more bytes, none where it has ended
+-- the text is a capture so far with more bytes, none if it has ended
 pub record IsContinued (i : Intake) (text : Text) : Type 0 where
   pub port : text.0 ≡ i.port
   pub more : List ℕ

@@ -12,7 +12,7 @@ use Rattle.afdx_session.specs.Texts.{Text}
 use Rattle.afdx_session.specs.Output.{output_of}
 use Rattle.afdx_session.specs.Reading.{AreCaptures}
 
--- where each frame came at least one second before the last second that pcap can hold
+-- if each frame came at least one second before the last second that pcap can hold, each output reads back as it was written
 abbrev pub OutputsAreReadable : Type 0
 OutputsAreReadable = (t : Content) (texts : List Text) (read : List Capture) → IsWellFormed t → AreCaptures texts read
     → AllByRecursion (λ a. a.frame.stamp + second ≤ last_second) (merged read) → (p : PortRow) → Contains t.ports p

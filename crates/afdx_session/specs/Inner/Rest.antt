@@ -16,7 +16,7 @@ use Rattle.afdx_session.specs.Reading.{AreCaptures}
 use Rattle.afdx_session.specs.Inner.Files.{HavePrefixes}
 use Rattle.afdx_session.specs.Inner.Replay.{HasBytesOf, left_at}
 
--- a finished switch, the counts of the run, and by rising port how many bytes of its output went before, and those that there are
+-- a finished switch, the counts of the run, and by rising port how many bytes of its output went before, and which bytes are there
 pub record Rest : Type 0 where
   pub state : State
   pub counts : Tally
@@ -37,7 +37,7 @@ pub record IsLeft (t : Content) (arrivals : List Arrival) (n : ℕ) (r : Rest) :
   pub rest : (place k : ℕ) (p : PortRow) (text : Text) → n ≤ place → slice_get t.ports place ≡ Some p → slice_get r.taken place ≡ Some k → slice_get r.texts place ≡ Some text
       → take k (output_text t arrivals p) ++ text.1 ++ flat_map record_text (map (written arrivals) (left_at r.state.run (Some place))) ≡ output_text t arrivals p
 
--- the files before a place have the rest of their ports' outputs behind what went before, and the others have no more
+-- the files before a place have the rest of their ports' outputs after what went before, and the others have no more
 pub record HaveRests {F : Type 0} (contents : F → Option (List ℕ)) (t : Content) (arrivals : List Arrival) (taken : List ℕ) (n : ℕ) (files now : List F) : Type 0 where
   pub long : length now ≡ length files
   pub rests : (place k : ℕ) (p : PortRow) (f g : F) → place < n → slice_get t.ports place ≡ Some p → slice_get taken place ≡ Some k → slice_get files place ≡ Some f → slice_get now place ≡ Some g

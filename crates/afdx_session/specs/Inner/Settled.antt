@@ -19,8 +19,8 @@ Ascend (n ∷ ns) = AllByRecursion (λ m. n < m) ns × Ascend ns
 abbrev pub ports_of : List Capture → List ℕ
 ports_of captures = map (λ c. c.port) captures
 
--- an arrival comes before whatever a capture may still bring: it has ended, or its last record is later, or has the same stamp and its port
--- does not come first
+-- an arrival comes before whatever a capture may still bring: the capture has ended, or its last record is later than the arrival, or has
+-- the arrival's stamp and comes at no lower port
 abbrev pub ComesBefore : Arrival → Stream → Type 0
 ComesBefore a s = s.closed ≡ false → (a.frame.stamp < last_of s) ⊎ ((a.frame.stamp ≡ last_of s) × (a.port ≤ s.port))
 
@@ -40,13 +40,14 @@ AreQueued [] (w ∷ waiting) = ⊥
 AreQueued (s ∷ streams) [] = ⊥
 AreQueued (s ∷ streams) (w ∷ waiting) = IsQueued s w × AreQueued streams waiting
 
--- these arrivals were given on, and those records wait at their ports: one after the other they are the program's merge so far
+-- these arrivals were given on, and are settled; those records wait at their ports. The arrivals, and then the merge of those records, are
+-- the program's merge so far
 pub record IsSettling (streams : List Stream) (given : List Arrival) (waiting : List Capture) : Type 0 where
   pub queued : AreQueued streams waiting
   pub whole : merged_so_far streams ≡ given ++ merged waiting
   pub settled : AllByRecursion (IsSettled streams) given
 
--- a capture goes on, and what it brings waits behind what waits
+-- a capture goes on, and what it brings waits after what waits
 pub record Waits (s later : Stream) (waiting more : Capture) : Type 0 where
   pub on : GoesOn s later
   pub port : more.port ≡ s.port
@@ -71,12 +72,12 @@ SettledStays = (streams later : List Stream) (given : List Arrival) (waiting mor
 
 -- ---- how far what waits is settled
 
--- of two places in the order by stamp and port number the first; of equal ones the former
+-- of two places the first by stamp; the former, if their stamps are equal
 abbrev pub first_place : ℕ × ℕ → Option (ℕ × ℕ) → ℕ × ℕ
 first_place p None = p
 first_place p (Some q) = if nat_le p.0 q.0 then p else q
 
--- the least place that a capture that has not ended has come to: the stamp of its last record, and its port; none where all have ended
+-- the least place that a capture that has not ended has come to: the stamp of its last record, and its port; none if all have ended
 abbrev pub limit : List Stream → Option (ℕ × ℕ)
 limit [] = None
 limit (s ∷ streams) = if s.closed then limit streams else Some (first_place (last_of s, s.port) (limit streams))
@@ -119,7 +120,7 @@ abbrev pub IsPast : Option (ℕ × ℕ) → ℕ → Type 0
 IsPast None n = ⊥
 IsPast (Some p) n = p.0 ≤ n
 
--- where the first of what waits lies there, all that waits comes at the frontier or later
+-- if the first of what waits lies there, all that waits comes at the frontier or later
 abbrev pub RestComesAtTheFrontier : Type 0
 RestComesAtTheFrontier = (streams : List Stream) (waiting : List Capture) (k n h : ℕ) → AllRise waiting → ComesFirst n k waiting → IsPast (limit streams) n
     → frontier streams ≡ Some h → AllByRecursion (λ a. h ≤ a.frame.stamp) (merged waiting)
@@ -144,7 +145,7 @@ pub record Draws (given : List Arrival) (port place : ℕ) (start now : State) (
   pub count : slice_index now.run.handed place + length (left_at now.run (Some place)) ≡ slice_index start.run.handed place + length (left_at start.run (Some place))
   pub rest : before ++ flat_map record_text (map (written given) (left_at start.run (Some place))) ≡ text ++ flat_map record_text (map (written given) (left_at now.run (Some place)))
 
--- frames of some ports were handed out, and nothing else was done
+-- frames of ports were handed out, and nothing else was done
 pub record HandsOut (old new : State) : Type 0 where
   pub table : new.run.table ≡ old.run.table
   pub rows : new.run.rows ≡ old.run.rows
@@ -155,7 +156,7 @@ pub record HandsOut (old new : State) : Type 0 where
   pub handed : length new.run.handed ≡ length old.run.handed
   pub frames : (arrivals : List Arrival) → length arrivals ≡ length old.run.rows → HasBytesOf arrivals old → HasBytesOf arrivals new
 
--- where the rest comes at the frontier or later, what the switch sent is what has left so far
+-- if what waits comes at the frontier or later, and the switch is at the frontier, what it sent is what has left so far
 abbrev pub SwitchShowsWhatLeft : Type 0
 SwitchShowsWhatLeft = (t : Content) (streams : List Stream) (given : List Arrival) (waiting : List Capture) (h : ℕ) (s : State) (p : PortRow)
     → IsSettling streams given waiting → AllByRecursion (λ a. h ≤ a.frame.stamp) (merged waiting) → frontier streams ≡ Some h → IsAt t given h s

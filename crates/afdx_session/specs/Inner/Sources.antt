@@ -20,14 +20,14 @@ IsOfBytes run.WrongPorts = ⊥
 IsOfBytes run.Closed = ⊥
 IsOfBytes run.Failed = ⊥
 
--- the same of a run over readers
+-- the same fault, of a run over readers
 abbrev pub source_fault : RunFault → SourceFault
 source_fault (run.Capture port why) = fault.Capture port why
 source_fault _ = fault.Memory
 
 -- ---- what was read
 
--- a reader gave the bytes that came of a capture; it is at its end where the capture has ended
+-- a reader gave the bytes that came of a capture; it is at its end if the capture has ended
 pub record IsReadUpTo {R : Type 0} (remaining : R → Option (List ℕ)) (i : Intake) (first now : R) : Type 0 where
   pub bytes : Consumes (remaining first) (remaining now) i.bytes
   pub ended : i.closed ≡ true → IsAtEnd (remaining now)
@@ -64,7 +64,7 @@ pub record HasSameBytes (old new : Intake) : Type 0 where
 abbrev pub HaveSameBytes : List Intake → List Intake → Type 0
 HaveSameBytes old new = (length new ≡ length old) × ((place : ℕ) (i j : Intake) → slice_get old place ≡ Some i → slice_get new place ≡ Some j → HasSameBytes i j)
 
--- some of what has gone out was taken, and is in the files
+-- a part of what has gone out was taken, and is in the files
 pub record TakesParts {F : Type 0} (contents : F → Option (List ℕ)) (v : Seen) (files : List F) (later : Seen) (now : List F) : Type 0 where
   pub of : IsOfTable v.table later
   pub same : HaveSameBytes v.intakes later.intakes
@@ -82,7 +82,7 @@ pub record GoesOnReading {R F : Type 0} (remaining : R → Option (List ℕ)) (c
   pub taken : (start : List F) → HaveTaken contents v start files → HaveTaken contents later start written
   pub accepted : later.accepted ≡ v.accepted
 
--- by one more read; where none is to be made any more, all readers are at their ends
+-- so it did by one more read; if none is to be made any more, all readers are at their ends
 pub record ReadsOn {R F : Type 0} (remaining : R → Option (List ℕ)) (contents : F → Option (List ℕ)) (v : Seen) (readers : List R) (files : List F) (more : Bool) (later : Seen) (now : List R)
     (written : List F) : Type 0 where
   pub on : GoesOnReading remaining contents v readers files later now written

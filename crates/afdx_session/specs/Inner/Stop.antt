@@ -55,7 +55,7 @@ IsStoppedBy v port run.Failed lanes Why = ⊥
 abbrev pub IsKnown : Option (List ℕ) → List ℕ → PcapFault → Type 0
 IsKnown remaining bytes why = IsEarlyFault bytes why ⊎ (IsFault bytes why × IsAtEnd remaining)
 
--- a lane may read on what its reader gives, which is nothing where the capture has ended
+-- a lane may read on what its reader gives, which is nothing if the capture has ended
 pub record IsOn {Z : Type 0} (remaining : Option (List ℕ)) (l : Lane Z) : Type 0 where
   pub may : MayReadOn l
   pub ended : l.reader.closed ≡ true → IsAtEnd remaining
@@ -64,7 +64,7 @@ pub record IsOn {Z : Type 0} (remaining : Option (List ℕ)) (l : Lane Z) : Type
 abbrev pub AreOn : {R Z : Type 0} → (R → Option (List ℕ)) → ℕ → List R → List (Lane Z) → Type 0
 AreOn {R} {Z} remaining place readers lanes = (k : ℕ) (r : R) (l : Lane Z) → k < place → slice_get readers k ≡ Some r → slice_get lanes k ≡ Some l → IsOn (remaining r) l
 
--- these bytes came of the captures of a table's ports, that at this place has a fault, and the lanes before it may read on
+-- these bytes came of the captures of a table's ports; the capture at this place has a fault, and the lanes before it may read on
 pub record AreStoppedAt {R Z : Type 0} (remaining : R → Option (List ℕ)) (t : Content) (first now : List R) (place : ℕ) (why : PcapFault) (lanes : List (Lane Z)) : Type 0 where
   pub came : List Text
   pub ports : AreOfPorts t came
@@ -83,7 +83,7 @@ IsStop remaining t first now stop.Memory = Unit {0}
 IsStop remaining t first now (stop.Read place) = (place < length first) × (length now ≡ length first)
 IsStop remaining t first now (stop.Capture place why lanes) = AreStoppedAt remaining t first now place why lanes.items
 
--- where it stopped for this fault of the capture at a place
+-- where it stopped, if this was the fault of the capture at a place
 abbrev pub stop_of : {Z : Type 0} → ℕ → RunFault → Vec (Lane Z) Z → Stop Z
 stop_of place (run.Capture port why) lanes = stop.Capture place why lanes
 stop_of place _ lanes = stop.Memory
@@ -111,12 +111,12 @@ AreReadOut remaining (l ∷ lanes) (r ∷ readers) (text ∷ texts) =
     (text.0 ≡ l.port) × ((more : List ℕ) × AreGiven (remaining r) more × (text.1 ≡ l.reader.bytes ++ more)) × AreReadOut remaining lanes readers texts
 AreReadOut remaining _ _ _ = ⊥
 
--- the first fault of some captures, if there is one
+-- the first fault of these captures, if there is one
 abbrev pub IsFoundIn : List Text → Option (ℕ × PcapFault) → Type 0
 IsFoundIn texts None = AreSound texts
 IsFoundIn texts (Some found) = IsFirstFault texts found.0 found.1
 
--- the first of two faults, of which this one is of a port
+-- the fault that was found before, if there is one, or else this one of a port
 abbrev pub first_found : Option (ℕ × PcapFault) → ℕ → Option PcapFault → Option (ℕ × PcapFault)
 first_found (Some found) port why = Some found
 first_found None port None = None

@@ -126,7 +126,7 @@ pub record IsEnded {Z : Type 0} (old new : List (Lane Z)) (place : ℕ) : Type 0
   pub records : List Record
   pub capture : IsCapture (intake_of lane).bytes records
 
--- it did not, for this fault
+-- the piece did not come, or the capture did not end, for this fault
 pub record IsNotFed {Z : Type 0} (old new : List (Lane Z)) (place : ℕ) (piece : List ℕ) (fault : RunFault) : Type 0 where
   pub lane : Lane Z
   pub at : slice_get old place ≡ Some lane
@@ -139,7 +139,7 @@ pub record IsNotEnded {Z : Type 0} (old new : List (Lane Z)) (place : ℕ) (faul
   pub half : AreHalfDone old new
   pub why : IsFaultAt (intake_of lane).bytes lane.port fault
 
--- and where its capture has a fault, no other lane has changed
+-- and if its capture has a fault, no other lane has changed
 abbrev pub OthersStay : {Z : Type 0} → List (Lane Z) → List (Lane Z) → ℕ → RunFault → Type 0
 OthersStay {Z} old new place (run.Capture port why) = (lane : Lane Z) × (new ≡ set old place lane)
 OthersStay old new place _ = Unit {0}
@@ -153,7 +153,8 @@ pub record HasGone {Z : Type 0} (old new : List (Lane Z)) (place : ℕ) : Type 0
   pub head : lane.waiting.items ≡ frame ∷ rest.items
   pub lanes : new ≡ set old place (with_waiting rest lane)
 
--- the first record that waits went to the switch from a place, or its place is not settled; the switch did not go past the frontier
+-- the first record that waits went to the switch from a place; or none went, as nothing waits or the first is not settled. The switch did
+-- not go past the frontier
 pub record IsRound {Z : Type 0} (went : Option ℕ) (old new : Machine Z) : Type 0 where
   pub going : IsGoing new.switch.run.table new.lanes.items new.switch new.counts
   pub gone : (place : ℕ) → went ≡ Some place → HasGone old.lanes.items new.lanes.items place

@@ -29,7 +29,7 @@ pub record HaveAll (gap : ℕ) (frames : List Excess) (parts : List (List Excess
 abbrev pub PartsAreSpells : Type 0
 PartsAreSpells = (gap : ℕ) (frames : List Excess) → HaveAll gap frames (parted gap frames)
 
--- no others are
+-- and no other parts are
 abbrev pub SpellsAreUnique : Type 0
 SpellsAreUnique = (gap : ℕ) (frames : List Excess) (parts : List (List Excess)) → HaveAll gap frames parts → parts ≡ parted gap frames
 

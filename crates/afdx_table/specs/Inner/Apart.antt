@@ -6,7 +6,7 @@ use Rattle.afdx_table.specs.declared.rows.PortRow.{PortRow}
 use Rattle.afdx_table.specs.Link.{Link}
 use Rattle.afdx_table.specs.Links.{links_from}
 
--- the text is one link's or several links' texts, and these are the links, where n were read before
+-- the text is one link's or several links' texts, and these are the links with those before them, of which n were read
 abbrev pub AreReadApart : ℕ → List PortRow → ℕ → List Link → List ℕ → List Link → Type 0
 AreReadApart version ports n before text links =
     (this : List ℕ) × (texts : List (List ℕ)) × (ms : Members) × (tables : List Members)

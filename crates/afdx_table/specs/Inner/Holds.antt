@@ -47,7 +47,7 @@ abbrev pub table_items : List Members → Items
 table_items [] = no_items
 table_items (m ∷ ms) = item (table m) (table_items ms)
 
--- these TOML tables, none of them where the key is missing
+-- these TOML tables, which are none if the key is missing
 abbrev pub HasTables : Members → Key → List Members → Type 0
 HasTables ms k tables = (HasNone ms k × (tables ≡ [])) ⊎ Has ms k (array (table_items tables))
 
@@ -93,7 +93,7 @@ pub record IsLinkOf (version : ℕ) (ms : Members) (l : Link) : Type 0 where
 
 -- ---- the whole
 
--- the version is one of the first three, and the first where it is not stated
+-- the version is one of the first three, and the first if it is not stated
 abbrev pub HasVersion : Members → ℕ → Type 0
 HasVersion ms version = (1 ≤ version) × (version ≤ 3) × ((HasNone ms key.Version × (version ≡ 1)) ⊎ HasNumber ms key.Version version)
 

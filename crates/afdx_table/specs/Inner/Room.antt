@@ -1,4 +1,4 @@
--- Where a refusal for memory may be answered.
+-- When a refusal for memory may be answered.
 use Rattle.std.specs.Prelude.{◌≡◌, ◌⊎◌, ℕ, Some, Result, Ok}
 use Rattle.toml.specs.Data.{Data, array, Items, item, Members, get_member}
 use Rattle.afdx_table.specs.declared.fault.At.TheVariants as place
@@ -10,7 +10,7 @@ use Rattle.afdx_table.specs.Names.{key_text}
 use Rattle.afdx_table.specs.Fields.{known_at, optional_number_at, optional_text_at}
 use Rattle.afdx_table.specs.Top.{all_keys, top_keys, version_from, constant_from, latency_from}
 
--- the latency in microseconds, where nothing of the top before the ports is refused
+-- the latency in microseconds, if nothing of the top before the ports is refused
 unfoldable pub head_at : Members → Result ℕ TableFault
 head_at ms = do
   known ← known_at place.Top all_keys ms

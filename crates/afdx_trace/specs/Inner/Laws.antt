@@ -8,11 +8,11 @@ use Rattle.afdx_core.specs.State.{Run, offers_of}
 use Rattle.afdx_trace.specs.Arrivals.{full_in}
 use Rattle.afdx_trace.specs.Departures.{AreInOrder}
 
--- what a port has carried out is in order of its instants: where a copy is discarded at the instant at which another is sent, it comes first
+-- what a port has carried out is in order of its instants. If one copy is discarded at the instant at which another starts, the discarded one is first
 abbrev pub EventsAreInOrder : Type 0
 EventsAreInOrder = (c : Content) → AreInOrder (done c)
 
--- the ports that answered Full, of the answers of some ports
+-- of these answers of ports, the ports that answered Full
 abbrev pub full_ports : List (ℕ × Offer) → List ℕ
 full_ports offers = map (λ o. o.0) (filter (λ o. answers_full o.1) offers)
 

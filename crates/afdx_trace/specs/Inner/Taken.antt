@@ -3,7 +3,7 @@ use Rattle.std.specs.Prelude.{◌≡◌, ℕ, ◌<◌, not, false, Bool, List, [
 use Rattle.afdx_core.specs.State.{Run}
 use Rattle.afdx_trace.specs.Arrivals.{took}
 
--- the flag of an arrival at a port; false where there is none
+-- the flag of an arrival at a port; false if there is none
 abbrev pub flag_at : List (List Bool) → ℕ → ℕ → Bool
 flag_at flags port number = slice_index_or (slice_index_or flags port []) number false
 

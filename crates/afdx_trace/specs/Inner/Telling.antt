@@ -36,7 +36,7 @@ use Rattle.afdx_trace.specs.Inner.Tracing.{AreCounted}
 
 -- ---- what was told of a port's events
 
--- of the events of a port so many sendings and so many that discard were told, in these lines, and these events are left
+-- of the events of a port so many of sent copies and so many of discarded ones were told, in these lines; these events are left
 pub record AreTold (shown : Shown) (port : ℕ) (s : Settings) (all : List Event) (sent aged : ℕ) (lines : List ℕ) (left : List Event) : Type 0 where
   pub order : AreInOrder left
   pub sent_left : sent_of left ≡ drop sent (sent_of all)
@@ -52,7 +52,7 @@ pub record IsTelling {Z : Type 0} (shown : Shown) (o : TracedPort Z) (left : Lis
   pub aged_first : o.flow.aged_first ≤ o.aged
   pub latency : o.settings.latency ≤ 100000
 
--- the first of these events, of which these are the first that are sent and discarded
+-- the first of the events that are left, if these are the first copy among them that is sent and the first that is discarded
 abbrev pub IsFirstOf : Option Sent → Option Aged → Option (Result Sent Aged) → Type 0
 IsFirstOf sent aged next = (left : List Event) → AreInOrder left → slice_get (sent_of left) 0 ≡ sent → slice_get (aged_of left) 0 ≡ aged → option_map event_of next ≡ slice_get left 0
 

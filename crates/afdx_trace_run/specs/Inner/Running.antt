@@ -73,7 +73,7 @@ source_fault ports merge.Memory = source.Memory
 source_fault ports (merge.Read place) = source.Read place
 source_fault ports (merge.Capture place why) = source.Capture (number_at ports place) why
 
--- its capture is one of so many
+-- if it is a fault of a capture, that is one of so many
 abbrev pub IsAmong : ℕ → MergeFault → Type 0
 IsAmong count merge.Memory = Unit {0}
 IsAmong count (merge.Read place) = Unit {0}
