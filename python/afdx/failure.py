@@ -1,7 +1,8 @@
-"""Ends a command early: lines on standard error and an exit status, never a traceback."""
+"""Ends a command early: lines on standard error and an exit status; a traceback only for a defect of the command."""
 import contextlib
 import os
 import sys
+import traceback
 from collections.abc import Callable, Sequence
 
 from afdx import signals
@@ -38,13 +39,19 @@ def say(command: str, text: str) -> None:
 
 
 def run(main: Callable[[Sequence[str]], int]) -> int:
-    """Runs a command over the program's arguments; answers its exit status."""
+    """Runs a command over the program's arguments; answers its exit status, EX_SOFTWARE of sysexits.h after a defect.
+
+    Python's own status would be 1, which of some commands means that something was found.
+    """
     signals.end_by_signals()
     try:
         return main(sys.argv[1:])
     except Failure as failure:
         tell(failure)
         return failure.status
+    except Exception:
+        traceback.print_exc()
+        return os.EX_SOFTWARE
 
 
 def tell(failure: Failure) -> None:

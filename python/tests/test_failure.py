@@ -23,6 +23,13 @@ def main(arguments):
 sys.exit(run(main))
 """
 
+# a command with a defect
+DEFECT = """
+import sys
+from afdx.failure import run
+
+sys.exit(run(lambda arguments: len(arguments) // 0))
+"""
 
 # a command that runs a program, and takes long from the program's first word to its own next step
 RUNNING = """
@@ -72,6 +79,13 @@ def test_a_failure(tmp_path: Path) -> None:
     process = begun(tmp_path, COMMAND, "fail")
     assert process.communicate() == ("", "command: one\ncommand: two\n")
     assert process.returncode == 3
+
+
+def test_a_defect(tmp_path: Path) -> None:
+    """It is told apart from status 1, which means that something was found."""
+    process = begun(tmp_path, DEFECT)
+    assert "ZeroDivisionError" in process.communicate()[1]
+    assert process.returncode == 70
 
 
 @pytest.mark.parametrize("number", [signal.SIGINT, signal.SIGTERM, signal.SIGHUP])

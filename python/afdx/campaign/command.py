@@ -53,7 +53,7 @@ def options_of(arguments: Sequence[str]) -> argparse.Namespace:
         prog=COMMAND, description="Runs afdx over the recordings of a campaign.",
         epilog="Exit status 0: all is answered; 1: all is answered, and some answers are faults; 2: usage; 3: the "
                "campaign file; 4: a table is refused; 5: a file fails, or the program or an engine can't be run; 6: "
-               "interrupted, or the engine is gone, and the same command goes on.")
+               "interrupted, or the engine is gone, and the same command goes on; 70: a defect of this command.")
     commands = parser.add_subparsers(required=True, metavar="COMMAND")
 
     def command(name: str, do: object, text: str) -> argparse.ArgumentParser:

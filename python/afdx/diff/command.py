@@ -15,7 +15,7 @@ def options_of(arguments: Sequence[str]) -> argparse.Namespace:
         prog=COMMAND, description="Says what differs between two tables or two network files: rows, what the program "
         "says of them, and what is newly refused.",
         epilog="Exit status 0: nothing differs; 1: something does; 2: usage; 3: a file is no table or network; "
-               "5: a file or the program fails.")
+               "5: a file or the program fails; 70: a defect of this command.")
     parser.add_argument("old", type=Path, metavar="OLD", help="a table or a network file")
     parser.add_argument("new", type=Path, metavar="NEW", help="another one of the same kind")
     parser.add_argument("--csv", action="store_true", help="comma-separated values, a line for each value that differs")
