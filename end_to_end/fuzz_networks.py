@@ -199,7 +199,7 @@ def other_terms(chance: Random, tree: Tree) -> None:
 
 def other_way(chance: Random, tree: Tree) -> None:
     """Lets a link come in or leave at other ports of the table."""
-    row, ports = link_of(chance, tree), [port.get("id") for port in listed(tree, "port")]
+    row, ports = link_of(chance, tree), [port["id"] for port in listed(tree, "port") if "id" in port]
     if ports and chance.random() < 0.5:
         row["from"] = chance.choice(ports)
     elif ports:
