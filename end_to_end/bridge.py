@@ -1,8 +1,8 @@
 #!/usr/bin/env python3
 """Sends frames of virtual links through a Linux bridge, and has tcpdump record what comes in and what leaves at each of its ports.
 
-Within a network namespace of its own. The bridge floods each frame to all other ports. A frame has its number in it, so that no two are
-the same. While frames of the second half are sent, the bridge does not flood to port 3 if that is asked for.
+Within a network and a mount namespace of its own. The bridge floods each frame to all other ports. A frame has its number in it, so that
+no two are the same. While frames of the second half are sent, the bridge does not flood to port 3 if that is asked for.
 """
 import argparse
 import subprocess
@@ -28,6 +28,7 @@ def arguments() -> argparse.Namespace:
 
 def lay_bridge() -> None:
     """A bridge of these ports, in a namespace that sends nothing of its own."""
+    subprocess.run(["mount", "-t", "proc", "proc", "/proc"], check=True)  # that of a chroot may be one that can't be written
     Path("/proc/sys/net/ipv6/conf/default/disable_ipv6").write_text("1", encoding="ascii")
     subprocess.run(["ip", "link", "add", "bridge", "type", "bridge", "mcast_snooping", "0"], check=True)
     for port in PORTS:

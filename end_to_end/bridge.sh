@@ -6,8 +6,8 @@ export PYTHONDONTWRITEBYTECODE=1 LC_ALL=C
 afdx=${AFDX:-$top/crates/afdx/out/afdx}
 cd "$room" || exit 1
 
-alone=(unshare -n)
-[ "$(id -u)" -eq 0 ] || alone=(sudo unshare -n)
+alone=(unshare --net --mount)
+[ "$(id -u)" -eq 0 ] || alone=(sudo "${alone[@]}")
 if ! "${alone[@]}" ip link add trial type bridge 2>said.txt; then
     echo "skipped: no network namespace with a bridge: $(tail -n 1 said.txt)"
     exit 0
