@@ -23,6 +23,7 @@ PATIENCE = 600  # seconds for what has to come, on a busy machine too
 PAUSE = 0.1  # seconds between looks
 UNLIMITED = 1_000_000  # answers; more than any campaign has here
 WORKERS = 4
+LAST_LINES = 40  # of what was said, shown if what is expected is not so
 FAULTS, GONE = 1, 6  # statuses of afdx-campaign
 TEXT = """program = "{program}"
 recordings = ["{recordings}/recordings/*"]
@@ -80,6 +81,11 @@ class Room:
                                        env=self.environment, start_new_session=True)
         self.started.append(psutil.Process(process.pid))
         return process
+
+    def said(self) -> str:
+        """Answers the last lines of what was said by all that was started here."""
+        lines = (self.folder / "log").read_text(encoding="utf-8", errors="replace").splitlines(keepends=True)
+        return "".join(lines[-LAST_LINES:])
 
     def processes(self) -> list[psutil.Process]:
         """Finds all that runs here, whoever started it: each process has a file of the folder open, if only for what it says."""
@@ -378,6 +384,9 @@ def main() -> None:
     there = Room(given.recordings, given.room)
     try:
         ENGINES[given.engine](there)
+    except SystemExit:
+        print(there.said(), end="")
+        raise
     finally:
         left = there.end()
     expect(f"no process is left, not {[process.pid for process in left]}", not left)
