@@ -2,7 +2,7 @@
 """Runs one campaign by each engine, kills by their process ids what takes part in it, and compares the answers.
 
 Each campaign has to end with one answer for each task, of the digest that is in ROOT/digest, if it is there, and else is put there.
-All processes have ended when this ends, and all traffic is on loopback.
+All processes have ended when this ends, and all traffic stays on this machine.
 """
 import argparse
 import contextlib
@@ -291,7 +291,7 @@ def dask(room: Room) -> None:
 
 
 CONFIGURATION = """ClusterName=test
-SlurmctldHost={host}(127.0.0.1)
+SlurmctldHost={host}({address})
 SlurmUser=root
 SlurmdUser=root
 AuthInfo=socket={folder}/munge/socket
@@ -309,21 +309,27 @@ SelectTypeParameters=CR_Core_Memory
 SchedulerParameters=sched_min_interval=100000,batch_sched_delay=1
 MpiDefault=none
 KillWait=5
-NodeName={host} NodeAddr=127.0.0.1 CPUs=4 RealMemory=4000 State=UNKNOWN
+NodeName={host} NodeAddr={address} CPUs=4 RealMemory=4000 State=UNKNOWN
 PartitionName=test Nodes={host} Default=YES MaxTime=INFINITE State=UP
 """
 
 
 class Slurm:
-    """munged, slurmctld and slurmd over loopback, with a configuration of their own."""
+    """munged, slurmctld and slurmd, with a configuration of their own, at the address that this machine's name stands for.
+
+    It is of loopback where the name is in /etc/hosts: 127.0.1.1 after Debian's installer.
+    """
 
     def __init__(self, room: Room) -> None:
         self.room, self.folder = room, room.folder / "slurm"
         for name in ("state", "spool", "munge"):
             (self.folder / name).mkdir(parents=True)
         configuration = self.folder / "slurm.conf"
+        host = socket.gethostname().partition(".")[0]
         configuration.write_text(CONFIGURATION.format(
-            host=socket.gethostname().partition(".")[0], folder=self.folder, controller=free_port(), node=free_port()))
+            host=host, address=socket.gethostbyname(host), folder=self.folder, controller=free_port(), node=free_port()))
+        # A chroot may have no cgroups, and slurmd ends if it looks for them and finds none. This plugin does not look: nothing asks it.
+        (self.folder / "cgroup.conf").write_text("CgroupPlugin=cgroup/v1\n")
         room.environment["SLURM_CONF"] = str(configuration)
         key = self.folder / "munge" / "key"
         key.write_bytes(os.urandom(1024))

@@ -8,7 +8,8 @@ shopt -s nullglob
 cd "$(dirname "$0")/.." || exit 1
 export DEBIAN_FRONTEND=noninteractive AFDX=/usr/bin/afdx
 
-[ -e /etc/hosts ] || echo 127.0.0.1 localhost >/etc/hosts  # each Debian that was installed has it, and chromedriver needs it
+# Each Debian that was installed has it: chromedriver needs the first name, Slurm the machine's own.
+[ -e /etc/hosts ] || printf '%s\n' '127.0.0.1 localhost' "127.0.1.1 $(uname -n)" >/etc/hosts
 mapfile -t recommended < <(dpkg-deb -f ./*.deb Recommends | tr -d ' ' | tr , '\n')
 apt-get install -qy --no-install-recommends ./*.deb "${recommended[@]}" >/dev/null || { echo "cannot install the .deb"; exit 1; }
 rm -r python/afdx
