@@ -27,7 +27,7 @@ def arguments() -> argparse.Namespace:
 
 
 def lay_bridge() -> None:
-    """A bridge of these ports, in a namespace that sends nothing of its own."""
+    """Lays a bridge of these ports, in a namespace that sends nothing of its own."""
     subprocess.run(["mount", "-t", "proc", "proc", "/proc"], check=True)  # that of a chroot may be one that can't be written
     Path("/proc/sys/net/ipv6/conf/default/disable_ipv6").write_text("1", encoding="ascii")
     subprocess.run(["ip", "link", "add", "bridge", "type", "bridge", "mcast_snooping", "0"], check=True)

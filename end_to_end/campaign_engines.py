@@ -317,7 +317,7 @@ PartitionName=test Nodes={host} Default=YES MaxTime=INFINITE State=UP
 class Slurm:
     """munged, slurmctld and slurmd, with a configuration of their own, at the address that this machine's name stands for.
 
-    It is of loopback where the name is in /etc/hosts: 127.0.1.1 after Debian's installer.
+    After Debian's installer that is 127.0.1.1, or the fixed address if the machine has one.
     """
 
     def __init__(self, room: Room) -> None:
