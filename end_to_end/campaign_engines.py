@@ -161,6 +161,14 @@ def await_that(holds: Callable[[], object], what: str) -> None:
         time.sleep(PAUSE)
 
 
+def has_ended(process: psutil.Process) -> bool:
+    """Says whether a process is over; one whose parent was killed may stay as a zombie, as the first process of a chroot reaps none."""
+    try:
+        return bool(process.status() == psutil.STATUS_ZOMBIE)
+    except psutil.NoSuchProcess:
+        return True
+
+
 def kill(process: psutil.Process, number: int = signal.SIGKILL) -> None:
     """Ends a process and its children, and waits for their end."""
     with contextlib.suppress(psutil.NoSuchProcess):
@@ -168,7 +176,7 @@ def kill(process: psutil.Process, number: int = signal.SIGKILL) -> None:
         for one in ended:
             with contextlib.suppress(psutil.NoSuchProcess):
                 one.send_signal(number)
-        psutil.wait_procs(ended, PATIENCE)
+        await_that(lambda: all(map(has_ended, ended)), f"the end of {len(ended)} processes")
 
 
 def kill_alone(process: Any) -> None:
@@ -190,17 +198,6 @@ def some_child(process: subprocess.Popen[bytes], name: str) -> psutil.Process:
 
     await_that(there, f"a process {name}")
     return found[0]
-
-
-def children_end(children: list[psutil.Process], what: str) -> None:
-    """Waits for the end of processes whose parent was killed."""
-    def ended(child: psutil.Process) -> bool:
-        try:
-            return bool(child.status() == psutil.STATUS_ZOMBIE)
-        except psutil.NoSuchProcess:
-            return True
-
-    await_that(lambda: all(map(ended, children)), f"the end of what {what} had started")
 
 
 def free_port() -> int:
@@ -225,7 +222,7 @@ def local(room: Room) -> None:
     killed.await_answers(5, driver)
     children = psutil.Process(driver.pid).children(recursive=True)
     kill_alone(driver)
-    children_end(children, "the driver")
+    await_that(lambda: all(map(has_ended, children)), "the end of what the driver had started")
     driver = killed.run("-j", 4)
     killed.await_answers(5, driver)
     driver.send_signal(signal.SIGTERM)
@@ -261,11 +258,22 @@ class Cluster:
             return client.connect_ex(("127.0.0.1", self.port)) == 0
 
 
+def share_of(process: subprocess.Popen[bytes], seconds: int) -> float:
+    """Answers how much of a processor a process takes for some seconds, its system calls included."""
+    one = psutil.Process(process.pid)
+    before = one.cpu_times()
+    time.sleep(seconds)
+    after = one.cpu_times()
+    return float(after.user + after.system - before.user - before.system) / seconds
+
+
 def dask(room: Room) -> None:
     cluster = Cluster(room)
     killed = room.campaign("killed")
     driver = killed.run("--engine", cluster.address)
     killed.await_answers(5, driver)
+    share = share_of(driver, 5)
+    expect(f"a driver that waits takes {share:.0%} of a processor", share < 0.2)
     kill_alone(some_child(cluster.nannies[0], "spawn_main"))
     killed.await_answers(5, driver)
     kill(psutil.Process(cluster.nannies[1].pid))

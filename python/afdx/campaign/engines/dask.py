@@ -46,7 +46,7 @@ def connected(options: Options) -> Client:
     if options.address.startswith("tls:") and security.get_connection_args("client")["ssl_context"] is None:
         raise failure(DEVICE, f"{options.address} needs certificates, as distributed.comm.tls of Dask's configuration")
     try:
-        client = Client(options.address, security=security, timeout=options.patience, set_as_default=False)
+        client = Client(options.address, security=security, timeout=options.patience)
     except OSError as error:
         raise gone(f"no engine at {options.address}") from error
     try:
@@ -84,8 +84,9 @@ class Window:
     def step(self) -> set[Future]:
         """Submits what there is room for, and waits a moment; answers the futures that came to an end.
 
-        Never by `as_completed`, which waits for ever once the scheduler is gone. A client that gave up raises a bare
-        Exception, so it is not the kind of error that says whether the scheduler is there, but the client's status.
+        Never by `as_completed`, which waits for ever once the scheduler is gone. `wait` asks the default client, and
+        fails at once if there is none. A client that gave up raises a bare Exception, so it is not the kind of error
+        that says whether the scheduler is there, but the client's status.
         """
         try:
             self.fill()
