@@ -1,10 +1,12 @@
 """How far apart two networks deliver the same frames."""
+from functools import partial
 from pathlib import Path
 
 import pytest
 
 import captures
 from afdx.failure import Failure
+from afdx.recordings.reading import PIECE, Recording
 from afdx.skew.command import main
 from captures import Record
 
@@ -83,3 +85,17 @@ def test_faults(tmp_path: Path, capsys: pytest.CaptureFixture[str]) -> None:
         run(tmp_path)
     assert caught.value.lines == (f"afdx-skew: neither pcap nor pcapng, {tmp_path}/b/port-1.pcap, header, offset 0",)
     assert capsys.readouterr().out == ""
+
+
+@pytest.mark.parametrize("piece", [PIECE, 100])
+def test_stamps_that_fall(tmp_path: Path, monkeypatch: pytest.MonkeyPatch, piece: int) -> None:
+    """The pairs would be wrong: a copy that waits would be given up too soon. In pieces of 100 bytes each has a record
+    of its own."""
+    put(tmp_path / "a", "port-1.pcap", 0x20, [(0, 1, 1), (50_000, 1, 2)])
+    put(tmp_path / "b", "port-1.pcap", 0x40, [(50_000, 1, 2), (50_000, 1, 3), (0, 1, 1)])
+    monkeypatch.setattr("afdx.skew.command.Recording", partial(Recording, piece=piece))
+    with pytest.raises(Failure) as caught:
+        run(tmp_path)
+    what = "a stamp below that of the record before (afdx-import sorts)"
+    place = f"{tmp_path}/b/port-1.pcap, record 3, offset 176"
+    assert (caught.value.status, caught.value.lines) == (3, (f"afdx-skew: {what}, {place}",))

@@ -5,8 +5,11 @@ import sys
 from collections.abc import Iterator, Sequence
 from pathlib import Path
 
+import numpy as np
+
 from afdx.failure import INPUT, Failure, failing, say
 from afdx.importing.instants import instant
+from afdx.recordings.columns import Batch
 from afdx.recordings.faults import RecordingFault
 from afdx.recordings.reading import Recording
 from afdx.skew.copies import Copy, Link, Odd, Pairing, copy_of
@@ -47,10 +50,21 @@ def in_order(port: str) -> tuple[str, int, str]:
     return folder, int(number) if number.isdecimal() else 0, number
 
 
+def refuse_falling(batch: Batch, newest: int | None) -> None:
+    """Raises RecordingFault if a stamp is below that of the record before; `newest` is that before the batch."""
+    falls = np.diff(batch.stamp, prepend=batch.stamp[:1] if newest is None else newest) < 0
+    if falls.any():
+        place = batch.origin.place_of(int(batch.where[falls.argmax()]))
+        raise RecordingFault("a stamp below that of the record before (afdx-import sorts)", place)
+
+
 def copies_of(network: int, path: Path) -> Iterator[Copy]:
-    """Answers the frames of a capture; those without addresses are left out."""
+    """Answers the frames of a capture; those without addresses are left out. Raises RecordingFault if stamps fall."""
     recording = Recording(path, str(path))
+    newest: int | None = None
     for batch in recording.batches():
+        refuse_falling(batch, newest)
+        newest = int(batch.stamp[-1]) if batch.stamp.size else newest
         end = batch.start + batch.captured
         for stamp, begin, after in zip(batch.stamp.tolist(), batch.start.tolist(), end.tolist()):
             if copy := copy_of(stamp, network, batch.data[begin:after]):
