@@ -37,9 +37,12 @@ def text_of(value: object) -> str:
 
 
 def workbook_rows(text: bytes) -> list[Row]:
-    """Answers the rows of a workbook's first sheet, of formulas the values that were saved with them."""
+    """Answers the rows of a workbook's first sheet, of formulas the values that were saved with them. How large the
+    sheet says that it is does not count: programs other than Excel write less than there is."""
     book = openpyxl.load_workbook(io.BytesIO(text), read_only=True, data_only=True)
-    values = book.worksheets[0].iter_rows(values_only=True)
+    sheet = book.worksheets[0]
+    sheet.reset_dimensions()
+    values = sheet.iter_rows(values_only=True)
     return [Row(line, [text_of(value) for value in row]) for line, row in enumerate(values, 1)]
 
 
