@@ -169,8 +169,9 @@ def test_all_that_is_wrong_with_a_mapping_at_once(tmp_path: Path) -> None:
     path.write_text(BAD_MAPPING, encoding="utf-8")
     lines = refusal(worked_lists.write(tmp_path), "--mapping", str(path)).lines
     assert lines == tuple(f"afdx-icd: {what}, {path}" for what in BAD_KEYS)
-    path.write_text("[columns\n", encoding="utf-8")
-    assert refusal(worked_lists.write(tmp_path), "--mapping", str(path)).lines[0].startswith("afdx-icd: not TOML: ")
+    for text in ("[columns\n", "x = " + "[" * 5000, "[switches]\nlatency_us = " + "1" * 5000):
+        path.write_text(text, encoding="utf-8")
+        assert refusal(worked_lists.write(tmp_path), "--mapping", str(path)).lines[0].startswith("afdx-icd: not TOML: ")
 
 
 def test_missing_columns_of_all_lists_at_once(tmp_path: Path) -> None:

@@ -95,8 +95,8 @@ class Reading:
 def read(command: str, path: Path | None) -> Mapping:
     """Reads a mapping file; without one all is as the keys say."""
     try:
-        reading = Reading(files.get(command, path).decode() if path else "")
-    except (UnicodeDecodeError, tomllib.TOMLDecodeError) as error:
+        reading = Reading(files.get(command, path).decode("utf-8-sig") if path else "")
+    except (ValueError, RecursionError) as error:  # also of a number or a nesting that Python has no room for
         raise Failure(INPUT, f"{command}: not TOML: {error}, {path}") from error
     links, ends, wires = (reading.list_mapping(name) for name in LISTS)
     switches = reading.fit("switches", (LATENCY, LEAST_LATENCY, CONSTANT))
