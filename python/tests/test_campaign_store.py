@@ -3,13 +3,14 @@ import gzip
 import json
 import random
 import sqlite3
+from dataclasses import replace
 from pathlib import Path
 from typing import Any
 
 import pandas
 import pytest
 
-from afdx.campaign.answers import forget
+from afdx.campaign.answers import digest, forget
 from afdx.campaign.findings import LOST_NAMES, QUESTIONS
 from afdx.campaign.rows import rows_of
 from afdx.campaign.store import collected, store_file
@@ -190,3 +191,36 @@ def test_rows_of_a_network_name_their_switch() -> None:
     assert read.ports[("B", 2)][-3:] == [64, 100, 7]
     assert read.delays == [("B-2", 10, 11, 3, 100, 200, 1000), ("A", 11, 3, 0, None, None, None)]
     assert read.spells == [("A", 10, 2000, 2500, 1, 500, 700)]
+
+
+def of_table(asked: Task, name: str, identity: str) -> Task:
+    """Answers the task under another table."""
+    return replace(asked, table=Table(name, (), (), False, identity))
+
+
+def worst_bounds(root: Path, tasks: list[Task]) -> set[tuple[str, int]]:
+    """Answers each table's name with the bounds that the store has under it."""
+    with collected(root, tasks) as base:
+        return set(base.execute('select tables.name, bound from delays join runs on runs.id = run '
+                                'join tables on tables.id = runs."table"'))
+
+
+def test_answers_follow_their_tables_to_other_names(tmp_path: Path) -> None:
+    asked = task(tmp_path)
+    first, second, third = (of_table(asked, "", identity) for identity in ("41", "42", "43"))
+    for number, one in enumerate((first, second, third), 41):
+        put(one, 0, "\n".join((HEADING, row("delays", link=1, port=1, sent=1, least=1, greatest=1, bound=number))), 0)
+    root = Path(asked.root)
+    for before, after in ((41, 42), (42, 43), (43, 42), (42, 42), (41, 42)):
+        tasks = [of_table(asked, "before", str(before)), of_table(asked, "after", str(after))]
+        assert worst_bounds(root, tasks) == {("before", before), ("after", after)}
+
+
+def test_the_digest_is_of_the_names_that_tables_have_now(tmp_path: Path) -> None:
+    asked = task(tmp_path)
+    put(asked, 0, "", 0)
+    root = Path(asked.root)
+    one, other = (of_table(asked, name, asked.table.identity) for name in ("one", "other"))
+    assert digest(root, [one]) != digest(root, [other])
+    assert digest(root, [one, other]) == digest(root, [other, one])
+    assert forget(root, [one, other], 0) == 1

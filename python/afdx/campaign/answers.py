@@ -33,15 +33,16 @@ def answered(root: Path, tasks: Iterable[Task]) -> Iterator[tuple[Task, dict[str
 def digest(root: Path, tasks: list[Task]) -> str:
     """Answers one hash of all that the answers say, whoever found them, in whatever order and at whatever cost."""
     digest = hashlib.sha256()
-    for task, answer in sorted(answered(root, tasks), key=lambda pair: pair[0].key):
-        said = [answer[name] for name in ("key", "recording", "table", "status", "fault", "line", "text", "begin")]
+    for task, answer in sorted(answered(root, tasks), key=lambda pair: (pair[0].key, pair[0].table.name)):
+        said = [task.key, task.recording.name, task.table.name,
+                *(answer[name] for name in ("status", "fault", "line", "text", "begin"))]
         digest.update(json.dumps(said).encode())
     return digest.hexdigest()
 
 
 def forget(root: Path, tasks: list[Task], status: int) -> int:
     """Removes the answers of this status; answers how many they were."""
-    found = [task for task, answer in answered(root, tasks) if answer["status"] == status]
-    for task in found:
-        task.answer.unlink(missing_ok=True)
+    found = {task.answer for task, answer in answered(root, tasks) if answer["status"] == status}
+    for answer in found:
+        answer.unlink(missing_ok=True)
     return len(found)

@@ -13,13 +13,13 @@ from afdx.campaign.worker.task import Task
 from afdx.campaign.worker.work import answer_at
 from afdx.failure import DEVICE
 
-VERSION = 1  # of the schema; a store of another one is made again
+VERSION = 2  # of the schema; a store of another one is made again
 BATCH = 200  # runs of a transaction
 QUOTED = ", ".join(f'"{name}" integer' for name in PORT)
 SCHEMA = f"""
 create table if not exists tables (id integer primary key, name text not null unique, unchecked integer not null);
 create table if not exists runs (
-    id integer primary key, key text not null unique, recording text not null,
+    id integer primary key, key text not null, recording text not null,
     "table" integer not null references tables, begin integer, size integer not null, status integer not null,
     seconds real, processor real, memory integer, tries integer, host text, at real);
 create unique index if not exists runs_of_tables on runs ("table", recording);
@@ -40,6 +40,7 @@ create table if not exists spells (
 create table if not exists faults (
     run integer primary key, status integer not null, fault text not null, line text not null);
 """
+STORED = 'select tables.name, key, runs.id from runs join tables on tables.id = runs."table"'
 OF_RUNS = ("links", "ports", "delays", "spells", "faults")
 
 
@@ -81,14 +82,18 @@ def prepared(base: sqlite3.Connection) -> sqlite3.Connection:
 
 
 def collect(base: sqlite3.Connection, root: Path, tasks: list[Task]) -> None:
-    """Adds the answers that are new, and removes the runs that no task asks for or whose answer was forgotten."""
+    """Adds the answers that are new, and removes the runs that no task asks for or whose answer was forgotten.
+
+    An answer is of what a table says, not of its name: tables of the same bytes share it, and it stays if it is asked
+    for under another name.
+    """
     there = keys_there(root)
-    wanted = {task.key: task for task in tasks if task.key in there}
+    wanted = {(task.table.name, task.key): task for task in tasks if task.key in there}
     tables = name_tables(base, tasks)
-    stored = dict(base.execute("select key, id from runs"))
-    remove(base, [number for key, number in stored.items() if key not in wanted])
-    for number, key in enumerate(key for key in wanted if key not in stored):
-        add(base, wanted[key], tables[wanted[key].table.name], answer_at(wanted[key].answer))
+    stored = {(table, key): number for table, key, number in base.execute(STORED)}
+    remove(base, [number for place, number in stored.items() if place not in wanted])
+    for number, place in enumerate(place for place in wanted if place not in stored):
+        add(base, wanted[place], tables[wanted[place].table.name], answer_at(wanted[place].answer))
         if number % BATCH == BATCH - 1:
             base.commit()
     base.execute("analyze")
@@ -106,8 +111,8 @@ def remove(base: sqlite3.Connection, numbers: list[int]) -> None:
 def name_tables(base: sqlite3.Connection, tasks: list[Task]) -> dict[str, int]:
     """Answers the numbers of the tables, which are in the order of the campaign file."""
     names = {task.table.name: task.table.unchecked for task in tasks}
-    stored = [name for name, in base.execute("select name from tables order by id")]
-    if stored != list(names):
+    stored = base.execute("select name, unchecked from tables order by id").fetchall()
+    if stored != list(names.items()):
         remove(base, [number for number, in base.execute("select id from runs")])
         base.execute("delete from tables")
         base.executemany("insert into tables (name, unchecked) values (?, ?)", names.items())
