@@ -79,7 +79,8 @@ def part_of(base: sqlite3.Connection, findings: dict[str, Finding], table: str, 
     steps = [pictures.trend(base, table, course, row) for row in rows["trends"][:STEPS]]
     return {name: listing(name, rows[name]) for name in ("worst", "trends", "babblers", "lost", "outliers")} | {
         "name": table, "anchor": f"table{place}", "verdict": table_verdict(rows),
-        "overview": drawn(pictures.overview(course, rows["babblers"]), f"Recordings under table {table}"),
+        "overview": drawn(pictures.overview(course, rows["babblers"]), f"Recordings under table {table}")
+        if course.recordings else "",
         "slack": drawn(pictures.slack(rows["slack"]), "Greatest delays, of their bounds") if rows["slack"] else "",
         "steps": [drawn(figure, f"Step {number}") for number, figure in enumerate(steps, 1)]}
 

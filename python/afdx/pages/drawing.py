@@ -40,10 +40,11 @@ def svg_of(figure: Any, label: str) -> str:
 
 
 def head(axes: Any, title: str) -> None:
-    """Writes the title, and the legend below it, both at the left."""
+    """Writes the title, and the legend below it if there is something to explain, both at the left."""
     axes.set_title(title, loc="left", fontsize=12, pad=22, fontweight="bold")
-    axes.legend(loc="lower left", bbox_to_anchor=(-0.01, 0.97), ncol=4, handletextpad=0.3, columnspacing=1,
-                handlelength=1.5, borderaxespad=0.2)
+    if axes.get_legend_handles_labels()[0]:  # else matplotlib warns on standard error
+        axes.legend(loc="lower left", bbox_to_anchor=(-0.01, 0.97), ncol=4, handletextpad=0.3,
+                    columnspacing=1, handlelength=1.5, borderaxespad=0.2)
 
 
 def rule(axes: Any) -> None:

@@ -1,0 +1,30 @@
+"""The page of a campaign while there is little to show."""
+import re
+from dataclasses import replace
+from pathlib import Path
+
+import pytest
+
+from afdx.campaign.report import put_report
+from afdx.campaign.worker.task import Table
+from afdx.campaign.worker.work import work
+from tests.campaign_samples import QUIET, task
+
+
+@pytest.mark.parametrize("ask, answered, parts", [
+    ("survey", False, ["no recording", "no recording"]), ("survey", True, ["a picture", "no recording"]),
+    ("run", True, ["a picture", "no recording"])])
+@pytest.mark.filterwarnings("error")
+def test_a_page_of_tables_without_answers(tmp_path: Path, caplog: pytest.LogCaptureFixture, ask: str, answered: bool,
+                                          parts: list[str]) -> None:
+    first = replace(task(tmp_path, act=QUIET), ask=ask)
+    if answered:
+        assert work(first, 1).status == 0
+    second = replace(first, table=Table("second", (), (), False, "another"))
+    root = Path(first.root)
+    root.mkdir(exist_ok=True)
+    assert put_report("title", root, [first, second]).left == 2 - answered
+    shown = re.split("<h2 id=\"table", (root / "campaign.html").read_text())[1:]
+    says = {"No recording is answered": "no recording", "<svg": "a picture"}
+    assert [word for part in shown for sign, word in says.items() if sign in part] == parts
+    assert not caplog.records
