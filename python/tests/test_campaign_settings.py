@@ -22,8 +22,9 @@ REFUSED = [
     ('ask = "all"\n' + GOOD, "ask is none of survey, run, trace, top"),
     ('keep = "all"\n' + GOOD, 'keep needs ask = "run" or "trace": a survey puts nothing, top'),
     (GOOD.replace("[[table]]", "[[network]]") + "unchecked = 1\n", "unchecked is no bool, [[network]] 1"),
-    (GOOD + "[limits]\ntries = 0\n", "tries is not above 0, [limits]"),
-    (GOOD + "[limits]\nmemory = -1.5\n", "memory is not above 0, [limits]"),
+    (GOOD + "[limits]\ntries = 0\n", "tries is no number above 0 and at most 1000000000, [limits]"),
+    (GOOD + "[limits]\ntimeout_s = inf\n", "timeout_s is no number above 0 and at most 1000000000, [limits]"),
+    (GOOD + "[limits]\nmemory = -1.5\n", "memory is no number above 0 and at most 1000000000, [limits]"),
     (GOOD.replace('["flights/*/run*"]', "[]"), "recordings is no list of patterns, top")]
 
 
@@ -41,6 +42,37 @@ def test_recordings_are_named_below_the_first_wildcard(tmp_path: Path) -> None:
     assert [task.recording.name for task in tasks] == ["monday/run1", "tuesday/run1"]
     assert tasks[0].recording.files == ("port-1.pcap", "port-7.pcap")
     assert tasks[0].memory == 4 * 48 + (64 << 20)
+
+
+def test_a_campaign_lies_in_any_folder(tmp_path: Path) -> None:
+    room = tmp_path / "[2026] a*"
+    room.mkdir()
+    text = GOOD.replace('["flights/*/run*"]', '["flights/*/run*", "./flights/*/run1/"]')
+    tasks = tasks_of(read_campaign(campaign(room, text)))
+    assert [(task.recording.name, task.recording.folder) for task in tasks] == [
+        (name, str(room / "flights" / name)) for name in ("monday/run1", "tuesday/run1")]
+
+
+def test_a_found_program_is_of_the_folder_of_the_command(tmp_path: Path, monkeypatch: pytest.MonkeyPatch) -> None:
+    file = campaign(tmp_path, GOOD.partition("\n")[2])
+    (tmp_path / "elsewhere").mkdir()
+    monkeypatch.chdir(tmp_path / "elsewhere")
+    monkeypatch.setenv("AFDX", "../afdx")
+    assert tasks_of(read_campaign(file))[0].program == str(tmp_path / "afdx")
+
+
+@pytest.mark.parametrize("identity", ["stat", "content"])
+def test_a_recording_that_cannot_be_read_is_in_no_others_way(tmp_path: Path, identity: str) -> None:
+    file = campaign(tmp_path, f'identity = "{identity}"\n' + GOOD)
+    first = [task.key for task in tasks_of(read_campaign(file))]
+    capture = tmp_path / "flights/monday/run1/port-7.pcap"
+    capture.unlink()
+    capture.symlink_to(capture.name)  # a loop
+    second = [task.key for task in tasks_of(read_campaign(file))]
+    capture.unlink()
+    capture.mkdir()
+    third = [task.key for task in tasks_of(read_campaign(file))]
+    assert len({first[0], second[0], third[0]}) == 3 and first[1] == second[1] == third[1]
 
 
 def test_the_key_is_of_what_the_answer_is_a_function_of(tmp_path: Path) -> None:

@@ -216,6 +216,17 @@ def test_answers_follow_their_tables_to_other_names(tmp_path: Path) -> None:
         assert worst_bounds(root, tasks) == {("before", before), ("after", after)}
 
 
+@pytest.mark.parametrize("text", [b"", b"no gzip", gzip.compress(b"{}" * 99)[:-9], gzip.compress(b"{")])
+def test_a_damaged_answer_is_named(tmp_path: Path, text: bytes) -> None:
+    asked = task(tmp_path)
+    asked.answer.parent.mkdir(parents=True)
+    asked.answer.write_bytes(text)
+    with pytest.raises(OSError) as error:
+        digest(Path(asked.root), [asked])
+    assert error.value.strerror == "damaged: remove it, and `run` asks again"
+    assert error.value.filename == str(asked.answer)
+
+
 def test_the_digest_is_of_the_names_that_tables_have_now(tmp_path: Path) -> None:
     asked = task(tmp_path)
     put(asked, 0, "", 0)

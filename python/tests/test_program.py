@@ -68,7 +68,8 @@ def test_a_kill_and_a_program_that_cannot_be_run(tmp_path: Path, monkeypatch: py
 def test_what_it_runs_ends_with_the_command(tmp_path: Path, monkeypatch: pytest.MonkeyPatch) -> None:
     """After a signal, which is an exception here, nothing goes on."""
     process = tmp_path / "process"
-    monkeypatch.setenv("AFDX", str(script(tmp_path / "afdx", f'echo $$ >"{process}.new"; mv "{process}.new" "{process}"; exec sleep 60')))
+    told = f'echo $$ >"{process}.new"; mv "{process}.new" "{process}"'  # so that it has its text as soon as it is there
+    monkeypatch.setenv("AFDX", str(script(tmp_path / "afdx", f"{told}; exec sleep 60")))
 
     def say(_: Progress, __: str) -> None:
         if process.exists():

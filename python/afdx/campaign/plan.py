@@ -26,7 +26,7 @@ def tasks_of(campaign: Campaign) -> list[Task]:
     try:
         identity = program_identity(program)
         tables = [(checked(program, table), table) for table in campaign.tables]
-        folders = folders_of(campaign.recordings)
+        folders = folders_of(campaign.file.parent, campaign.recordings)
         return [Task(
             root=str(campaign.root), program=os.path.abspath(program), program_identity=identity, recording=recording,
             table=table, ask=campaign.ask, keep=campaign.keep, scratch=campaign.scratch, tries=campaign.limits.tries,
@@ -65,15 +65,19 @@ def captures_of(configured: Configured) -> tuple[str, ...]:
         if f"{switch['name']}.{port['id']}" not in wired)
 
 
-def folders_of(patterns: tuple[str, ...]) -> dict[str, str]:
-    """Finds the folders of recordings by name, which is the path below the part of the pattern without wildcards."""
+def folders_of(folder: Path, patterns: tuple[str, ...]) -> dict[str, str]:
+    """Finds the folders of recordings by name, which is the path below the part of the pattern without wildcards.
+
+    The folder in which the patterns are is none of theirs: brackets in its name are not theirs either.
+    """
     folders: dict[str, str] = {}
     for pattern in patterns:
-        found = sorted(path for path in glob.glob(pattern) if os.path.isdir(path))
+        found = sorted(str(folder / name) for name in glob.glob(pattern, root_dir=folder)
+                       if os.path.isdir(folder / name))
         if not found:
-            raise failure(INPUT, f"no folder is {pattern}")
+            raise failure(INPUT, f"no folder is {folder / pattern}")
         for path in found:
-            name = os.path.relpath(path, above(pattern))
+            name = os.path.relpath(path, folder / above(pattern))
             if not name.isprintable():
                 raise failure(INPUT, f"a recording's name cannot be printed: {name!r}")
             if folders.setdefault(name, path) != path:

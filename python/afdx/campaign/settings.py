@@ -13,6 +13,7 @@ from afdx.program import find_program
 
 IDENTITIES = ("stat", "content")
 REQUIRED = object()
+MOST = 10**9  # of a limit: more seconds than a timer takes, or no number, would end a worker
 NAME = set("ABCDEFGHIJKLMNOPQRSTUVWXYZabcdefghijklmnopqrstuvwxyz0123456789-_.")
 
 Kind = TypeVar("Kind")
@@ -38,10 +39,10 @@ class Limits:
 
 @dataclass(frozen=True)
 class Campaign:
-    """What a campaign file says, with its paths made absolute."""
+    """What a campaign file says, with its paths made absolute, but for the patterns: a folder may have their signs."""
     file: Path
     program: str
-    recordings: tuple[str, ...]  # patterns of folders
+    recordings: tuple[str, ...]  # patterns of folders, beside the file unless they begin with /
     root: Path
     ask: str
     keep: str
@@ -86,8 +87,8 @@ class Section:
     def take_above_zero(self, key: str, kind: type[Kind], default: Kind) -> Kind:
         """Takes a number above 0."""
         number = self.take(key, kind, default)
-        if not number > 0:  # type: ignore[operator]
-            raise self.fail(f"{key} is not above 0")
+        if not 0 < number <= MOST:  # type: ignore[operator]
+            raise self.fail(f"{key} is no number above 0 and at most {MOST}")
         return number
 
     def take_sections(self, key: str) -> "list[Section]":
@@ -114,15 +115,15 @@ def read_campaign(path: Path) -> Campaign:
 def campaign_of(top: Section, path: Path) -> Campaign:
     """Answers what the sections of the file say."""
     folder = path.parent
-    program = top.take("program", str, find_program() or "")
+    program = program_of(top.take("program", str, ""), folder)
     if not program:
         raise top.fail("no key program, and no program afdx is on the path")
     recordings = top.take("recordings", list)
     if not recordings or not all(isinstance(pattern, str) for pattern in recordings):
         raise top.fail("recordings is no list of patterns")
     campaign = Campaign(
-        file=path, program=str(folder / program) if "/" in program else program,
-        recordings=tuple(str(folder / pattern) for pattern in recordings), root=folder / top.take("root", str),
+        file=path, program=program,
+        recordings=tuple(recordings), root=folder / top.take("root", str),
         ask=top.take_one_of("ask", ASKS), keep=top.take_one_of("keep", KEEPS),
         by_content=top.take_one_of("identity", IDENTITIES) == "content",
         scratch=str(folder / top.take("scratch", str, tempfile.gettempdir())),
@@ -131,6 +132,13 @@ def campaign_of(top: Section, path: Path) -> Campaign:
     if campaign.ask == "survey" and campaign.keep != "none":
         raise top.fail("keep needs ask = \"run\" or \"trace\": a survey puts nothing")
     return campaign
+
+
+def program_of(named: str, folder: Path) -> str:
+    """Answers the program that the file names, beside it if there is a / in its name; else the one that is found, whose
+    name is of the folder where the command was started."""
+    found = named or find_program() or ""
+    return str((folder if named else Path.cwd()) / found) if "/" in found else found
 
 
 def tables_of(top: Section, folder: Path) -> tuple[Configured, ...]:

@@ -80,7 +80,8 @@ def content_of(path: str | Path) -> str:
 
 
 def identity_of(name: str, folder: str, files: tuple[str, ...], by_content: bool) -> str:
-    """Hashes a recording's name, and of each file size and time of change, or its bytes, or that it is missing."""
+    """Hashes a recording's name, and of each file size and time of change, or its bytes, or that it is missing, or why
+    it cannot be read: that is a fault of this recording, and in no other's way."""
     digest = hashlib.sha256(name.encode("utf-8", "surrogateescape"))
     for file in files:
         path = os.path.join(folder, file)
@@ -89,6 +90,8 @@ def identity_of(name: str, folder: str, files: tuple[str, ...], by_content: bool
             said = content_of(path) if by_content else f"{status.st_size} {status.st_mtime_ns}"
         except FileNotFoundError:
             said = "missing"
+        except OSError as error:
+            said = str(error.strerror)
         digest.update(f"\n{file} {said}".encode())
     return digest.hexdigest()
 

@@ -1,11 +1,13 @@
 """Does a task: asks its question and puts the answer."""
 from __future__ import annotations
 
+import errno
 import gzip
 import json
 import os
 import socket
 import time
+import zlib
 from dataclasses import dataclass
 from pathlib import Path
 from typing import Any
@@ -125,10 +127,13 @@ def put_lost(task: Task, line: str) -> None:
 
 
 def answer_at(path: Path) -> dict[str, Any]:
-    """Reads an answer."""
-    with gzip.open(path) as file:
-        answer: dict[str, Any] = json.load(file)
-    return answer
+    """Reads an answer. One that something has damaged ends the command with its name, so that it can be removed."""
+    try:
+        with gzip.open(path) as file:
+            answer: dict[str, Any] = json.load(file)
+        return answer
+    except (EOFError, ValueError, zlib.error, gzip.BadGzipFile) as error:
+        raise OSError(errno.EIO, "damaged: remove it, and `run` asks again", str(path)) from error
 
 
 def status_of(path: Path) -> int:
