@@ -116,3 +116,45 @@ def test_a_signal_while_a_program_is_begun(tmp_path: Path) -> None:
     assert process.returncode == 128 + signal.SIGTERM
     with pytest.raises(ProcessLookupError):
         os.kill(int((tmp_path / "process").read_text()), 0)
+
+
+# a command that prints what it found, or its help
+PRINTING = """
+import argparse, sys
+from afdx.failure import run
+
+def main(arguments):
+    argparse.ArgumentParser(prog="command").parse_args(arguments)
+    print("found")
+    return 1
+
+sys.exit(run(main))
+"""
+
+
+def ended(folder: Path, redirection: str, *arguments: str, unbuffered: str = "") -> tuple[int, str]:
+    """Answers the status and standard error of the printing command, of which a shell redirected the streams."""
+    environment = {"PYTHONPATH": str(Path(__file__).parents[1]), "PATH": os.environ["PATH"],
+                   "PYTHONUNBUFFERED": unbuffered}
+    words = ["sh", "-c", f'exec "$@" {redirection}', "sh", sys.executable, "-c", PRINTING, *arguments]
+    done = subprocess.run(words, cwd=folder, stderr=subprocess.PIPE, stdout=subprocess.DEVNULL, text=True,
+                          env=environment)
+    return done.returncode, done.stderr
+
+
+@pytest.mark.parametrize("unbuffered", ["", "1"])
+@pytest.mark.parametrize("arguments", [(), ("--help",)])
+@pytest.mark.parametrize("redirection, why", [(">&-", "Bad file descriptor"),
+                                              (">/dev/full", "No space left on device")])
+def test_an_output_that_takes_nothing(tmp_path: Path, redirection: str, why: str, arguments: tuple[str, ...],
+                                      unbuffered: str) -> None:
+    """It is a device that failed, whether the command printed its answer or its help."""
+    status, said = ended(tmp_path, redirection, *arguments, unbuffered=unbuffered)
+    assert (status, said) == (5, f"-c: cannot write standard output: {why}\n")
+
+
+@pytest.mark.parametrize("redirection", ["2>&-", "<&- 2>&-"])
+def test_an_error_stream_that_is_closed(tmp_path: Path, redirection: str) -> None:
+    """The status is as with one."""
+    assert ended(tmp_path, redirection) == (1, "")
+    assert ended(tmp_path, redirection, "--no-such-option") == (2, "")
