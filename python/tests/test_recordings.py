@@ -106,11 +106,17 @@ def test_faults_with_their_places(tmp_path: Path, text: bytes, said: str) -> Non
     assert fault(tmp_path / "a", text) == said
 
 
+def skippable(number: int, size: int) -> bytes:
+    """Makes a skippable frame of zstd; the number is the last hexadecimal digit of its magic."""
+    return struct.pack("<II", 0x184D2A50 + number, size) + b"\x28" * size
+
+
 def compressed(text: bytes) -> list[bytes]:
     half = len(text) // 2
+    first, second = zstandard.compress(text[:half]), zstandard.compress(text[half:])
     return [gzip.compress(text), zstandard.compress(text), lzma.compress(text),
             gzip.compress(text[:half]) + bytes(512) + gzip.compress(text[half:]),
-            zstandard.compress(text[:half]) + zstandard.compress(text[half:]),
+            first + second, skippable(0, 4) + first + skippable(5, 0) + skippable(9, 70) + second + skippable(15, 9),
             lzma.compress(text[:half]) + bytes(4) + lzma.compress(text[half:])]
 
 
@@ -130,6 +136,11 @@ def test_compressed_recordings_that_break_off(tmp_path: Path) -> None:
             found, recording = read(tmp_path / "a", packed[:end])
             assert found == normal(records)[:len(found)]
             assert recording.broken or len(found) == len(records)
+
+
+def test_a_long_skippable_frame(tmp_path: Path) -> None:
+    text = skippable(3, 200_000) + zstandard.compress(captures.pcap([Record(AT, FRAME)]))
+    assert read(tmp_path / "a", text)[0] == [Record(AT, FRAME, 60)]
 
 
 def test_bytes_after_compressed_ones(tmp_path: Path) -> None:

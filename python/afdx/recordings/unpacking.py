@@ -82,10 +82,34 @@ class Zstd:
         return self.library.decompress(packed[:ZSTD_PIECE]), packed[ZSTD_PIECE:]
 
 
-FORMATS: list[tuple[bytes, Callable[[], Unpacker]]] = [
-    (bytes.fromhex("1f8b"), Gzip),
-    (bytes.fromhex("28b52ffd"), Zstd),
-    (bytes.fromhex("fd377a585a00"), Xz),
+class Skippable:
+    """Passes over a skippable frame of zstd, which holds none of what was compressed (RFC 8878)."""
+
+    HEADER = 8  # bytes: its magic, and how many follow
+
+    def __init__(self) -> None:
+        self.header = b""
+        self.missing = 0  # bytes after the header
+        self.eof = False
+        self.unused_data = b""
+
+    def unpack(self, packed: bytes, most: int) -> tuple[bytes, bytes]:
+        if len(self.header) < self.HEADER:
+            taken = self.HEADER - len(self.header)
+            self.header, packed = self.header + packed[:taken], packed[taken:]
+            self.missing = int.from_bytes(self.header[4:], "little")
+        passed = min(self.missing, len(packed))
+        self.missing -= passed
+        self.eof = len(self.header) == self.HEADER and not self.missing
+        return b"", packed[passed:]
+
+
+Format = dict[bytes, Callable[[], Unpacker]]  # what unpacks a member, by its magic
+SKIPPABLE = [number.to_bytes(4, "little") for number in range(0x184D2A50, 0x184D2A60)]
+FORMATS: list[Format] = [
+    {bytes.fromhex("1f8b"): Gzip},
+    {bytes.fromhex("28b52ffd"): Zstd, **dict.fromkeys(SKIPPABLE, Skippable)},
+    {bytes.fromhex("fd377a585a00"): Xz},
 ]
 MAGIC = 6  # bytes of the longest magic
 
@@ -97,8 +121,8 @@ class Unpacked:
         self.file = file
         self.cut = False
         self.packed = file.read(MAGIC)
-        self.format = next((made for magic, made in FORMATS if self.packed.startswith(magic)), None)
-        self.member = self.format() if self.format else None
+        self.format = next((one for one in FORMATS if member_of(one, self.packed)), None)
+        self.member = member_of(self.format, self.packed) if self.format else None
         self.ended = False
 
     def read(self, most: int, rest: bytes) -> bytes:
@@ -140,9 +164,13 @@ class Unpacked:
             if not more:
                 break
             rest = (rest + more).lstrip(b"\0")
-        magic = next(magic for magic, made in FORMATS if made is self.format)
-        self.ended = not rest or len(rest) < len(magic) and magic.startswith(rest)
+        self.ended = any(len(rest) < len(magic) and magic.startswith(rest) for magic in self.format)
         self.cut = bool(rest) and self.ended
-        if not self.ended and not rest.startswith(magic):
+        self.member, self.packed = member_of(self.format, rest), rest
+        if not self.ended and self.member is None:
             raise Damaged("bytes after its end")
-        self.member, self.packed = self.format(), rest
+
+
+def member_of(form: Format, packed: bytes) -> Unpacker | None:
+    """Answers what unpacks the member that begins so; None if none of this format does."""
+    return next((made() for magic, made in form.items() if packed.startswith(magic)), None)
