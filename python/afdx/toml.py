@@ -7,9 +7,21 @@ from afdx import files
 from afdx.failure import INPUT, Failure
 
 
+class NotToml(Exception):
+    """Is raised for a text that is no TOML, or that has a number or a nesting that Python has no room for."""
+
+
+def content(text: bytes) -> dict[str, Any]:
+    """Answers the content of a text, which may have a byte order mark. Raises NotToml."""
+    try:
+        return tomllib.loads(text.decode("utf-8-sig"))
+    except (ValueError, RecursionError) as error:
+        raise NotToml(str(error)) from error
+
+
 def read(command: str, path: Path) -> dict[str, Any]:
     """Answers the content of a file."""
     try:
-        return tomllib.loads(files.get(command, path).decode("utf-8-sig"))
-    except (ValueError, RecursionError) as error:  # also of a number or a nesting that Python has no room for
+        return content(files.get(command, path))
+    except NotToml as error:
         raise Failure(INPUT, f"{command}: not TOML 1.0: {error}, {path}") from error

@@ -213,6 +213,9 @@ def test_each_faulty_recording_is_named_and_nothing_is_put(folder: Folder) -> No
     ('[[source]]\nfile = "../a.pcap"\nto = "../port-1"\n', 3,
      ["source 1: file has to be the name of a file in RAW, or a pattern of names, {}/rules.toml",
       'source 1: to has to be a port, as "port-1" or "SW1/port-1", {}/rules.toml']),
+    ('[[source]]\nfile = "a.pcap"\nend_systems = { 9 = "port-1", 09 = "port-2" }\n', 3,
+     ["source 1: end_systems has to be a table of end systems' numbers, 0 to 65535, each once, with a port, as "
+      '"port-1" or "SW1/port-1", {}/rules.toml']),
     ("source = [", 3, ["no TOML: Invalid value (at end of document), {}/rules.toml"]),
     (TWO, 3, ["no recording b.pcap, source 1, {}/raw"]),
     (ONE.replace("a.pcap", "."), 3, ["no recording ., source 1, {}/raw"]),
@@ -225,6 +228,10 @@ def test_rules_that_cannot_be_followed(folder: Folder, rules: str, status: int, 
     lines = [f"afdx-import: {line.format(folder.path)}" for line in said]
     assert folder.run(rules, a_pcap=captures.pcap(A)) == (status, [], lines)
     assert folder.captures() == {}
+
+
+def test_a_byte_order_mark_is_skipped(folder: Folder) -> None:
+    assert folder.run("\ufeff" + ONE, a_pcap=captures.pcap(A))[0] == 0
 
 
 def test_a_recording_is_not_replaced(folder: Folder) -> None:

@@ -1,11 +1,10 @@
 """Reads the mapping: what the lists' columns are called, what stands for empty cells, and what all switches have."""
 import re
-import tomllib
 from dataclasses import dataclass
 from pathlib import Path
 from typing import Any, TypeVar
 
-from afdx import files
+from afdx import files, toml
 from afdx.failure import INPUT, Failure
 from afdx.icd import columns
 from afdx.icd.cells import Column, Unfit, whole
@@ -51,9 +50,9 @@ class Mapping:
 class Reading:
     """Reads the sections of a mapping, and keeps what is wrong with them."""
 
-    def __init__(self, text: str) -> None:
+    def __init__(self, text: bytes) -> None:
         self.wrong: list[str] = []
-        self.sections: dict[str, Any] = tomllib.loads(text)
+        self.sections: dict[str, Any] = toml.content(text)
         for name in self.sections.keys() - {"columns", "defaults", "switches"}:
             self.wrong.append(f"no such section, {name}")
 
@@ -95,8 +94,8 @@ class Reading:
 def read(command: str, path: Path | None) -> Mapping:
     """Reads a mapping file; without one all is as the keys say."""
     try:
-        reading = Reading(files.get(command, path).decode("utf-8-sig") if path else "")
-    except (ValueError, RecursionError) as error:  # also of a number or a nesting that Python has no room for
+        reading = Reading(files.get(command, path) if path else b"")
+    except toml.NotToml as error:
         raise Failure(INPUT, f"{command}: not TOML: {error}, {path}") from error
     links, ends, wires = (reading.list_mapping(name) for name in LISTS)
     switches = reading.fit("switches", (LATENCY, LEAST_LATENCY, CONSTANT))

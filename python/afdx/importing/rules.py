@@ -1,10 +1,10 @@
 """Reads the rules: which frames of which recordings come to which port, and what is mended on the way."""
 import re
-import tomllib
 from collections.abc import Callable
 from dataclasses import dataclass, field
 from typing import Any
 
+from afdx import toml
 from afdx.recordings.columns import SECOND
 
 PORT = re.compile(r"(?:[A-Za-z0-9_-][A-Za-z0-9._-]*/){0,8}port-(?:[1-9]|1[0-9]|2[0-4])")
@@ -80,7 +80,8 @@ def is_pattern(value: Any) -> bool:
 
 def is_end_systems(value: Any) -> bool:
     return isinstance(value, dict) and len(value) > 0 and all(
-        re.fullmatch("[0-9]{1,5}", key) and int(key) <= 65_535 and is_port(port) for key, port in value.items())
+        re.fullmatch("[0-9]{1,5}", key) and int(key) <= 65_535 and is_port(port) for key, port in value.items()
+    ) and len(set(map(int, value))) == len(value)
 
 
 A_PORT = 'a port, as "port-1" or "SW1/port-1"'
@@ -88,7 +89,7 @@ OF_SOURCES: dict[str, tuple[Callable[[Any], bool], str]] = {
     "file": (is_pattern, "the name of a file in RAW, or a pattern of names"),
     "interface": (lambda value: type(value) is int and value >= 0 or isinstance(value, str), "a name or a number"),
     "to": (is_port, A_PORT),
-    "end_systems": (is_end_systems, f"a table of end systems' numbers, 0 to 65535, each with {A_PORT}"),
+    "end_systems": (is_end_systems, f"a table of end systems' numbers, 0 to 65535, each once, with {A_PORT}"),
     "network": (lambda value: isinstance(value, str) and value in NETWORKS, '"A" or "B"'),
     "fcs": (lambda value: isinstance(value, bool) or value == "auto", 'true, false or "auto"'),
     "stamps": (lambda value: value in ("start", "end"), '"start" or "end"'),
@@ -128,8 +129,8 @@ def faults_of_source(table: dict[str, Any], place: str) -> list[str]:
 def rules_of(text: bytes) -> Rules:
     """Reads the rules. Raises RulesFault with all that is wrong."""
     try:
-        top = tomllib.loads(text.decode())
-    except (ValueError, RecursionError) as error:
+        top = toml.content(text)
+    except toml.NotToml as error:
         raise RulesFault([f"no TOML: {error}"]) from error
     faults = faults_of(top, OF_THE_TOP, "top")
     tables = top.get("source", [])
