@@ -136,6 +136,15 @@ def test_check_sequences_of_some_frames(folder: Folder) -> None:
     assert " fcs stripped-of-3 " in lines[0]
 
 
+def test_check_sequences_where_interfaces_come_later(folder: Folder) -> None:
+    """What the first frames of an interface have is seen across the blocks of others."""
+    good = [captures.packet(Record(AT + number, checked(frame(fill=number)))) for number in range(1, 9)]
+    text = captures.section() + captures.interface() + captures.packet(Record(AT, bytes(64))) + captures.interface()
+    status, _, said = folder.run(ONE, a_pcap=text + b"".join(good))
+    assert (status, said) == (0, ["afdx-import: warning: 8 of 9 frames looked at end with their check sequence, "
+                                  "taken off all, a.pcap, interface 0"])
+
+
 @pytest.mark.parametrize("keys, moved", [
     ("offset_ns = -37200000", [-37_200_000, -37_200_000 + SECOND]),
     ("drift_ppb = 50003", [0, SECOND + 50_003]),

@@ -1,6 +1,6 @@
 """Holds what a reader hands on: many records at once, each field of theirs a column."""
-from collections.abc import Callable
-from dataclasses import dataclass
+from collections.abc import Callable, Iterator
+from dataclasses import dataclass, replace
 from typing import Any, TypeVar
 
 import numpy as np
@@ -51,6 +51,15 @@ class Batch:
     interface: Column  # its place among the reader's interfaces
     sender: Words  # the last four bytes of the source address, the first one lowest; any if these were not captured
     is_written: bool = False  # whether the records, from ROOM before each frame on, are as afdx writes them
+
+
+def joined(parts: list[Batch]) -> Iterator[Batch]:
+    """Answers batches of one piece as one, if there are any."""
+    if len(parts) > 1:
+        names = ("where", "start", "captured", "original", "stamp", "interface", "sender")
+        columns = {name: np.concatenate([getattr(part, name) for part in parts]) for name in names}
+        parts = [replace(parts[0], **columns)]
+    yield from parts
 
 
 def wheres(at: Column) -> Column:

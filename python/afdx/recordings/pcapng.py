@@ -6,7 +6,7 @@ from typing import Self
 import numpy as np
 import numpy.typing as npt
 
-from afdx.recordings.columns import SECOND, SENDER, Batch, Column, Interface, Origin, wheres, words
+from afdx.recordings.columns import HALF, SECOND, SENDER, Batch, Column, Interface, Origin, joined, wheres, words
 from afdx.recordings.faults import RecordingFault
 from afdx.recordings.form import MOST_CAPTURED, Form
 
@@ -77,17 +77,23 @@ class Pcapng(Form):
 
     def batches(self, data: bytes) -> Iterator[Batch]:
         at = self.passed(data)
-        base = self.offset - (at or 0)
-        while at is not None:
-            places, at = walk(data, at, self.order)
-            if places:
-                yield self.packets(data, np.array(places, np.int64), base)
-            self.used, self.offset = at, base + at
-            at = self.in_turn(data, at)
+        origin = Origin(self.place, self.count + 1, self.offset - (at or 0))
+        parts: list[Batch] = []
+        try:
+            while at is not None:
+                places, at = walk(data, at, self.order)
+                if places:
+                    parts.append(self.packets(data, np.array(places, np.int64), origin))
+                self.used, self.offset = at, origin.offset + at
+                at = self.in_turn(data, at)
+        except RecordingFault:
+            yield from joined(parts)
+            raise
+        yield from joined(parts)
 
-    def packets(self, data: bytes, at: Column, base: int) -> Batch:
+    def packets(self, data: bytes, at: Column, origin: Origin) -> Batch:
         """Answers the packets of these blocks."""
-        where, origin = wheres(at), Origin(self.place, self.count + 1, base)
+        where = wheres(at) + (self.count + 1 - origin.number << HALF)
         head = words(data, at, 2, self.order).astype(np.int64)
         kind, size = head[:, 0], head[:, 1]
         again = words(data, at + size - 4, 1, self.order)[:, 0]
