@@ -13,6 +13,7 @@ import captures
 from afdx.failure import Failure
 from afdx.importing import ordering
 from afdx.importing.command import main
+from afdx.importing.frames import CheckSequences
 from afdx.importing.rules import rules_of
 from afdx.importing.running import Import
 from captures import Faulty, Record, checked
@@ -143,6 +144,21 @@ def test_check_sequences_where_interfaces_come_later(folder: Folder) -> None:
     status, _, said = folder.run(ONE, a_pcap=text + b"".join(good))
     assert (status, said) == (0, ["afdx-import: warning: 8 of 9 frames looked at end with their check sequence, "
                                   "taken off all, a.pcap, interface 0"])
+
+
+@pytest.mark.parametrize("whole, word, said", [
+    (0, "none", []),
+    (30, "stripped-of-30", ["afdx-import: 30 of 30 frames looked at end with their check sequence, taken off all, "
+                            "a.pcap, interface 0"])])
+def test_cut_frames_before_any_whole_one(folder: Folder, whole: int, word: str, said: list[str]) -> None:
+    """They keep their original lengths, with a warning."""
+    cut = [Record(AT + number, checked(frame(fill=number))[:40], 64) for number in range(3)]
+    later = [Record(AT + 10 + number, checked(frame(fill=number))) for number in range(whole)]
+    with patch.object(Import.__init__, "__defaults__", (24 + 3 * 56,)), patch.object(CheckSequences, "LATER", 256):
+        status, lines, notes = folder.run(ONE, a_pcap=captures.pcap(cut + later))
+    assert (status, notes) == (0, ["afdx-import: warning: 3 cut frames came before any whole one that shows whether "
+                                   "they had a check sequence, none taken off, a.pcap, interface 0", *said])
+    assert f" cut 3 fcs {word} " in lines[0]
 
 
 @pytest.mark.parametrize("keys, moved", [

@@ -48,6 +48,7 @@ class CheckSequences:
     def __init__(self) -> None:
         self.looked = 0
         self.right = 0
+        self.unknown = 0  # cut frames that came before this was decided
         self.are_there: bool | None = None
 
     def look(self, batch: Batch, mine: Column) -> bool:
@@ -62,6 +63,8 @@ class CheckSequences:
         self.right += sum(map(is_checked, frames))
         if self.are_there is None and frames:
             self.are_there = 2 * self.right >= len(frames)
+        if self.are_there is None:
+            self.unknown += int((batch.captured[mine] < batch.original[mine]).sum())
         return self.are_there is True
 
 

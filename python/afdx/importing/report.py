@@ -40,10 +40,13 @@ def notes(done: Import) -> Iterator[str]:
 def check_sequence_notes(reading: Reading) -> Iterator[str]:
     """Answers of which interfaces check sequences were taken off, and where frames differ."""
     for place, check in reading.checks.items():
+        interface = reading.recording.interfaces[place].number
+        if check.unknown:
+            yield (f"warning: {check.unknown} cut frames came before any whole one that shows whether they had a check "
+                   f"sequence, none taken off, {reading.recording.name}, interface {interface}")
         if check.right:
             warning = "" if check.right == check.looked else "warning: "
             what = "taken off all" if check.are_there else "none taken off"
-            interface = reading.recording.interfaces[place].number
             yield (f"{warning}{check.right} of {check.looked} frames looked at end with their check sequence, {what}, "
                    f"{reading.recording.name}, interface {interface}")
 
