@@ -106,6 +106,33 @@ def test_faults_with_their_places(tmp_path: Path, text: bytes, said: str) -> Non
     assert fault(tmp_path / "a", text) == said
 
 
+@pytest.mark.parametrize("piece", [300, 100_000])
+def test_the_first_of_many_faults(tmp_path: Path, piece: int) -> None:
+    """It is the first by its place, whatever its kind, and what is before it is answered."""
+    good = [Record(AT + number, FRAME) for number in range(100)]
+    fraction, long, late = words(1, 2 * 10**9, 0, 0), words(1, 0, 300_000, 0), words(2**32 - 1, 0, 0, 0)
+    blocks = [captures.section(), captures.interface(), *map(packet, good)]
+    for first, second, said in ((fraction, long, "a fraction of"), (late, fraction, "a stamp"), (late, long, "a stamp"),
+                                (long, fraction, "300000 bytes captured")):
+        text = captures.pcap(good) + first + captures.pcap(good)[24:] + second
+        assert_fault(tmp_path / "a", text, piece, said, "a, record 101, offset 7624", 100)
+    for first, second, said in ((packet(good[0], units=2**63), PAST_ITS_END, "a stamp"),
+                                (packet(Record(AT, FRAME, 60, 1)), PAST_ITS_END, "interface 1"),
+                                (PAST_ITS_END, packet(good[0])[:-4] + bytes(4), "99 bytes captured")):
+        text = b"".join([*blocks, first, *map(packet, good), second])
+        assert_fault(tmp_path / "a", text, piece, said, "a, block 103, offset 9260", 100)
+
+
+def assert_fault(path: Path, text: bytes, piece: int, said: str, place: str, before: int) -> None:
+    path.write_bytes(text)
+    count = 0
+    with pytest.raises(RecordingFault) as caught:
+        for batch in Recording(path, path.name, piece).batches():
+            count += len(batch.stamp)
+    assert str(caught.value).startswith(said) and str(caught.value).endswith(place)
+    assert count == before
+
+
 def skippable(number: int, size: int) -> bytes:
     """Makes a skippable frame of zstd; the number is the last hexadecimal digit of its magic."""
     return struct.pack("<II", 0x184D2A50 + number, size) + b"\x28" * size

@@ -37,6 +37,7 @@ class Reading:
         self.left = np.zeros(END_SYSTEMS - NONE, np.int64)  # frames that no source takes, by their end system
         self.batches = recording.batches()
         self.ended = False
+        self.fault: RecordingFault | None = None
 
     def step(self) -> None:
         """Takes the next batch to its ports."""
@@ -75,7 +76,11 @@ class Import:
             anchor = min((begin for path in paths if (begin := first[path]) is not None), default=0)
             for path in paths:
                 self.add(self.readings[path], source, anchor)
-        self.faults: list[RecordingFault] = []
+
+    @property
+    def faults(self) -> list[RecordingFault]:
+        """Answers the first fault of each recording that has one, in the rules' order."""
+        return [reading.fault for reading in self.readings.values() if reading.fault]
 
     def add(self, reading: Reading, source: Source, anchor: int) -> None:
         taker = Taker(len(self.takers), source, anchor, reading.recording, reading.checks, self.ports)
@@ -99,7 +104,7 @@ class Import:
         try:
             reading.step()
         except RecordingFault as fault:
-            self.faults.append(fault)
+            reading.fault = fault
             reading.ended = True
         ports = dict.fromkeys(port for taker in reading.takers for port in taker.names)
         progress = [(taker, other.progress(taker)) for other, taker in self.takers

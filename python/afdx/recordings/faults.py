@@ -20,5 +20,13 @@ class RecordingFault(Exception):
         super().__init__(f"{what}, {place}")
 
 
+class RecordFault(RecordingFault):
+    """Is raised for a record of a piece; `before` is how many of the piece were before it."""
+
+    def __init__(self, what: str, place: Place, before: int) -> None:
+        super().__init__(what, place)
+        self.before = before
+
+
 class Damaged(Exception):
     """Is raised for compressed bytes that cannot be unpacked."""

@@ -1,13 +1,13 @@
 """Defines what all formats of recordings have in common."""
 from abc import ABC, abstractmethod
-from collections.abc import Iterator
+from collections.abc import Callable, Iterator
 from typing import Any
 
 import numpy as np
 import numpy.typing as npt
 
-from afdx.recordings.columns import END_OF_STAMPS, Batch, Column, Interface, Origin, are_stamps
-from afdx.recordings.faults import Place, RecordingFault
+from afdx.recordings.columns import END_OF_STAMPS, HALF, Batch, Column, Interface, Origin, are_stamps
+from afdx.recordings.faults import Place, RecordFault
 
 MOST_CAPTURED = 262_144
 
@@ -33,6 +33,16 @@ class Form(ABC):
     def batches(self, data: bytes) -> Iterator[Batch]:
         """Answers the records that lie whole in data, which follows what was used before."""
 
+    def up_to_fault(self, read: Callable[[Column], Batch], at: Column, origin: Origin) -> Iterator[Batch]:
+        """Answers the records that are read at these places, the next ones of a piece; if one has a fault, those before
+        the first that has, and raises its fault."""
+        try:
+            batch = read(at)
+        except RecordFault as fault:
+            yield from self.up_to_fault(read, at[:fault.before - (self.count + 1 - origin.number)], origin)
+            raise
+        yield batch
+
     def place(self, number: int, offset: int) -> Place:
         return Place(self.name, f"{self.unit} {number}", offset)
 
@@ -44,7 +54,8 @@ class Form(ABC):
         """Raises the fault of the first record that has it; `{}` in its text is the record's number in `of`."""
         if faulty.any():
             first = int(faulty.argmax())
-            raise RecordingFault(what.format(int(of[first])), origin.place_of(int(where[first])))
+            its = int(where[first])
+            raise RecordFault(what.format(int(of[first])), origin.place_of(its), its >> HALF)
 
     def refuse_late(self, stamp: Column, where: Column, origin: Origin) -> None:
         """Refuses stamps that no capture can have."""

@@ -45,12 +45,17 @@ class Pcap(Form):
 
     def batches(self, data: bytes) -> Iterator[Batch]:
         at, after = records_of(data, self.order)
-        where, origin = wheres(at), Origin(self.place, self.count + 1, self.offset)
+        origin = Origin(self.place, self.count + 1, self.offset)
+        yield from self.up_to_fault(lambda some: self.batch(data, some, after, origin), at, origin)
+
+    def batch(self, data: bytes, at: Column, after: int, origin: Origin) -> Batch:
+        """Answers the records at these places that lie whole in data."""
+        where = wheres(at)
         fields = words(data, at, TO_SENDER, self.order)
         captured = fields[:, 2].astype(np.int64)
         self.refuse(captured > MOST_CAPTURED, where, origin, "{} bytes captured", captured)
-        whole = len(at) - (after > len(data))
-        self.used = after if whole == len(at) else int(at[-1])
+        whole = len(at) - (len(at) > 0 and int(at[-1] + captured[-1]) + RECORD > len(data))
+        used = after if whole == len(at) else int(at[-1])
         at, where, fields, captured = at[:whole], where[:whole], fields[:whole], captured[:whole]
         nanos = fields[:, 1].astype(np.int64)
         nanos *= self.fraction
@@ -60,13 +65,14 @@ class Pcap(Form):
         stamp += nanos
         self.refuse_late(stamp, where, origin)
         self.count += whole
-        self.offset += self.used
+        self.used = used
+        self.offset += used
         said = fields[:, 3].astype(np.int64)
         original = np.maximum(said, captured)
         is_written = self.order == "<" and self.fraction == 1 and bool((original == said).all())
         sender = fields[:, -1] if self.order == "<" else fields[:, -1].byteswap()
-        yield Batch(data, origin, where, at + RECORD, captured, original, stamp,
-                    np.broadcast_to(np.int64(0), (whole,)), sender, is_written)
+        return Batch(data, origin, where, at + RECORD, captured, original, stamp,
+                     np.broadcast_to(np.int64(0), (whole,)), sender, is_written)
 
 
 def headers(stamp: Column, captured: Column, original: Column) -> npt.NDArray[np.void]:

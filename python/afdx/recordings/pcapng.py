@@ -1,6 +1,7 @@
 """Reads pcapng: its packets with their interfaces; blocks that hold no packet are passed over."""
 import struct
 from collections.abc import Iterator
+from functools import partial
 from typing import Self
 
 import numpy as np
@@ -83,7 +84,9 @@ class Pcapng(Form):
             while at is not None:
                 places, at = walk(data, at, self.order)
                 if places:
-                    parts.append(self.packets(data, np.array(places, np.int64), origin))
+                    for part in self.up_to_fault(partial(self.packets, data, origin), np.array(places), origin):
+                        parts.append(part)
+                    self.count += len(places)
                 self.used, self.offset = at, origin.offset + at
                 at = self.in_turn(data, at)
         except RecordingFault:
@@ -91,14 +94,13 @@ class Pcapng(Form):
             raise
         yield from joined(parts)
 
-    def packets(self, data: bytes, at: Column, origin: Origin) -> Batch:
+    def packets(self, data: bytes, origin: Origin, at: Column) -> Batch:
         """Answers the packets of these blocks."""
         where = wheres(at) + (self.count + 1 - origin.number << HALF)
         head = words(data, at, 2, self.order).astype(np.int64)
         kind, size = head[:, 0], head[:, 1]
         again = words(data, at + size - 4, 1, self.order)[:, 0]
         self.refuse(again != size, where, origin, "a block's length of {} bytes is not that at its end", size)
-        self.count += len(at)
 
         mine = (kind == PACKET) | (kind == OLD_PACKET)
         at, where, kind, size = at[mine], where[mine], kind[mine], size[mine]
