@@ -49,7 +49,7 @@ def test_a_workbook_reads_as_the_same_list(tmp_path: Path) -> None:
         Row(1, ["id", "to", "bag_ms"]), Row(2, ["1", "A", "8"]), Row(4, ["2", "", "0.5"])]
 
 
-@pytest.mark.parametrize("said", [b"A1", b"A1:B2", b"A1:C9"])
+@pytest.mark.parametrize("said", [b"A1", b"A1:B2", b"A1:C9", b"A1:I8", b"B2:C3"])
 def test_a_workbook_is_read_whole_whatever_size_it_says(tmp_path: Path, said: bytes) -> None:
     rows: list[list[object]] = [["id", "to", "police"], [1, "A", "byte"], [2, "B", "frame"]]
     source, text = zipfile.ZipFile(io.BytesIO(workbook(rows))), io.BytesIO()
