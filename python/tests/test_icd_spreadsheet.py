@@ -23,11 +23,13 @@ def read(path: Path, text: bytes) -> list[Row]:
     return [sheet.heading, *sheet.rows]
 
 
-def workbook(rows: list[list[object]]) -> bytes:
-    """Answers a workbook of these rows."""
+def workbook(rows: list[list[object]], *merged: str) -> bytes:
+    """Answers a workbook of these rows, in which these ranges are merged."""
     book, text = openpyxl.Workbook(), io.BytesIO()
     for row in rows:
         book.active.append(row)
+    for cells in merged:
+        book.active.merge_cells(cells)
     book.save(text)
     return text.getvalue()
 
@@ -59,6 +61,20 @@ def test_a_workbook_is_read_whole_whatever_size_it_says(tmp_path: Path, said: by
             changed.writestr(name, re.sub(rb'<dimension ref="[^"]*"', size, source.read(name)))
     assert read(tmp_path / "list.xlsx", text.getvalue()) == [
         Row(1, ["id", "to", "police"]), Row(2, ["1", "A", "byte"]), Row(3, ["2", "B", "frame"])]
+
+
+def test_merged_cells_have_the_value_of_the_first(tmp_path: Path) -> None:
+    rows: list[list[object]] = [
+        ["id", "police", "remark"], [1, "frame", "x"], [2], [], [3], [4, "byte"], [5, None, "y"]]
+    text = workbook(rows, "B2:B5", "B7:C7", "C2:E3", "B9:B12")
+    assert read(tmp_path / "list.xlsx", text) == [
+        Row(1, ["id", "police", "remark"]), Row(2, ["1", "frame", "x"]), Row(3, ["2", "frame", "x"]),
+        Row(5, ["3", "frame"]), Row(6, ["4", "byte"]), Row(7, ["5", "", ""])]
+
+
+def test_a_heading_of_merged_cells_is_above_each_of_their_columns(tmp_path: Path) -> None:
+    text = workbook([["id", "to"], [], [1, "A", "B"]], "A1:A2", "B1:C2")
+    assert read(tmp_path / "list.xlsx", text) == [Row(1, ["id", "to", "to"]), Row(3, ["1", "A", "B"])]
 
 
 @pytest.mark.parametrize("name, text, line", [

@@ -1,15 +1,20 @@
 """Reads spreadsheets, .csv and .xlsx, as rows of texts that know their line."""
 import csv
 import io
+from collections.abc import Iterable
 from dataclasses import dataclass
 from pathlib import Path
+from typing import Any
+from xml.etree import ElementTree
 
 import openpyxl
+from openpyxl.utils import range_boundaries
 
 from afdx import files
 from afdx.failure import INPUT, Failure
 
 SEPARATORS = (",", "\t", ";")
+PARTS = "{http://schemas.openxmlformats.org/spreadsheetml/2006/main}"  # before the tag of each part of a workbook
 
 
 @dataclass(frozen=True)
@@ -36,6 +41,35 @@ def text_of(value: object) -> str:
     return str(value).strip()
 
 
+def merged_ranges(sheet: Any) -> list[str]:
+    """Answers the ranges of merged cells, A2:B5 for instance, which openpyxl does not have of a sheet that it reads row
+    by row."""
+    ranges = []
+    with sheet._get_source() as source:
+        for _, element in ElementTree.iterparse(source):
+            if element.tag == f"{PARTS}mergeCell":
+                ranges.append(element.attrib["ref"])
+            elif element.tag == f"{PARTS}row":
+                element.clear()
+    return ranges
+
+
+def spread(rows: list[Row], ranges: Iterable[str]) -> None:
+    """Gives all cells of merged ranges the texts of their first ones, in rows that are not empty without that. Below
+    the heading no row becomes wider than the heading is."""
+    filled = {row.line: row.cells for row in rows if any(row.cells)}
+    heading = min(filled, default=0)
+    width = len(filled.get(heading, []))
+    for left, top, right, bottom in map(range_boundaries, ranges):
+        first = filled.get(top, [])[left - 1:left] or [""]
+        for line in range(top, min(bottom, len(rows)) + 1):
+            cells = filled.get(line, [])
+            last = right if line == heading else min(right, width)
+            if cells and left <= last:
+                cells += [""] * (last - len(cells))
+                cells[left - 1:last] = first * (last - left + 1)
+
+
 def workbook_rows(text: bytes) -> list[Row]:
     """Answers the rows of a workbook's first sheet, of formulas the values that were saved with them. How large the
     sheet says that it is does not count: programs other than Excel write less than there is."""
@@ -43,7 +77,9 @@ def workbook_rows(text: bytes) -> list[Row]:
     sheet = book.worksheets[0]
     sheet.reset_dimensions()
     values = sheet.iter_rows(values_only=True)
-    return [Row(line, [text_of(value) for value in row]) for line, row in enumerate(values, 1)]
+    rows = [Row(line, [text_of(value) for value in row]) for line, row in enumerate(values, 1)]
+    spread(rows, merged_ranges(sheet))
+    return rows
 
 
 def separator_of(text: str) -> str:
