@@ -1,6 +1,7 @@
 """Every kind of bad row: all are said at once, each with its line, column and value."""
 from pathlib import Path
 
+import openpyxl
 import pytest
 
 from afdx.failure import INPUT, Failure
@@ -182,3 +183,16 @@ def test_missing_columns_of_all_lists_at_once(tmp_path: Path) -> None:
               ("no such column", 1, "mbit"), ("no such column", 2, "port_a"), ("no such column", 2, "port_b")]
     assert refusal(paths).lines == tuple(
         f"afdx-icd: {what}, {paths[order]} line 1, column {column}" for what, order, column in places)
+
+
+def test_formulas_whose_values_were_not_saved(tmp_path: Path) -> None:
+    paths = worked_lists.write(tmp_path)
+    book = openpyxl.Workbook()
+    book.active.append([*list(GOOD)[:-1], "=K2"])
+    book.active.append([*list((GOOD | {"police": "=H2"}).values())[:-1], "A"])
+    paths[0] = tmp_path / "icd.xlsx"
+    book.save(paths[0])
+    assert refusal(paths).lines == (line("a formula whose value was not saved with it", paths[0], 1, "11", "=K2"),)
+    book.active["K1"] = "via"
+    book.save(paths[0])
+    assert refusal(paths).lines == (line("a formula whose value was not saved with it", paths[0], 2, "police", "=H2"),)

@@ -11,7 +11,7 @@ from hypothesis import given, strategies
 
 from afdx.failure import INPUT, Failure
 from afdx.icd import spreadsheet
-from afdx.icd.spreadsheet import Row
+from afdx.icd.spreadsheet import Formula, Row
 
 PRINTABLE = strategies.characters(blacklist_categories=("Cs", "Cc"))
 CELLS = strategies.text(PRINTABLE | strategies.sampled_from(',;"\n'))
@@ -31,6 +31,19 @@ def workbook(rows: list[list[object]], *merged: str) -> bytes:
     for cells in merged:
         book.active.merge_cells(cells)
     book.save(text)
+    return text.getvalue()
+
+
+def changed(book: bytes, part: str, texts: dict[bytes, bytes]) -> bytes:
+    """Answers a workbook in one part of which each of these texts, which has to be there, is another."""
+    source, text = zipfile.ZipFile(io.BytesIO(book)), io.BytesIO()
+    with zipfile.ZipFile(text, "w") as made:
+        for name in source.namelist():
+            kept = source.read(name)
+            for old, new in texts.items() if name == part else ():
+                assert old in kept
+                kept = kept.replace(old, new)
+            made.writestr(name, kept)
     return text.getvalue()
 
 
@@ -70,6 +83,18 @@ def test_merged_cells_have_the_value_of_the_first(tmp_path: Path) -> None:
     assert read(tmp_path / "list.xlsx", text) == [
         Row(1, ["id", "police", "remark"]), Row(2, ["1", "frame", "x"]), Row(3, ["2", "frame", "x"]),
         Row(5, ["3", "frame"]), Row(6, ["4", "byte"]), Row(7, ["5", "", ""])]
+
+
+def test_formulas_without_a_saved_value(tmp_path: Path) -> None:
+    """The second has an empty text as its value, the third a number; the last two do not say where they are."""
+    text = workbook([["id", "to", "=A1"], [1, "=A1", "=2+3"], [], ["=A2", "=B2"]], "C2:C4")
+    sheet = "xl/worksheets/sheet1.xml"
+    saved = {b'<c r="B2">': b'<c r="B2" t="str">', b"<f>2+3</f>": b"<f>2+3</f><v>5</v>", b'<c r="A4">': b"<c>",
+             b'<c r="B4">': b"<c>"}
+    rows = read(tmp_path / "list.xlsx", changed(text, sheet, saved))
+    assert rows == [Row(1, ["id", "to", "=A1"]), Row(2, ["1", "", "5"]), Row(4, ["=A2", "=B2", "5"])]
+    assert [[isinstance(cell, Formula) for cell in row.cells] for row in rows] == [
+        [False, False, True], [False, False, False], [True, True, False]]
 
 
 def test_a_heading_of_merged_cells_is_above_each_of_their_columns(tmp_path: Path) -> None:

@@ -1,5 +1,5 @@
 """Finds the columns of a list and reads its cells."""
-from collections.abc import Iterator
+from collections.abc import Iterable, Iterator
 from pathlib import Path
 from typing import Any, TypeVar, cast
 
@@ -8,9 +8,10 @@ from afdx.icd.cells import Column, Unfit, one_line
 from afdx.icd.columns import Columns
 from afdx.icd.complaints import Complaints, Place
 from afdx.icd.mapping import ListMapping
-from afdx.icd.spreadsheet import Row
+from afdx.icd.spreadsheet import Formula, Row
 
 T = TypeVar("T")
+UNSAVED = "a formula whose value was not saved with it"
 
 
 class List:
@@ -24,6 +25,8 @@ class List:
         self.places: dict[str, int] = {}
         for column in known:
             self.find(column)
+        self.complain_beside(sheet.heading, UNSAVED, [
+            at for at, heading in enumerate(sheet.heading.cells) if isinstance(heading, Formula)])
 
     def heading(self, column: Column[Any]) -> str:
         """Answers what a column is called: in the list, or what is looked for if the list lacks it."""
@@ -52,10 +55,14 @@ class List:
         """Answers the rows. A cell that no heading is above, as an unquoted separator makes them, is a complaint."""
         for row in self.sheet.rows:
             beyond = [at for at in range(self.width, len(row.cells)) if row.cells[at]]
-            if beyond:
-                place = Place(self.order, row.line, beyond[0], str(self.path), str(beyond[0] + 1), row.cells[beyond[0]])
-                self.complaints.note(place, "more cells than the heading has")
+            self.complain_beside(row, "more cells than the heading has", beyond[:1])
             yield row
+
+    def complain_beside(self, row: Row, what: str, at: Iterable[int]) -> None:
+        """Complains of cells by the numbers of their columns."""
+        for place in at:
+            cell = Place(self.order, row.line, place, str(self.path), str(place + 1), row.cells[place])
+            self.complaints.note(cell, what)
 
     def text(self, row: Row, column: Column[Any]) -> str:
         """Answers a cell's text; if the cell is empty or not there, what the mapping has for it."""
@@ -74,6 +81,8 @@ class List:
         try:
             if text is None:
                 raise Unfit("empty")
+            if isinstance(text, Formula):
+                raise Unfit(UNSAVED)
             return column.reader(text)
         except Unfit as unfit:
             self.complain(row, column, str(unfit))

@@ -8,13 +8,17 @@ from typing import Any
 from xml.etree import ElementTree
 
 import openpyxl
-from openpyxl.utils import range_boundaries
+from openpyxl.utils import coordinate_to_tuple, range_boundaries
 
 from afdx import files
 from afdx.failure import INPUT, Failure
 
 SEPARATORS = (",", "\t", ";")
 PARTS = "{http://schemas.openxmlformats.org/spreadsheetml/2006/main}"  # before the tag of each part of a workbook
+
+
+class Formula(str):
+    """A formula in place of the value that was not saved with it."""
 
 
 @dataclass(frozen=True)
@@ -41,15 +45,28 @@ def text_of(value: object) -> str:
     return str(value).strip()
 
 
-def merged_ranges(sheet: Any) -> list[str]:
-    """Answers the ranges of merged cells, A2:B5 for instance, which openpyxl does not have of a sheet that it reads row
-    by row."""
-    ranges = []
+def formula_of(cell: ElementTree.Element) -> Formula | None:
+    """Answers the formula of a cell if no value was saved with it; a text without characters is a value."""
+    formula, value = cell.findtext(f"{PARTS}f"), cell.find(f"{PARTS}v")
+    is_saved = value is not None and (value.text or cell.get("t") == "str")
+    return None if formula is None or is_saved else Formula(f"={formula}")
+
+
+def put_formulas(rows: list[Row], sheet: Any) -> list[str]:
+    """Puts formulas without values where they stand. Answers the ranges of merged cells, A2:B5 for instance. Neither
+    is what openpyxl has of a sheet that it reads row by row."""
+    ranges, line = [], 0
     with sheet._get_source() as source:
         for _, element in ElementTree.iterparse(source):
             if element.tag == f"{PARTS}mergeCell":
                 ranges.append(element.attrib["ref"])
             elif element.tag == f"{PARTS}row":
+                line, column = int(element.get("r", line + 1)), 0
+                for cell in element:
+                    column = coordinate_to_tuple(cell.attrib["r"])[1] if "r" in cell.attrib else column + 1
+                    formula = formula_of(cell)
+                    if formula is not None:
+                        rows[line - 1].cells[column - 1] = formula
                 element.clear()
     return ranges
 
@@ -78,7 +95,7 @@ def workbook_rows(text: bytes) -> list[Row]:
     sheet.reset_dimensions()
     values = sheet.iter_rows(values_only=True)
     rows = [Row(line, [text_of(value) for value in row]) for line, row in enumerate(values, 1)]
-    spread(rows, merged_ranges(sheet))
+    spread(rows, put_formulas(rows, sheet))
     return rows
 
 
