@@ -76,6 +76,20 @@ def test_a_workbook_is_read_whole_whatever_size_it_says(tmp_path: Path, said: by
         Row(1, ["id", "to", "police"]), Row(2, ["1", "A", "byte"]), Row(3, ["2", "B", "frame"])]
 
 
+@pytest.mark.parametrize("state", ["hidden", "veryHidden"])
+def test_the_first_visible_sheet_is_read_with_its_hidden_rows_and_columns(tmp_path: Path, state: str) -> None:
+    book, text = openpyxl.Workbook(), io.BytesIO()
+    for title, name in (("Sheet", "old"), ("new", "A"), ("later", "B")):
+        sheet = book[title] if title in book else book.create_sheet(title)
+        for row in (["id", "to"], [1, name], [2, name]):
+            sheet.append(row)
+    book["Sheet"].sheet_state, book.active = state, 1
+    book["new"].row_dimensions[2].hidden = book["new"].column_dimensions["B"].hidden = True
+    book.save(text)
+    assert read(tmp_path / "list.xlsx", text.getvalue()) == [
+        Row(1, ["id", "to"]), Row(2, ["1", "A"]), Row(3, ["2", "A"])]
+
+
 def test_merged_cells_have_the_value_of_the_first(tmp_path: Path) -> None:
     rows: list[list[object]] = [
         ["id", "police", "remark"], [1, "frame", "x"], [2], [], [3], [4, "byte"], [5, None, "y"]]

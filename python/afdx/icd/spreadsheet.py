@@ -88,10 +88,10 @@ def spread(rows: list[Row], ranges: Iterable[str]) -> None:
 
 
 def workbook_rows(text: bytes) -> list[Row]:
-    """Answers the rows of a workbook's first sheet, of formulas the values that were saved with them. How large the
-    sheet says that it is does not count: programs other than Excel write less than there is."""
+    """Answers the rows of a workbook's first visible sheet, of formulas the values that were saved with them. How
+    large the sheet says that it is does not count: programs other than Excel write less than there is."""
     book = openpyxl.load_workbook(io.BytesIO(text), read_only=True, data_only=True)
-    sheet = book.worksheets[0]
+    sheet = next(sheet for sheet in book.worksheets if sheet.sheet_state == "visible")
     sheet.reset_dimensions()
     values = sheet.iter_rows(values_only=True)
     rows = [Row(line, [text_of(value) for value in row]) for line, row in enumerate(values, 1)]
