@@ -185,6 +185,14 @@ def test_missing_columns_of_all_lists_at_once(tmp_path: Path) -> None:
         f"afdx-icd: {what}, {paths[order]} line 1, column {column}" for what, order, column in places)
 
 
+def test_a_unit_in_the_heading_of_a_column_that_may_be_missing(tmp_path: Path) -> None:
+    """Without the column all links would be policed by bytes."""
+    heading = "Police\n[byte/frame]"
+    paths = worked_lists.write(tmp_path, worked_lists.LINKS.replace("police", f'"{heading}"'))
+    what = "a heading has brackets behind this name: the mapping has to name it"
+    assert refusal(paths).lines == (f"afdx-icd: {what}, {paths[0]} line 1, column police",)
+
+
 def test_formulas_whose_values_were_not_saved(tmp_path: Path) -> None:
     paths = worked_lists.write(tmp_path)
     book = openpyxl.Workbook()

@@ -1,4 +1,5 @@
 """Finds the columns of a list and reads its cells."""
+import re
 from collections.abc import Iterable, Iterator
 from pathlib import Path
 from typing import Any, TypeVar, cast
@@ -35,7 +36,10 @@ class List:
         return self.mapping.headings.get(column.key, column.key)
 
     def find(self, column: Column[Any]) -> None:
-        """Finds a column. It has to be there if the mapping names it, and if nothing stands for its empty cells."""
+        """Finds a column. It has to be there if the mapping names it, and if nothing stands for its empty cells.
+
+        One that may be missing is not missed in silence if a heading has its name with a unit, `police [byte/frame]`.
+        """
         name = one_line(self.heading(column)).casefold()
         headings = [one_line(heading).casefold() for heading in self.sheet.heading.cells]
         at = [place for place, heading in enumerate(headings) if heading == name]
@@ -46,6 +50,8 @@ class List:
             self.complain_of_heading(column, "two columns of this name")
         elif not at and (column.key in self.mapping.headings or not stands_in):
             self.complain_of_heading(column, "no such column")
+        elif not at and any(re.match(rf"{re.escape(name)} ?[(\[]", heading) for heading in headings):
+            self.complain_of_heading(column, "a heading has brackets behind this name: the mapping has to name it")
 
     def complain_of_heading(self, column: Column[Any], what: str) -> None:
         place = Place(self.order, self.sheet.heading.line, 0, str(self.path), self.heading(column), None)
