@@ -1,7 +1,9 @@
 use Rattle.std.proofs.Common.{length, ap, sym, ◌∙◌, subst}
+use Rattle.afdx_session.specs.declared.machine.Machine.{Machine}
 use Rattle.afdx_session.specs.Session.{Seen, fed_bytes}
 use Rattle.afdx_session.specs.Reading.{IsFaultAt}
 use Rattle.afdx_session.specs.Inner.Stop.{IsStoppedBy}
+use Rattle.afdx_session.proofs.Boxed.{lent_out, lanes_boxed, lanes_lent}
 use Rattle.afdx_session.proofs.FirstHeads.{lanes_long}
 use Rattle.afdx_session.proofs.LeftLanes.{has_not_failed, is_open_there}
 use Rattle.afdx_session.proofs.Sessions.{open_at}
@@ -11,37 +13,66 @@ use Rattle.afdx_session.proofs.session.Session.close_into.Goals as goal
 pub unreachable-requires : goal.unreachable-requires
 unreachable-requires g c =
     let s = c.self.inside in
-    is_open_there s.machine s.begun s.failed c.args.self c.deref.result.now c.args.port c.in_default.field-0 c.self.view_is c.deref.ensures.value c.requires.may c.in_default.ensures.err
+    let lanes = lanes_boxed s.machine.value c.deref.result.now c.deref-2.result.now c.deref.ensures c.deref-2.ensures.value in
+    is_open_there s.machine.value s.begun s.failed c.args.self c.deref-2.result.now c.args.port c.in_default.field-0 c.self.view_is lanes c.requires.may c.in_default.ensures.err
+
+pub close_into-requires-clause-of : goal.close_into-requires-clause-of
+close_into-requires-clause-of g c =
+    let s = c.self.inside in
+    let m = c.deref_mut.result.now in
+    let lent = lent_out s.machine.value m s.begun s.failed c.args.self c.deref_mut.ensures.value c.self.view_is c.self.invariant in
+    lent.kept.of
+
+pub close_into-requires-clause-handed : goal.close_into-requires-clause-handed
+close_into-requires-clause-handed g c =
+    let s = c.self.inside in
+    let m = c.deref_mut.result.now in
+    let lent = lent_out s.machine.value m s.begun s.failed c.args.self c.deref_mut.ensures.value c.self.view_is c.self.invariant in
+    lent.kept.handed
 
 pub close_into-requires-clause-ready : goal.close_into-requires-clause-ready
 close_into-requires-clause-ready g c =
-    let not_failed = ap (λ (v : Seen). v.failed) c.self.view_is ∙ has_not_failed c.args.self c.args.port c.requires.may in
-    (c.self.inside.begun, c.self.invariant.ready not_failed)
+    let s = c.self.inside in
+    let m = c.deref_mut.result.now in
+    let lent = lent_out s.machine.value m s.begun s.failed c.args.self c.deref_mut.ensures.value c.self.view_is c.self.invariant in
+    let not_failed = ap (λ (w : Seen). w.failed) c.self.view_is ∙ has_not_failed c.args.self c.args.port c.requires.may in
+    (s.begun, lent.kept.ready not_failed)
 
 pub close_into-requires-clause-still_open : goal.close_into-requires-clause-still_open
 close_into-requires-clause-still_open g c =
-    (c.args.port, open_at c.deref.result.now c.self.inside.machine.lanes.items c.args.port c.in-Ok.place c.deref.ensures.value c.in-Ok.ensures.ok)
+    let s = c.self.inside in
+    let m = c.deref_mut.result.now in
+    let lanes = lanes_lent s.machine.value c.deref.result.now m c.deref-2.result.now c.deref.ensures c.deref_mut.ensures.value c.deref-2.ensures.value in
+    let is_open = open_at c.deref-2.result.now m.lanes.items c.args.port c.in-Ok.place lanes c.in-Ok.ensures.ok in
+    (c.args.port, is_open)
 
 pub close_into-requires-clause-files : goal.close_into-requires-clause-files
 close_into-requires-clause-files g c =
-    let m = c.self.inside.machine in
-    c.requires.files ∙ ap (λ (v : Seen). length v.table.ports) (sym c.self.view_is) ∙ sym (lanes_long m.switch.run.table m.lanes.items c.self.invariant.of)
+    let s = c.self.inside in
+    let m = c.deref_mut.result.now in
+    let lent = lent_out s.machine.value m s.begun s.failed c.args.self c.deref_mut.ensures.value c.self.view_is c.self.invariant in
+    c.requires.files ∙ ap (λ (v : Seen). length v.table.ports) (sym lent.view) ∙ sym (lanes_long m.switch.run.table m.lanes.items lent.kept.of)
 
 pub invariant_of-result : goal.invariant_of-result
 invariant_of-result g c =
     let s = c.self.inside in
+    let m = c.deref_mut.result.now in
+    let lent = lent_out s.machine.value m s.begun s.failed c.args.self c.deref_mut.ensures.value c.self.view_is c.self.invariant in
     kept_into c.by_stamp_is_ordered.ensures c.arrivals_change_nothing_earlier.ensures.admission c.stamps_keep_their_order.ensures.instants c.all_start_before_the_last_instant.ensures
-    g.F.NewFile.contents s.machine c.close_into.new.self s.begun s.failed c.args.files.now c.close_into.new.files _ c.in-Ok-close_into.ensures.ok.on c.self.invariant
+    g.F.NewFile.contents m c.close_into.new.self s.begun s.failed c.args.files.now c.close_into.new.files _ c.in-Ok-close_into.ensures.ok.on lent.kept
 
 pub returns-in-Ok-close_into-clause-ok : goal.returns-in-Ok-close_into-clause-ok
 returns-in-Ok-close_into-clause-ok g c =
     let s = c.self.inside in
     let laws = c.takes_join_to_the_output.ensures in
-    let not_failed = ap (λ (v : Seen). v.failed) c.self.view_is ∙ has_not_failed c.args.self c.args.port c.requires.may in
-    let is_open = open_at c.deref.result.now s.machine.lanes.items c.args.port c.in-Ok.place c.deref.ensures.value c.in-Ok.ensures.ok in
+    let not_failed = ap (λ (w : Seen). w.failed) c.self.view_is ∙ has_not_failed c.args.self c.args.port c.requires.may in
+    let m = c.deref_mut.result.now in
+    let lent = lent_out s.machine.value m s.begun s.failed c.args.self c.deref_mut.ensures.value c.self.view_is c.self.invariant in
+    let lanes = lanes_lent s.machine.value c.deref.result.now m c.deref-2.result.now c.deref.ensures c.deref_mut.ensures.value c.deref-2.ensures.value in
+    let is_open = open_at c.deref-2.result.now m.lanes.items c.args.port c.in-Ok.place lanes c.in-Ok.ensures.ok in
     ended_parts c.by_stamp_is_ordered.ensures c.arrivals_change_nothing_earlier.ensures.admission c.stamps_keep_their_order.ensures.instants c.all_start_before_the_last_instant.ensures
-    laws.stays laws.joins g.F.NewFile.contents s.machine c.close_into.new.self s.begun s.failed c.args.self c.args.port c.in-Ok.place c.args.files.now c.close_into.new.files c.self.view_is not_failed
-    c.self.invariant.of is_open c.in-Ok-close_into.ensures.ok
+    laws.stays laws.joins g.F.NewFile.contents m c.close_into.new.self s.begun s.failed c.args.self c.args.port c.in-Ok.place c.args.files.now
+    c.close_into.new.files lent.view not_failed lent.kept.of is_open c.in-Ok-close_into.ensures.ok
 
 pub returns-in-Err-clause-err : goal.returns-in-Err-clause-err
 returns-in-Err-clause-err g c =
@@ -49,8 +80,12 @@ returns-in-Err-clause-err g c =
     let v = c.args.self in
     let port = c.args.port in
     let fault = c.in-Err.fault in
-    let not_failed = ap (λ (w : Seen). w.failed) c.self.view_is ∙ has_not_failed v port c.requires.may in
-    let is_open = open_at c.deref.result.now s.machine.lanes.items port c.in-Ok.place c.deref.ensures.value c.in-Ok.ensures.ok in
-    subst (λ ls. IsStoppedBy v port fault ls.items (IsFaultAt (fed_bytes v port) port fault)) (sym c.into_lanes.ensures)
-    (ended_stops s.machine c.close_into.new.self.lanes.items s.begun s.failed v port c.in-Ok.place fault c.self.view_is not_failed c.self.invariant.of (c.self.invariant.ready not_failed) is_open
+    let not_failed = ap (λ (w : Seen). w.failed) c.self.view_is ∙ has_not_failed c.args.self c.args.port c.requires.may in
+    let m = c.deref_mut.result.now in
+    let lent = lent_out s.machine.value m s.begun s.failed c.args.self c.deref_mut.ensures.value c.self.view_is c.self.invariant in
+    let lanes = lanes_lent s.machine.value c.deref.result.now m c.deref-2.result.now c.deref.ensures c.deref_mut.ensures.value c.deref-2.ensures.value in
+    let is_open = open_at c.deref-2.result.now m.lanes.items c.args.port c.in-Ok.place lanes c.in-Ok.ensures.ok in
+    let left = c.into_lanes.ensures ∙ ap (λ (n : Machine _). n.lanes) c.into_inner.ensures in
+    subst (λ ls. IsStoppedBy v port fault ls.items (IsFaultAt (fed_bytes v port) port fault)) (sym left)
+    (ended_stops m c.close_into.new.self.lanes.items s.begun s.failed v port c.in-Ok.place fault lent.view not_failed lent.kept.of (lent.kept.ready not_failed) is_open
     c.in-Err.ensures.err)
