@@ -1,18 +1,21 @@
 -- Whose capture holds back the output, and whether all others have ended.
-use Rattle.std.proofs.Common.{◌≡◌, ℕ, suc, ◌==◌, nat_le, Bool, true, false, cond, ◌||◌, IsTrue, ◌↔◌, ◌⊎◌, List, [], ◌∷◌, slice_get, Option, Some, None, refl, ap, sym, ◌∙◌, inl, inr, subst, option_map}
+use Rattle.std.proofs.Common.{◌≡◌, ℕ, zero, suc, ◌<◌, ◌≤◌, ◌==◌, nat_le, Bool, true, false, cond, ◌||◌, IsTrue, ◌↔◌, ◌⊎◌, List, [], ◌∷◌, slice_get, Option, Some, None, refl, ap, sym, ◌∙◌, inl, inr, subst, option_map, arith}
 use Rattle.std.specs.List.{AllByRecursion, list_all}
-use Rattle.std.proofs.lemmas.Bool.{eqb-true, eq-eqb, and_parts, and_from, or_cases}
-use Rattle.std.proofs.lemmas.Option.{same_Some, slice_get_within, get_or_from_slice_get}
+use Rattle.std.proofs.lemmas.Bool.{cases_Bool, leb-false, eqb-true, eq-eqb, and_parts, and_from, or_cases}
+use Rattle.std.proofs.lemmas.Option.{same_Some, slice_get-get_or, slice_get_within, get_or_from_slice_get}
 use Rattle.afdx_session.specs.declared.lane.Lane.{Lane}
 use Rattle.afdx_session.specs.declared.machine.Machine.{Machine}
-use Rattle.afdx_session.specs.Streams.{Stream}
+use Rattle.afdx_session.specs.Streams.{Stream, captures_of, last_of}
 use Rattle.afdx_session.specs.Session.{Intake, Seen, intake_at, refusal_at, refusal, IsHeldBackBy}
-use Rattle.afdx_session.specs.Inner.Settled.{first_place}
+use Rattle.afdx_session.specs.Inner.Settled.{Ascend, ports_of, first_place, limit}
 use Rattle.afdx_session.specs.Inner.Lanes.{intake_of, limit_at, HasReadAll}
 use Rattle.afdx_session.specs.Inner.Kept.{IsLaneOf, AreLanesOf, IsGoing, IsMarked}
 use Rattle.afdx_session.specs.Inner.View.{intakes_of, seen_of, IsReady, IsKeptMachine}
 use Rattle.afdx_session.proofs.Numbered.{all_slice_get}
+use Rattle.afdx_session.proofs.Firsts.{limit_is}
+use Rattle.afdx_session.proofs.Giving.{limit-closed, limit-open}
 use Rattle.afdx_session.proofs.Given.{frontier_is}
+use Rattle.afdx_session.proofs.Going.{lanes_ascend}
 use Rattle.afdx_session.proofs.Shown.{lanes_are_streams}
 use Rattle.afdx_session.proofs.Finishing.{find_intake}
 
@@ -80,6 +83,49 @@ holds {Z = Z} (l ∷ lanes) (s ∷ streams) q are is = by_end l.ended refl (λ t
   by_end false still_open rest =
       by_limit (limit_at lanes) still_open refl (same_Some (first_place (l.last, l.port) (limit_at lanes)) q (sym (limit_by l lanes false still_open) ∙ is)) rest
 
+-- ---- it is the lowest of those that have come no further
+
+port_above : (n : ℕ) (streams : List Stream) → AllByRecursion (λ m. n < m) (ports_of (captures_of streams)) → (k : ℕ) (s : Stream) → slice_get streams k ≡ Some s → n < s.port
+port_above n [] above k s at = absurd cc
+port_above n (r ∷ streams) above zero s at = subst (λ (x : Stream). n < x.port) (same_Some r s at) above.0
+port_above n (r ∷ streams) above (suc k) s at = port_above n streams above.1 k s at
+
+never : (b : Bool) → b ≡ true → b ≡ false → ⊥
+never b first second = absurd cc
+
+lowest : (streams : List Stream) (q : ℕ × ℕ) → Ascend (ports_of (captures_of streams)) → limit streams ≡ Some q → (k : ℕ) (s : Stream) → slice_get streams k ≡ Some s → s.closed ≡ false
+    → last_of s ≡ q.0 → q.1 ≤ s.port
+lowest [] q ascend is k s at still_open last = absurd cc
+lowest (r ∷ streams) q ascend is k s at still_open last =
+    by_end (cases_Bool r.closed) (λ there n here. lowest streams q ascend.1 there n s here still_open last) where
+      -- the same of those after the first one
+      Again : Type 0
+      Again = limit streams ≡ Some q → (n : ℕ) → slice_get streams n ≡ Some s → q.1 ≤ s.port
+
+      own : (n : ℕ) → slice_get (r ∷ streams) n ≡ Some s → r.port ≤ s.port
+      own zero here = subst (λ (x : Stream). r.port ≤ x.port) (same_Some r s here) (omega arith)
+      own (suc n) here = let above = port_above r.port streams ascend.0 n s here in omega (arith, above)
+
+      rest : (n : ℕ) → slice_get (r ∷ streams) n ≡ Some s → limit streams ≡ Some q → (r ≡ s → ⊥) → Again → q.1 ≤ s.port
+      rest zero here there other again = absurd (other (same_Some r s here))
+      rest (suc n) here there other again = again there n here
+
+      by_first : (p : ℕ × ℕ) (b : Bool) → limit streams ≡ Some p → nat_le (last_of r) p.0 ≡ b → cond b (last_of r, r.port) p ≡ q → Again → q.1 ≤ s.port
+      by_first p true there le same again = subst (λ (x : ℕ × ℕ). x.1 ≤ s.port) same (own k at)
+      by_first p false there gt same again =
+          let later = leb-false (last_of r) p.0 gt in
+          let stamp = ap (λ (x : ℕ × ℕ). x.0) same in
+          rest k at (there ∙ ap Some same) (λ is_s. let both = ap (λ (x : Stream). last_of x) is_s in omega (arith, later, stamp, last, both)) again
+
+      by_limit : (o : Option (ℕ × ℕ)) → limit streams ≡ o → first_place (last_of r, r.port) o ≡ q → Again → q.1 ≤ s.port
+      by_limit None there same again = subst (λ (x : ℕ × ℕ). x.1 ≤ s.port) same (own k at)
+      by_limit (Some p) there same again = by_first p (nat_le (last_of r) p.0) there refl same again
+
+      by_end : (r.closed ≡ true) ⊎ (r.closed ≡ false) → Again → q.1 ≤ s.port
+      by_end (inl closed) again = rest k at (sym (limit-closed r streams closed) ∙ is) (λ is_s. never s.closed (ap (λ (x : Stream). x.closed) (sym is_s) ∙ closed) still_open) again
+      by_end (inr r_open) again =
+          by_limit (limit streams) refl (same_Some (first_place (last_of r, r.port) (limit streams)) q (sym (limit-open r streams r_open) ∙ is)) again
+
 -- its port may go on, and holds back the output
 waits : {Z : Type 0} (m : Machine Z) (begun : Bool) (stamp port : ℕ) → IsKeptMachine m begun false → limit_at m.lanes.items ≡ Some (stamp, port)
     → (refusal (seen_of m begun false) port ≡ None) × IsHeldBackBy (seen_of m begun false) port
@@ -97,6 +143,9 @@ waits {Z} m begun stamp port kept is = (
     port_is = held.is_of.port ∙ held.port_is;
     still_open = held.is_of.ended ∙ held.still_open;
     at = sym (frontier_is m.lanes.items going.streams going.lanes_are) ∙ ap (option_map (λ (p : ℕ × ℕ). p.0)) is ∙ ap Some (sym held.last ∙ held.is_of.read.last);
+    lowest = λ other among closed last. lowest going.streams (stamp, port) (lanes_ascend m.switch.run.table m.lanes.items going.streams kept.of going.lanes_are)
+        (sym (limit_is m.lanes.items going.streams going.lanes_are) ∙ is) among.0 other (slice_get-get_or going.streams among.0 other among.1 ∙ ap Some among.2) closed
+        (last ∙ sym held.is_of.read.last ∙ held.last);
   },
 ) where
   ready : IsReady m begun

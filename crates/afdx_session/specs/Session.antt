@@ -1,5 +1,5 @@
 -- A session as contracts see it: what it was fed, and what its calls do to that (profile).
-use Rattle.std.specs.Prelude.{ℕ, ◌≡◌, ◌⊎◌, ◌==◌, Bool, true, false, if◌then◌else◌, List, [], ◌∷◌, ◌++◌, map, find, Option, Some, None, Contains}
+use Rattle.std.specs.Prelude.{ℕ, ◌≡◌, ◌≤◌, ◌⊎◌, ◌==◌, Bool, true, false, if◌then◌else◌, List, [], ◌∷◌, ◌++◌, map, find, Option, Some, None, Contains}
 use Rattle.afdx_table.specs.declared.rows.PortRow.{PortRow}
 use Rattle.afdx_table.specs.Content.{Content}
 use Rattle.afdx_pcap.specs.declared.fault.PcapFault.{PcapFault}
@@ -54,7 +54,8 @@ pub record HasGoneOut (v : Seen) (p : PortRow) (text : List ℕ) : Type 0 where
   pub are : AreStreams v.intakes streams
   pub text_is : text ≡ (if v.begun then text_so_far v.table streams p else [])
 
--- the capture of a port has not ended, and its last record is at the frontier: nothing more goes out before it goes on
+-- the capture of a port has not ended, its last record is at the frontier, and of the ports of which both hold its number is the lowest:
+-- nothing more goes out before it goes on
 pub record IsHeldBackBy (v : Seen) (port : ℕ) : Type 0 where
   pub streams : List Stream
   pub are : AreStreams v.intakes streams
@@ -63,6 +64,7 @@ pub record IsHeldBackBy (v : Seen) (port : ℕ) : Type 0 where
   pub port_is : stream.port ≡ port
   pub still_open : stream.closed ≡ false
   pub at : frontier streams ≡ Some (last_of stream)
+  pub lowest : (other : Stream) → Contains streams other → other.closed ≡ false → last_of other ≡ last_of stream → port ≤ other.port
 
 -- ---- what calls do
 
