@@ -11,3 +11,9 @@ pub element_at : {X : Type 0} (xs : List X) (k : ℕ) → k < length xs → (x :
 element_at [] k lt = absurd (omega (arith, lt))
 element_at (x ∷ xs) zero lt = (x, refl)
 element_at (x ∷ xs) (suc k) lt = element_at xs k (omega (arith, lt))
+
+-- and nothing is lacking there
+pub none_within : {X : Type 0} (xs : List X) (k : ℕ) → slice_get xs k ≡ None → k < length xs → ⊥
+none_within xs k none lt = let x = element_at xs k lt in none_some none x.1 where
+  none_some : {X : Type 0} {o : Option X} {x : X} → o ≡ None → o ≡ Some x → ⊥
+  none_some none some = cc

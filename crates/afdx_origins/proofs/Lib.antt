@@ -7,3 +7,4 @@ pub mod Bounded
 pub mod Noting
 pub mod Found
 pub mod Starting
+pub mod Lacking

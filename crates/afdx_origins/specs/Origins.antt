@@ -1,6 +1,6 @@
 -- Where the frames of a network came from, and the delays of links from end to end (profile): from the stamp at the first switch to the end
 -- on the last line.
-use Rattle.std.specs.Prelude.{◌≡◌, ℕ, ◌+◌, ◌-◌, ◌==◌, List, [], ◌∷◌, ◌++◌, map, filter, Some, Contains}
+use Rattle.std.specs.Prelude.{◌≡◌, ℕ, ◌+◌, ◌-◌, ◌==◌, List, [], ◌∷◌, ◌++◌, map, filter, Some, None, option_and_then, Contains}
 use Rattle.std.specs.List.{AllZip}
 use Rattle.afdx_port.specs.declared.Sent.{Sent}
 use Rattle.afdx_measure.specs.declared.delays.Delays.{Delays}
@@ -9,7 +9,7 @@ use Rattle.afdx_wiring.specs.declared.layout.End.{End}
 use Rattle.afdx_wiring.specs.declared.layout.Wire.{Wire}
 use Rattle.afdx_wiring.specs.File.{is_end}
 use Rattle.afdx_network_check.specs.Net.{Network, Row, ingress, wire_to, row_at, IsSource}
-use Rattle.afdx_network_check.specs.Order.{row_before}
+use Rattle.afdx_network_check.specs.Order.{leading, row_before}
 use Rattle.afdx_origins.specs.declared.departure.Departure.{Departure}
 
 -- a network, and the copies that its ports sent so far
@@ -59,6 +59,10 @@ pub record IsDelay (net : Network) (sent : List Departure) (link : ℕ) (e : End
 -- those of the copies of a link that a port sent, in their order
 abbrev pub AreDelays : Network → List Departure → ℕ → End → List ℕ → Type 0
 AreDelays net sent link e delays = AllZip (IsDelay net sent link e) (of_link link (sent_from sent e)) delays
+
+-- the switch has no row of the link that leads to the port
+abbrev pub HasNoRow : Network → ℕ → End → Type 0
+HasNoRow net link e = option_and_then (leading e.port) (row_at net e.switch link) ≡ None
 
 -- what is reported of them
 abbrev pub IsSummary : Network → List Departure → ℕ → End → Delays → Type 0

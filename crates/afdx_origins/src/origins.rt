@@ -1,13 +1,13 @@
 //! The delays of a network's links from end to end.
 
-ghost use Rattle.std.specs.Prelude.{◌≡◌, ◌<◌, ℕ, [], ◌==◌, List, length, slice_get, position, option_map, IfOk, IfSome, IsTrue, OnOk, Some, None, Contains, ◌↔◌};
+ghost use Rattle.std.specs.Prelude.{◌≡◌, ◌<◌, ℕ, [], ◌==◌, List, length, slice_get, position, option_map, option_copied, IfOk, IfSome, MatchOption, IsTrue, OnOk, Some, None, Contains, ◌↔◌};
 ghost use Rattle.afdx_port.specs.declared.Sent.{Sent as Copy};
 ghost use Rattle.afdx_table.specs.Link.{Link};
 ghost use Rattle.afdx_wiring.specs.File.{is_end};
-ghost use Rattle.afdx_network_check.specs.Net.{Row as Line, wire_to};
+ghost use Rattle.afdx_network_check.specs.Net.{Row as Line, row_at, wire_to};
 ghost use Rattle.afdx_network_check.specs.Order.{row_before};
 ghost use Rattle.afdx_origins.specs.declared.departure.Departure.{Departure as Went};
-ghost use Rattle.afdx_origins.specs.Origins.{CameFirst, IsSummary, after_sending, of_link, sent_from};
+ghost use Rattle.afdx_origins.specs.Origins.{CameFirst, HasNoRow, IsSummary, after_sending, of_link, sent_from};
 ghost use Rattle.afdx_origins.specs.Inner.Known.{IsRowAt, AreComing, AreKnown, KeepDelays, HaveDelayMore, Leaves};
 
 use crate::at_link::Coming;
@@ -63,7 +63,7 @@ fn is_end(one: End, other: End) -> bool
 
 /// Returns the row of a link in the table of a switch, and its place there, if there is one. O(1).
 fn row_at(network: &Network, switch: usize, link: u16) -> Option<(usize, &LinkRow)>
-    ensures { IfSome result (λ at. IsRowAt network.now switch link at.0 at.1.now) }
+    ensures { MatchOption result (row_at network.now switch link ≡ None) (λ at. IsRowAt network.now switch link at.0 at.1.now) }
 {
     links_are_found();
     links_are_at_their_places();
@@ -71,6 +71,13 @@ fn row_at(network: &Network, switch: usize, link: u16) -> Option<(usize, &LinkRo
     let place = table.link_place(link)?;
     let row = table.link_at(place)?;
     Some((place, row))
+}
+
+/// Returns what is kept of a switch, if there is one. O(1).
+fn kept_at(switches: &[AtSwitch], switch: usize) -> Option<&AtSwitch>
+    ensures { option_copied result ≡ slice_get switches.now switch }
+{
+    switches.get(switch)
 }
 
 /// Returns when the frame of a copy that a switch sent had come to its first switch: when it came to this one, if no wire goes to the port
@@ -251,11 +258,11 @@ impl<'n> Origins<'n> {
 
     /// Returns the delays of the copies of a link that a port sent; none if the switch has no row of the link that leads there. O(ports).
     pub fn delays_at(&self, link: u16, from: End) -> Option<Delays>
-        ensures { IfSome result (IsSummary self.now.net self.now.sent link from) }
+        ensures { MatchOption result (HasNoRow self.now.net link from) (IsSummary self.now.net self.now.sent link from) }
     {
         let (place, row) = row_at(self.network, from.switch, link)?;
         let port = place_in(row, from.port)?;
-        let switch = self.switches.get(from.switch)?;
+        let switch = kept_at(&self.switches, from.switch)?;
         Some(switch.delays_at(place, port))
     }
 }
