@@ -3,6 +3,7 @@ pub mod Chains
 pub mod Enough
 pub mod FeedLemmas
 pub mod Fits
+pub mod GivenPorts
 pub mod Giving
 pub mod Growing
 pub mod JointLemmas

@@ -1,6 +1,6 @@
 //! The jitters that the rows of a network need.
 
-ghost use Rattle.std.specs.Prelude.{◌≡◌, ◌≤◌, ◌++◌, ◌||◌, map, option_map, is_some, All, IfOk, IfSome};
+ghost use Rattle.std.specs.Prelude.{◌≡◌, ◌≤◌, ◌++◌, ◌||◌, map, option_map, is_some, All, IfOk, IfSome, MatchResult};
 ghost use Rattle.std.specs.List.{list_all};
 ghost use Rattle.afdx_table.specs.WellFormed.{IsWellFormed};
 ghost use Rattle.afdx_network_check.specs.Net.{rows_of};
@@ -139,14 +139,14 @@ impl Network {
     }
 
     /// Returns the network with these jitters, as far as a table can have them.
-    fn with_jitters(self, needs: &[RowNeed]) -> Result<Network, NetworkFault>
-        ensures { IfOk result (λ net. net ≡ record self { tables = given_all needs.now self.tables }) }
+    fn with_jitters(self, needs: &[RowNeed]) -> Network
+        ensures { result ≡ record self { tables = given_all needs.now self.tables } }
     {
         let (layout, mut tables) = self.into_parts();
         for row in needs {
             set_jitter(&mut tables, row);
         }
-        Network::new(layout, tables)
+        Network::from_parts(layout, tables)
     }
 
     /// Finds the least jitters that are enough, with the sources' own. All rows begin with the jitter of their source, and each
@@ -157,7 +157,7 @@ impl Network {
     ///
     /// O(r s w) for each turn, for r rows, at most s switches on a way, and w wires.
     pub fn jitters(self, alloc: Global) -> Result<Needs, NetworkFault>
-        ensures { IfOk result (λ needs. AreNeeds self needs.rows.items needs.past) }
+        ensures { MatchResult result (λ needs. AreNeeds self needs.rows.items needs.past) (λ fault. fault ≡ NetworkFault.Memory) }
     {
         links_are_found();
         links_are_at_their_places();
@@ -165,14 +165,14 @@ impl Network {
         no_more_is_paid_for();
         lesser_curves_need_less();
         let first = self.needs(alloc, true)?;
-        let mut network = self.with_jitters(&first)?;
+        let mut network = self.with_jitters(&first);
         for _ in 0..u64::MAX {
             let rows = network.needs(alloc, false)?;
             let past = first_past(&rows);
             if is_last(past, &rows) {
                 return Ok(Needs { rows, past });
             }
-            network = network.with_jitters(&rows)?;
+            network = network.with_jitters(&rows);
         }
         // A loop has to end, and no search comes to so many turns.
         Err(NetworkFault::Memory)

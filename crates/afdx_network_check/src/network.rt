@@ -161,6 +161,14 @@ impl Network {
         (self.layout, self.tables)
     }
 
+    /// Makes a network of these parts again, of which each end of a wire is a port. O(1).
+    pub(crate) fn from_parts(layout: Layout, tables: Vec<Table>) -> Network
+        requires { lost_port tables.items layout.wires ≡ Ok tt }
+        ensures { result ≡ record { layout = layout; tables = tables.items } }
+    {
+        Network { layout, tables }
+    }
+
     /// Returns the table of the switch at a place, from 0, if there is one. O(1).
     pub fn table(&self, switch: usize) -> Option<&Table>
         ensures { option_copied result ≡ slice_get self.now.tables switch }

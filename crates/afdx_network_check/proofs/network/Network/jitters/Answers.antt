@@ -14,7 +14,7 @@ loop-init c =
       once = c.no_more_is_paid_for.ensures;
       less = c.lesser_curves_need_less.ensures;
     } in
-    begins laws c.args.self c.in_ok-network.network c.deref.result.now c.in_ok-first.ensures.well_formed (c.deref.ensures.value ∙ c.in_ok-first.ensures.rows) c.in_ok-network.ensures
+    begins laws c.args.self c.with_jitters-network.result c.deref.result.now c.in_ok-first.ensures.well_formed (c.deref.ensures.value ∙ c.in_ok-first.ensures.rows) c.with_jitters-network.ensures
 
 pub loop-preserved : goal.loop-preserved
 loop-preserved c =
@@ -25,8 +25,8 @@ loop-preserved c =
       once = c.no_more_is_paid_for.ensures;
       less = c.lesser_curves_need_less.ensures;
     } in
-    goes_on laws c.args.self c.loop.network c.in_ok-network-2.network c.deref-in-loop-3.result.now c.in_ok-first.ensures.well_formed c.in_ok-rows.ensures.well_formed
-    (c.deref-in-loop-3.ensures.value ∙ c.in_ok-rows.ensures.rows) c.in_ok-network-2.ensures c.loop.invariant
+    goes_on laws c.args.self c.loop.network c.with_jitters-network-in-loop.result c.deref-in-loop-3.result.now c.in_ok-first.ensures.well_formed c.in_ok-rows.ensures.well_formed
+    (c.deref-in-loop-3.ensures.value ∙ c.in_ok-rows.ensures.rows) c.with_jitters-network-in-loop.ensures c.loop.invariant
 
 pub returns-then-is_last : goal.returns-then-is_last
 returns-then-is_last c =
