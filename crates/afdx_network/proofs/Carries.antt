@@ -165,7 +165,7 @@ module _ (law : LaterRecordsChangeNothing) (on : OutGoesOn) (order : OutIsInOrde
   -- why it does not come there
   pub way_fails : (why : NetworkRunFault) → (CanCome sites u frame → IsLateFault u frame why) → (given : Given) (begin end : ℕ) → begin ≤ end → AreInWindow net given begin end old
       → IsWireFault net why
-  way_fails why late given begin end le w = late_wired net u frame why (wired given begin end w) (late (can given begin end le w))
+  way_fails why late given begin end le w = late_wired net u frame why (wired given begin end w) w.one_each (late (can given begin end le w))
 
   pub way_never_fails : (why : NetworkRunFault) → (CanCome sites u frame → IsLateFault u frame why) → (given : Given) (begin end : ℕ) → begin ≤ end → AreInWindow net given begin end old
       → (none : NoneIsLateAnywhere net given) → All IsAccepted net.tables → AreEarly none.order.place old → why ≡ fault.Memory

@@ -25,7 +25,7 @@ use Rattle.afdx_network.specs.declared.fault.NetworkRunFault.TheVariants as faul
 use Rattle.afdx_network.specs.Early.{RecordsLeaveInTime}
 use Rattle.afdx_network.specs.Way.{delayed}
 use Rattle.afdx_network.specs.Runs.{Given}
-use Rattle.afdx_network.specs.Given.{NoneIsLateAnywhere, IsWireFault}
+use Rattle.afdx_network.specs.Given.{NoneShareAPort, NoneIsLateAnywhere, IsWireFault}
 use Rattle.afdx_network.specs.Inner.Sites.{Site, AreSites, SendOn, behind, waits_at, after_putting, after_hops, HandsOut, IsHandedOut, IsPortAt, CameOver, IsLateFault, AreEarly}
 use Rattle.afdx_network.proofs.Carried.{AreWritten}
 use Rattle.afdx_network.proofs.Found.{of_all}
@@ -159,15 +159,20 @@ over_on law end sites new w frame c late =
 
 -- ---- why it did not
 
-pub late_wired : (net : Network) (w : Wire) (frame : Record) (why : NetworkRunFault) → wire_to net w.to ≡ Some w → IsLateFault w frame why → IsWireFault net why
-late_wired net w frame fault.Memory wired late = tt
-late_wired net w frame (fault.Read place) wired late = absurd late
-late_wired net w frame (fault.Capture switch port why) wired late =
-    record { wire = w; wire_is = ap (λ n. wire_to net (end_by n port)) late.0 ∙ ap (λ p. wire_to net (end_by w.to.switch p)) late.1 ∙ wired } where
+pub late_wired : (net : Network) (w : Wire) (frame : Record) (why : NetworkRunFault) → wire_to net w.to ≡ Some w → NoneShareAPort net → IsLateFault w frame why → IsWireFault net why
+late_wired net w frame fault.Memory wired each late = tt
+late_wired net w frame (fault.Read place) wired each late = absurd late
+late_wired net w frame (fault.Capture switch port why) wired each late =
+    record {
+      wire = w;
+      wire_is = ap (λ n. wire_to net (end_by n port)) late.0 ∙ ap (λ p. wire_to net (end_by w.to.switch p)) late.1 ∙ wired;
+      one_each = each;
+      late = late.3;
+    } where
       end_by : ℕ → ℕ → End
       end_by n p = record { switch = n; port = p }
-late_wired net w frame fault.WrongWires wired late = absurd late
-late_wired net w frame (fault.Line switch port number) wired late = absurd late
+late_wired net w frame fault.WrongWires wired each late = absurd late
+late_wired net w frame (fault.Line switch port number) wired each late = absurd late
 
 pub late_never : (w : Wire) (frame : Record) (why : NetworkRunFault) → frame.stamp + w.delay < last_second → IsLateFault w frame why → why ≡ fault.Memory
 late_never w frame fault.Memory soon late = refl

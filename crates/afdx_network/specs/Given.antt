@@ -3,6 +3,7 @@ use Rattle.std.specs.Prelude.{◌≡◌, ℕ, ◌+◌, ◌*◌, ◌<◌, ◌≤�
 use Rattle.afdx_units.specs.declared.line.Speed.{Speed}
 use Rattle.afdx_units.specs.Time.{second, last_second}
 use Rattle.afdx_pcap.specs.declared.fault.PcapFault.{PcapFault}
+use Rattle.afdx_pcap.specs.declared.fault.PcapFault.TheVariants as pcap
 use Rattle.afdx_pcap.specs.Record.{Record}
 use Rattle.afdx_pcap.specs.Capture.{IsCapture}
 use Rattle.afdx_table.specs.declared.rows.PortRow.{PortRow}
@@ -121,19 +122,26 @@ pub record IsFirstBreach (net : Network) (given : Given) (switch port number : �
   pub are : AreGivenAt net given (record { switch = switch; port = port }) row records
   pub breach : IsBreachAt row.speed records number
 
--- a wire goes to the port
-pub record IsWired (net : Network) (switch port : ℕ) : Type 0 where
+-- the fault is that of a record in the last second that pcap can hold, or later
+abbrev pub IsLate : PcapFault → Type 0
+IsLate (pcap.Late number) = Unit {0}
+IsLate _ = ⊥
+
+-- a record comes late over a wire: one goes to the port, and no two go to one port
+pub record ComesLate (net : Network) (switch port : ℕ) (why : PcapFault) : Type 0 where
   pub wire : Wire
   pub wire_is : wire_to net (record { switch = switch; port = port }) ≡ Some wire
+  pub one_each : NoneShareAPort net
+  pub late : IsLate why
 
 -- why there is no run over these texts: one is no capture; or all are, and one did not come over one line, though the file says so; or all did,
--- and either what comes over a wire is no capture, which cannot be if `none_late` holds, or two wires go to one port. Memory may run out at
+-- and either two wires go to one port; or none do, and a record comes late over a wire, which cannot be if `none_late` holds. Memory may run out at
 -- any time, and that a reader failed is no reason here
 abbrev pub IsRefusalUnless : Type 0 → Network → Given → NetworkRunFault → Type 0
 IsRefusalUnless none_late net given fault.Memory = Unit {0}
 IsRefusalUnless none_late net given (fault.Read place) = ⊥
 IsRefusalUnless none_late net given (fault.Capture switch port why) =
-    AreGiven net given × (IsFirstUnsound given switch port why ⊎ (AreSound given × KeepTheirLines net given × IsWired net switch port × (none_late → ⊥)))
+    AreGiven net given × (IsFirstUnsound given switch port why ⊎ (AreSound given × KeepTheirLines net given × ComesLate net switch port why × (none_late → ⊥)))
 IsRefusalUnless none_late net given fault.WrongWires = AreGiven net given × AreSound given × KeepTheirLines net given × (NoneShareAPort net → ⊥)
 IsRefusalUnless none_late net given (fault.Line switch port number) = AreGiven net given × AreSound given × IsFirstBreach net given switch port number
 
@@ -152,10 +160,10 @@ IsFaultOver remaining net readers Refused fault.Memory = Unit {0}
 IsFaultOver remaining net readers Refused (fault.Read place) = place < length readers
 IsFaultOver remaining net readers Refused why = (given : Given) × AreGivenBy remaining net readers given × Refused given why
 
--- what stops the run on its way: memory ran out, or what comes over a wire is no capture
+-- what stops the run on its way: memory ran out, or a record comes late over a wire
 abbrev pub IsWireFault : Network → NetworkRunFault → Type 0
 IsWireFault net fault.Memory = Unit {0}
 IsWireFault net (fault.Read place) = ⊥
-IsWireFault net (fault.Capture switch port why) = IsWired net switch port
+IsWireFault net (fault.Capture switch port why) = ComesLate net switch port why
 IsWireFault net fault.WrongWires = ⊥
 IsWireFault net (fault.Line switch port number) = ⊥

@@ -26,7 +26,7 @@ use Rattle.afdx_network.specs.declared.fault.NetworkRunFault.TheVariants as faul
 use Rattle.afdx_network.specs.Way.{delayed}
 use Rattle.afdx_load.specs.Accepted.{IsAccepted}
 use Rattle.afdx_network.specs.Runs.{Given}
-use Rattle.afdx_network.specs.Given.{NoneIsLateAnywhere}
+use Rattle.afdx_network.specs.Given.{NoneIsLateAnywhere, IsLate}
 
 -- a switch that is fed by time, the captures of what left its ports so far, how much of each has gone to its file, and an instant before
 -- which nothing happens there
@@ -283,7 +283,7 @@ pub record CameOver (old new : List Site) (w : Wire) (frame : Record) : Type 0 w
 -- why it did not: memory ran out, or it would come in the last second that pcap can hold, or later
 abbrev pub IsLateFault : Wire → Record → NetworkRunFault → Type 0
 IsLateFault w frame fault.Memory = Unit {0}
-IsLateFault w frame (fault.Capture switch port why) = (switch ≡ w.to.switch) × (port ≡ w.to.port) × (last_second ≤ frame.stamp + w.delay)
+IsLateFault w frame (fault.Capture switch port why) = (switch ≡ w.to.switch) × (port ≡ w.to.port) × (last_second ≤ frame.stamp + w.delay) × IsLate why
 IsLateFault w frame (fault.Read place) = ⊥
 IsLateFault w frame fault.WrongWires = ⊥
 IsLateFault w frame (fault.Line switch port number) = ⊥
