@@ -43,7 +43,7 @@ impl<A: Allocator + Copy> Head<A> {
         }
     }
 
-    /// Returns the record as its capture has it. O(1).
+    /// Returns the record with the bytes and the length that its capture has. What stamp it has is not said: its instant is `stamp`. O(1).
     pub fn frame(&self) -> &Record<'static, A>
         ensures { record result.now { stamp = self.now.frame.stamp } ≡ self.now.frame }
     {
