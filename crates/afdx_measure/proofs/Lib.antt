@@ -7,6 +7,7 @@ pub mod Handing
 pub mod Later
 pub mod MeasureLaws
 pub mod Numbered
+pub mod Past
 pub mod Peaks
 pub mod Policed
 pub mod ReportLaws

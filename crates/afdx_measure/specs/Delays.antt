@@ -1,5 +1,5 @@
 -- The delays of what a port sent for a link (profile).
-use Rattle.std.specs.Prelude.{◌≡◌, ℕ, ◌-◌, ◌≤◌, ◌==◌, min, max, List, [], ◌∷◌, length, map, filter, Option, Some, None, All, Contains, MatchOption}
+use Rattle.std.specs.Prelude.{◌≡◌, ℕ, ◌+◌, ◌-◌, ◌≤◌, ◌==◌, min, max, List, [], ◌∷◌, length, map, filter, Option, Some, None, All, Contains, MatchOption}
 use Rattle.std.specs.List.{fold}
 use Rattle.std.specs.Option.{option_map}
 use Rattle.afdx_port.specs.declared.Sent.{Sent}
@@ -22,6 +22,15 @@ range_of (n ∷ ns) = Some (record { least = fold min n ns; greatest = fold max 
 -- what is reported of them
 abbrev pub summary_of : List ℕ → Delays
 summary_of ns = record { count = length ns; range = range_of ns }
+
+-- the least and the greatest, with one delay more
+abbrev pub widened : Option Range → ℕ → Range
+widened None delay = record { least = delay; greatest = delay }
+widened (Some r) delay = record { least = min r.least delay; greatest = max r.greatest delay }
+
+-- what is reported with one delay more
+abbrev pub with_delay : ℕ → Delays → Delays
+with_delay delay d = record { count = d.count + 1; range = Some (widened d.range delay) }
 
 -- the least and the greatest of those of which this is reported
 abbrev pub least_of : Delays → Option ℕ

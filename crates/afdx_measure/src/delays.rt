@@ -1,7 +1,7 @@
 //! The delays of what a port sent.
 
-ghost use Rattle.std.specs.Prelude.{◌≡◌, ℕ, List, [], ◌∷◌, ◌++◌, IfOk};
-ghost use Rattle.afdx_measure.specs.Delays.{delay_of, summary_of, least_of, greatest_of};
+ghost use Rattle.std.specs.Prelude.{◌≡◌, ℕ, List, [], ◌∷◌, ◌++◌, IfOk, MatchResult};
+ghost use Rattle.afdx_measure.specs.Delays.{delay_of, summary_of, with_delay, least_of, greatest_of};
 
 use afdx_port::Sent;
 use std::alloc::AllocError;
@@ -33,7 +33,7 @@ impl Range {
 }
 
 impl Delays {
-    /// Makes the delays of no copies.
+    /// Makes the delays of no copies. O(1).
     pub fn none() -> Delays
         ensures { result ≡ summary_of [] }
     {
@@ -63,11 +63,12 @@ impl Delays {
         }
     }
 
-    /// Adds a copy that had this delay.
+    /// Adds a copy that had this delay. O(1).
     ///
     /// An error says that there would be more than 2^64 - 1.
     pub fn with(self, delay: u64) -> Result<Delays, AllocError>
-        ensures { (ns : List ℕ) → self ≡ summary_of ns → IfOk result (λ d. d ≡ summary_of (ns ++ delay ∷ [])) }
+        ensures one_more { MatchResult result (λ d. d ≡ with_delay delay self) (λ _. self.count ≡ 18446744073709551615) }
+        ensures summary { (ns : List ℕ) → self ≡ summary_of ns → IfOk result (λ d. d ≡ summary_of (ns ++ delay ∷ [])) }
     {
         let Some(count) = self.count.checked_add(1) else {
             return Err(AllocError);

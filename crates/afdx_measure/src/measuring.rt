@@ -1,6 +1,6 @@
 //! A switch that lets go of what has left it, and notes on the way what is asked of its run.
 
-ghost use Rattle.std.specs.Prelude.{◌≡◌, ℕ, ◌-◌, ◌<◌, ◌≤◌, true, false, length, slice_get, Some, None, IfOk, IfErr, OnOk, OnErr, IfSome, IsTrue, MatchOption};
+ghost use Rattle.std.specs.Prelude.{◌≡◌, ℕ, ◌-◌, ◌<◌, ◌≤◌, [], true, false, length, slice_get, Some, None, IfOk, IfErr, OnOk, OnErr, IfSome, IsTrue, MatchOption};
 ghost use Rattle.afdx_units.specs.Time.{last_second};
 ghost use Rattle.afdx_table.specs.declared.rows.PortRow.{PortRow};
 ghost use Rattle.afdx_table.specs.Link.{Link};
@@ -494,8 +494,10 @@ impl<'a, A: Allocator + Copy> Measures<'a, A> {
     /// Returns the delays of the copies that a port sent for the link at a place of the table; those of no copies if there is no such port or
     /// link. O(1).
     pub fn delays_at(&self, link: usize, port: u8) -> Delays
-        ensures { (l : Link) → slice_get self.now.run.table.links link ≡ Some l
+        ensures there { (l : Link) → slice_get self.now.run.table.links link ≡ Some l
             → result ≡ summary_of (delays_of l.id (sent_in self.now.run (port_row self.now.run.table port))) }
+        ensures no_link { slice_get self.now.run.table.links link ≡ None → result ≡ summary_of [] }
+        ensures no_port { port_row self.now.run.table port ≡ None → result ≡ summary_of [] }
     {
         match self.at(port) {
             Some(at) => at.delays_of(link),
@@ -506,9 +508,13 @@ impl<'a, A: Allocator + Copy> Measures<'a, A> {
     /// Returns the greatest number of bytes that the buffer of a port held when a frame had been admitted, at the first admission that
     /// reached it; none if no frame was admitted, or if there is no such port. O(1).
     pub fn peak_at(&self, port: u8) -> Option<Filling>
-        ensures { (p : PortRow) → port_row self.now.run.table port ≡ Some p → result ≡ peak_at self.now.run p }
+        ensures there { (p : PortRow) → port_row self.now.run.table port ≡ Some p → result ≡ peak_at self.now.run p }
+        ensures no_port { port_row self.now.run.table port ≡ None → result ≡ None }
     {
-        self.at(port)?.peak
+        match self.at(port) {
+            Some(at) => at.peak,
+            None => None,
+        }
     }
 }
 
@@ -520,9 +526,10 @@ impl<'a, A: Allocator + Copy> Survey<'a, A> {
         &self.measures
     }
 
-    /// Lends the spells in which the link at a place of the table was policed, in order. O(1).
+    /// Lends the spells in which the link at a place of the table was policed, in order; none if there is no such link. O(1).
     pub fn spells_at(&self, place: usize) -> &[Spell]
-        ensures { (l : Link) → slice_get self.now.run.table.links place ≡ Some l → result.now ≡ spells_in self.now.run l }
+        ensures there { (l : Link) → slice_get self.now.run.table.links place ≡ Some l → result.now ≡ spells_in self.now.run l }
+        ensures no_link { slice_get self.now.run.table.links place ≡ None → result.now ≡ [] }
     {
         self.policing.spells_at(place)
     }

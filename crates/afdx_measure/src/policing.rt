@@ -1,6 +1,6 @@
 //! When links were policed, and when frames came at all.
 
-ghost use Rattle.std.specs.Prelude.{◌≡◌, ◌-◌, ◌<◌, ◌≤◌, ◌++◌, length, flat_map, slice_get, Some, string_bytes, IfOk, OnOk};
+ghost use Rattle.std.specs.Prelude.{◌≡◌, ◌-◌, ◌<◌, ◌≤◌, ◌++◌, [], length, flat_map, slice_get, Some, None, string_bytes, IfOk, OnOk};
 ghost use Rattle.afdx_table.specs.Link.{Link};
 ghost use Rattle.afdx_table.specs.WellFormed.{IsWellFormed};
 ghost use Rattle.afdx_spells.specs.Lines.{spell_line};
@@ -162,9 +162,10 @@ impl<A: Allocator + Copy> Policing<A> {
         self.span
     }
 
-    /// Lends the spells of the link at a place.
+    /// Lends the spells of the link at a place; none if there is no such link.
     pub(crate) fn spells_at(&self, place: usize) -> &[Spell]
-        ensures { (r : Run) (l : Link) → IsPoliced r self.now → slice_get r.table.links place ≡ Some l → result.now ≡ spells_in r l }
+        ensures no_link { (r : Run) → IsPoliced r self.now → slice_get r.table.links place ≡ None → result.now ≡ [] }
+        ensures there { (r : Run) (l : Link) → IsPoliced r self.now → slice_get r.table.links place ≡ Some l → result.now ≡ spells_in r l }
     {
         if place < self.spells.len() {
             self.spells[place].as_slice()

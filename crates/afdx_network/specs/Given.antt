@@ -3,7 +3,7 @@ use Rattle.std.specs.Prelude.{◌≡◌, ℕ, ◌+◌, ◌*◌, ◌<◌, ◌≤�
 use Rattle.afdx_units.specs.declared.line.Speed.{Speed}
 use Rattle.afdx_units.specs.Time.{second, last_second}
 use Rattle.afdx_pcap.specs.declared.fault.PcapFault.{PcapFault}
-use Rattle.afdx_pcap.specs.declared.fault.PcapFault.TheVariants as pcap
+use Rattle.afdx_pcap.specs.declared.fault.PcapFault.TheVariants.{Late}
 use Rattle.afdx_pcap.specs.Record.{Record}
 use Rattle.afdx_pcap.specs.Capture.{IsCapture}
 use Rattle.afdx_table.specs.declared.rows.PortRow.{PortRow}
@@ -124,7 +124,7 @@ pub record IsFirstBreach (net : Network) (given : Given) (switch port number : �
 
 -- the fault is that of a record in the last second that pcap can hold, or later
 abbrev pub IsLate : PcapFault → Type 0
-IsLate (pcap.Late number) = Unit {0}
+IsLate (Late number) = Unit {0}
 IsLate _ = ⊥
 
 -- a record comes late over a wire: one goes to the port, and no two go to one port

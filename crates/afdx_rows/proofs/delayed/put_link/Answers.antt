@@ -16,7 +16,7 @@ loop-port-preserved g c =
     let ports = c.as_slice-port-items.result.now in
     let port = get_or ports c.loop-port.port-index 0 in
     let id = ap (λ (x : Link). x.id) c.link.view_is in
-    let delays = c.delays_at-delays.ensures l c.requires.place in
+    let delays = c.delays_at-delays.ensures.there l c.requires.place in
     let bound = c.bound_at-bound.ensures ∙ ap (λ (t : Content). bound_at c.args.promised t port c.link.inside.priority) c.requires.loads
     ∙ ap (λ (x : Link). bound_at c.args.promised r.table port x.priority) c.link.view_is in
     let grown : string_bytes c.put_delays.new.text ≡ string_bytes c.loop-port.text ++ row_at columns c.args.promised r l port

@@ -20,7 +20,7 @@ loop-place-preserved g c =
     let here : slice_get r.table.links c.loop-place.place ≡ Some l
     = subst (λ (t : Content). slice_get t.links c.loop-place.place ≡ Some l) table_is (sym c.link_at.ensures.link ∙ ap option_copied c.unwrap-link.ensures) in
     let id = ap (λ (x : Link). x.id) c.link.view_is in
-    let spells = c.spells_at-spells.ensures l here in
+    let spells = c.spells_at-spells.ensures.there l here in
     let grown : string_bytes c.put_spells.new.text ≡ string_bytes c.loop-place.text ++ spell_rows columns switch stamp_columns r l
     = c.in_ok-put_spells.ensures ∙ (λ i. string_bytes c.loop-place.text ++ flat_map (spell_row columns switch stamp_columns (id i)) (spells i)) in
     one_more (spell_rows columns switch stamp_columns r) r.table.links c.loop-place.place l (string_bytes c.args.text.now) (string_bytes c.loop-place.text) (string_bytes c.put_spells.new.text)
