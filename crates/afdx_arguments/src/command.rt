@@ -109,7 +109,7 @@ or a device.
 Example: afdx size table.toml";
 
 /// What the help of `run` says at its end.
-const RUN: &str = "All files are read before the first capture is written. OUT must be there. A
+const RUN: &str = "All files are read before the first capture gets its name. OUT must be there. A
 capture is written to a new file beside its name, which is then moved onto the
 name: each name has what stood there or the whole new capture, also after a
 failure or a kill. After a failed put the captures of the ports before it are
@@ -170,7 +170,8 @@ links ask for, 5 memory or a device.
 Example: mkdir rows && afdx trace table.toml in rows";
 
 /// What the help of `network` says at its end. Its own commands are read by a program of their own.
-const NETWORK: &str = "Its commands are check, size, jitter and run: see afdx network --help.";
+const NETWORK: &str = "Its commands are check, size, jitter, run, measure, survey and trace: see
+afdx network --help.";
 
 /// Makes a command without its arguments.
 pub(crate) fn with_no_arguments<'a>(
