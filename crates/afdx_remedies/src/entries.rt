@@ -42,8 +42,11 @@ Remedy: `to = [2]`; numbers without quotes
     (
         "C6",
         "C6 Range: the value is not one of the allowed ones
-Remedy: 1, 2, 4, 8, 16, 32, 64 or 128 here; `docs/use/FORMATS.md` has the
-others; `mbit = 1000` needs `version = 3`
+Remedy: `version` 1, 2 or 3; `latency_us` 0 to 100; a port's `id`, `from` and
+each of `to` 1 to 24; `mbit` 10 or 100, with `version = 3` also 1000; `buffer` 0
+to 16,777,216; `max_delay_us` 1 to 500,000; a link's `id` 0 to 65,535; `bag_ms`
+1, 2, 4, 8, 16, 32, 64 or 128; `jitter_us` 0 to 10,000; `max_size` 64 to 1518;
+`priority` `\"high\"` or `\"low\"`; `police` `\"byte\"` or `\"frame\"`
 ",
     ),
     (
@@ -181,7 +184,7 @@ Remedy: a larger max_delay_us, smaller low frames
     ),
     (
         "L4",
-        "L4 LowDelay: the same of low priority
+        "L4 LowDelay: a frame of low priority may leave later than `max_delay_us`; in ns
 Remedy: a larger max_delay_us, fewer high links
 ",
     ),
