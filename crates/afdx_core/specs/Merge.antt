@@ -38,7 +38,7 @@ abbrev pub by_stamp : List Arrival → List Arrival
 by_stamp [] = []
 by_stamp (a ∷ arrivals) = placed a (by_stamp arrivals)
 
--- profile: the program's merge: by stamp, then in the order of the captures, which is that of the port numbers; those of one
--- port stay in capture order
+-- profile: the program's merge: by stamp, then in the order of the captures, which is that of the port numbers if the captures
+-- rise by port; those of one port stay in capture order
 abbrev pub merged : List Capture → List Arrival
 merged captures = by_stamp (arrivals_of captures)

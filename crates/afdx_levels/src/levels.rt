@@ -14,7 +14,7 @@ pub const MAX_TOLERANCE: u64 = 1_000_000_000;
 /// What is known of an account's level: it is no less than `least` and no more than `most`.
 ///
 /// Both are in units of the account, and higher by what is credited within the tolerance of the stamps, so that no level lies
-/// below 0. A level is at most `2^64` units, and `2^94` are credited within a second, so that they fit 128 bits.
+/// below 0. A level is at most `2^64` units, and at most `2^94` are credited within a second, so that they fit 128 bits.
 #[derive(Clone, Copy, Debug, PartialEq, Eq)]
 pub struct Levels {
     least: u128,

@@ -46,7 +46,7 @@ fn put_field(
 }
 
 /// Adds a column, `origin`, to the text of a switch's arrivals, which is a heading and a line for each: the number that the frame of the
-/// arrival had at its first switch, empty if this is that one.
+/// arrival had at its first switch, empty if an end system fed it here.
 ///
 /// An error says that memory ran out. O(text).
 pub fn with_first_numbers(

@@ -10,8 +10,9 @@ use thiserror::Error;
 /// The first fault of a capture, P1 to P11 in the order in which they are looked for.
 ///
 /// A file has P2 to P5 at its header, else P6 to P11 at the first record that is not sound; these have the record's number,
-/// from 1. P2, P6 and P11 are found only at the end of the input. P1 is given if memory ran out, before anything that lies
-/// later in the file. Each message is its variant's name.
+/// from 1. P2, P6 and P11 are found only at the end of the input. P1 is given if memory ran out: by `read_all` only for a file
+/// that has none of the others, by a reader that takes it in pieces also before one that lies later in the file. Each message
+/// is its variant's name.
 #[derive(Clone, Copy, Debug, PartialEq, Eq, Error)]
 pub enum PcapFault {
     /// P1: out of memory.
@@ -29,7 +30,7 @@ pub enum PcapFault {
     /// P5: another link type than 1, which it has.
     #[error("LinkType")]
     LinkType(u32),
-    /// P6: fewer than the 16 bytes of a record's header are left.
+    /// P6: bytes are left, but fewer than the 16 of a record's header.
     #[error("CutHeader")]
     CutHeader(usize),
     /// P7: more than 262,144 bytes are captured.

@@ -39,7 +39,8 @@ pub enum Key {
     Police,
 }
 
-/// Why a table is refused; each is printed as its name.
+/// Why a table is refused, by the numbers of the printed codes, C1 to C14; [`read`](crate::read) has the order in which these are looked for.
+/// Each is printed as its name.
 #[derive(Clone, Copy, Debug, PartialEq, Eq, Error)]
 pub enum TableFault {
     /// C1: out of memory.

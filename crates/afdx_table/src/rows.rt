@@ -22,7 +22,7 @@ pub struct PortRow {
     pub speed: Speed,
     /// Bytes of frames that may wait or be sent at its output, at most 16,777,216.
     pub buffer: u32,
-    /// Nanoseconds for which a frame may wait at its output, from 1,000 to 500,000,000.
+    /// Nanoseconds after its stamp until which a frame may wait at its output, from 1,000 to 500,000,000.
     pub max_delay: u64,
 }
 
