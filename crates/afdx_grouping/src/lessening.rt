@@ -106,9 +106,9 @@ pub(crate) fn load_at(loads: &Loads<'_>, to: &PortRow) -> Load
 }
 
 /// Finds the bounds of the time that a frame may stay at each port of a table, in the order of its ports: by the bursts that
-/// [`lesser_bursts`] finds, in nanoseconds from the frame's arrival to its end on the line.
+/// [`lesser_bursts`] finds, with its `roundings` and `scatter`, in nanoseconds from the frame's arrival to its end on the line.
 ///
-/// O(p^2 n + p^3) for p ports and n links, and O(p) memory.
+/// An error says that memory ran out. O(p^2 n + p^3) for p ports and n links, and O(p) memory.
 pub fn lesser_bounds(
     alloc: Global,
     table: &Table,

@@ -8,8 +8,8 @@ use afdx_load::{Bursts, Load, LoadFault, fault_with, loads};
 use afdx_table::laws::ports_are_found;
 use afdx_table::{PortRow, Table};
 
-/// Returns what the links of a port ask for at once if latencies differ by so many nanoseconds: at the queues that is as much
-/// jitter, for each link. O(1).
+/// Returns what the links of a port ask for at once if latencies differ by so many nanoseconds, at most 100,000: at the queues
+/// that is as much jitter, for each link. O(1).
 pub fn scattered(load: &Load, scatter: u64) -> Bursts
     requires { scatter ≤ 100000 }
     ensures all { result.all ≡ (scattered scatter load.now).burst }

@@ -21,7 +21,7 @@ pub(crate) fn backlog(load: &Load, burst: u128) -> u128
 }
 
 /// Returns the bounds on the time that a frame may stay at a port of this load, in nanoseconds from its arrival to its end on the
-/// line, if the links ask for so much at once. O(1).
+/// line, if the links ask for so much at once: for no more than 2^82 parts of a nanosecond, neither all nor the high ones. O(1).
 pub fn bounds_with(load: &Load, bursts: Bursts) -> Bounds
     requires all { bursts.all ≤ 2 ^ 82 }
     requires high { bursts.high ≤ 2 ^ 82 }

@@ -40,7 +40,7 @@ fn past_bound(port: u8, rule: Rule, limit: u128, need: Option<u128>) -> Option<L
 }
 
 /// Returns the fault of the first rule that a port's load breaks, in the order of [`check`], if its links ask for so much at
-/// once; none if it breaks none. O(1).
+/// once: for no more than 2^82 parts of a nanosecond, neither all nor the high ones. None if it breaks none. O(1).
 #[tactic(auto, unfolding(crate::specs::Accepted::fault_at))]
 pub fn fault_with(row: &PortRow, load: &Load, bursts: Bursts) -> Option<LoadFault>
     requires all { bursts.all ≤ 2 ^ 82 }

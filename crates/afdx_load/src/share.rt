@@ -20,7 +20,7 @@ pub struct Share {
 }
 
 /// Returns what a link asks of a line of this speed: its account's credit and its greatest level, each times what a unit is
-/// worth. O(1).
+/// worth. Its greatest size and its jitter are within the limits of a table, 1518 bytes and 10,000,000 ns. O(1).
 pub fn share_of(speed: Speed, link: &LinkRow) -> Share
     requires size { link.now.max_size ≤ greatest_size }
     requires jitter { link.now.jitter ≤ 10000000 }

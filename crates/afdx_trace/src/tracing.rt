@@ -408,11 +408,12 @@ impl<'s, A: Allocator + Copy> Tracing<'s, A> {
         self.lines.hand_over(arrivals)
     }
 
-    /// Takes an arrival that came no earlier than those before it. Tells of it, and of what the ports of its link carried out by then. Lines go
-    /// to the file of the arrivals, and to those of the ports, once they are 32,768 bytes at least.
+    /// Takes an arrival at a port of the table that came no earlier than those before it, and not in the last second that a stamp can hold. Tells
+    /// of it, and of what the ports of its link carried out by then. Lines go to the file of the arrivals, and to those of the ports, one for each
+    /// port of the table in its order, once they are 32,768 bytes at least.
     ///
-    /// An error says that memory ran out, or that more than 2^64 - 1 arrivals would be counted. O(ports of its link), and O(1) for each copy
-    /// that one of these sent or discarded; each line takes as many steps as links are selected.
+    /// An error says that memory ran out, or that more than 2^64 - 1 arrivals would be counted; the tracing is of no use then, and takes nothing
+    /// more. O(ports of its link), and O(1) for each copy that one of these sent or discarded; each line takes as many steps as links are selected.
     pub fn arrive<B: Allocator, F: NewFile>(
         &mut self,
         in_port: u8,
@@ -442,7 +443,8 @@ impl<'s, A: Allocator + Copy> Tracing<'s, A> {
         Ok(())
     }
 
-    /// Carries out and tells all that is left, and appends all lines to their files.
+    /// Carries out and tells all that is left, and appends all lines to their files: to that of the arrivals, and to those of the ports, one for
+    /// each port of the table in its order. No earlier call failed.
     ///
     /// An error says that memory ran out. O(ports), and O(1) for each copy that is sent or discarded.
     pub fn end<F: NewFile>(self, arrivals: &mut F, departures: &mut [F]) -> Result<(), AllocError>
