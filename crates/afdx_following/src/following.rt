@@ -74,7 +74,7 @@ impl<'a, A: Allocator + Copy> Following<'a, A> {
         self.link.place_of(port)
     }
 
-    /// Returns how many frames may have been passed and may have been policed, as far as was known when they came.
+    /// Returns how many frames may have been passed and may have been policed, as far as was known when they came. O(1).
     pub fn unsure(&self) -> u64
         ensures { result ≡ self.now.unsure }
     {
@@ -128,7 +128,8 @@ impl<'a, A: Allocator + Copy> Following<'a, A> {
         self.link.left_by(place, left)
     }
 
-    /// Takes a record that left at the port at a place.
+    /// Takes a record that left at the port at a place. O(bytes, log of what is held), beside what it decides of frames and records before it, each
+    /// once.
     pub fn left(&mut self, place: usize, left: Numbered<'a, A>) -> Result<(), AllocError>
         requires place { place < length self.old.outputs }
         requires in_order { self.old.latest ≤ left_by_at place left self.old }
@@ -141,7 +142,7 @@ impl<'a, A: Allocator + Copy> Following<'a, A> {
     }
 
     /// Ends the link once all frames and records were taken. Records were recorded up to an instant in nanoseconds or, if there is none, all had
-    /// left.
+    /// left. O(bytes, log of what is held) for each frame and each record that is held.
     pub fn end(&mut self, last: Option<u64>) -> Result<(), AllocError>
         ensures { OnOk result (self.new ≡ with_ends last self.old) }
     {

@@ -63,7 +63,7 @@ pub(crate) fn slots(table: &Table) -> [Load; SLOTS]
 
 /// Returns the loads of all ports, from one pass over the links.
 ///
-/// O(p + n + m) for p ports and n links that together name m output ports. It takes no memory.
+/// O(p + m) for p ports and links that together name m output ports, each at least one. It takes no memory.
 pub fn loads(table: &Table) -> Loads<'_>
     ensures { result ≡ table.now }
 {

@@ -63,9 +63,9 @@ impl Delays {
         }
     }
 
-    /// Adds a copy that had this delay. O(1).
+    /// Adds a copy that had this delay, in nanoseconds.
     ///
-    /// An error says that there would be more than 2^64 - 1.
+    /// An error says that there would be more than 2^64 - 1. O(1).
     pub fn with(self, delay: u64) -> Result<Delays, AllocError>
         ensures one_more { MatchResult result (λ d. d ≡ with_delay delay self) (λ _. self.count ≡ 18446744073709551615) }
         ensures summary { (ns : List ℕ) → self ≡ summary_of ns → IfOk result (λ d. d ≡ summary_of (ns ++ delay ∷ [])) }

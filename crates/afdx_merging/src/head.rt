@@ -51,6 +51,7 @@ impl<A: Allocator + Copy> Head<A> {
     }
 
     /// Returns the record, at its instant. Its bytes are copied if its capture has another stamp. An error is out of memory.
+    /// O(1), or O(bytes) if they are copied.
     pub fn into_frame(self, alloc: A) -> Result<Record<'static, A>, AllocError>
         ensures { IfOk result (λ frame. frame ≡ self.frame) }
     {

@@ -25,7 +25,7 @@ pub struct Exit {
 }
 
 impl Exit {
-    /// Returns the port.
+    /// Returns the port. O(1).
     pub fn end(self) -> End
         ensures { result ≡ end_of self }
     {

@@ -25,7 +25,7 @@ pub struct LinkEnd {
 }
 
 impl LinkEnd {
-    /// Makes the end of a way.
+    /// Makes the end of a way. O(1).
     pub fn of_way(way: &Way) -> LinkEnd
         ensures { result ≡ link_end_of way.now }
     {

@@ -61,7 +61,7 @@ fn is_end(one: End, other: End) -> bool
     one.switch == other.switch && one.port == other.port
 }
 
-/// Returns the row of a link in the table of a switch, and its place there, if there is one. O(1).
+/// Returns the row of a link in the table of a switch, and its place there, if there is one. O(1) on average, as [`Table::link`](afdx_table::Table::link).
 fn row_at(network: &Network, switch: usize, link: u16) -> Option<(usize, &LinkRow)>
     ensures { MatchOption result (row_at network.now switch link ≡ None) (λ at. IsRowAt network.now switch link at.0 at.1.now) }
 {

@@ -19,8 +19,8 @@ use std::marker::Model;
 /// that left for the link, and tells what each record is and what became of the frames (profile).
 ///
 /// Frames and records come in the order of stamps, each record after all frames that came up to the instant at which it left. It
-/// holds only frames that came within twice the bound before the last record or the instant that it was last told of. Calls that look
-/// for a frame are O(bytes, log of the frames that are held), whatever these are.
+/// holds only frames that came within twice the bound before the last record or the instant that it was last told of. A frame is
+/// found, taken and let go in O(bytes, log of the frames that are held), whatever these are.
 #[derive(Drop)]
 pub struct Pairing<'a, A: Allocator> {
     limits: Limits,
@@ -71,7 +71,8 @@ impl<'a, A: Allocator + Copy> Pairing<'a, A> {
 
     /// Takes a record that left, and adds what it tells: which frames are missing before it, and what it is.
     ///
-    /// Fails if memory runs out, and then has not taken it. O(frames that are held).
+    /// Fails if memory runs out, and then has not taken it. O(bytes, log of the frames that are held) for the record and for each frame that is
+    /// let go, beside what the list takes to grow: it gets room for all frames that wait.
     pub fn left(
         &mut self,
         left: Numbered<'a, A>,
@@ -91,7 +92,8 @@ impl<'a, A: Allocator + Copy> Pairing<'a, A> {
 
     /// Notes that nothing leaves before an instant in nanoseconds any more, and adds which frames are missing by that.
     ///
-    /// Fails if memory runs out, and then has changed nothing. O(frames that are let go).
+    /// Fails if memory runs out, and then has changed nothing. O(log of the frames that are held), and O(bytes, log of the frames that are held)
+    /// for each frame that is let go, beside what the list takes to grow: it gets room for all frames that wait.
     pub fn go_on(&mut self, at: u128, events: &mut Vec<Event, A>) -> Result<(), AllocError>
         ensures ok { OnOk result (self.new ≡ kept_at at self.old) }
         ensures told { OnOk result (events.new.items ≡ events.old.items ++ gone_told at self.old) }

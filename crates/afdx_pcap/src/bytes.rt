@@ -16,6 +16,7 @@ pub enum Bytes<'a, A: Allocator> {
 }
 
 impl<'a, A: Allocator> Bytes<'a, A> {
+    /// Returns the bytes, wherever they are. O(1).
     pub fn as_slice(&self) -> &[u8]
         ensures { result.now ≡ plain_bytes self.now }
     {

@@ -43,7 +43,7 @@ pub struct Head {
 }
 
 impl Format {
-    /// Returns the format of a magic that was read as a big-endian number, if it is one of the four.
+    /// Returns the format of a magic that was read as a big-endian number, if it is one of the four. O(1).
     pub fn of_magic(magic: u32) -> Option<Format>
         ensures { result ≡ format_of magic }
     {
@@ -59,6 +59,7 @@ impl Format {
 }
 
 impl Endian {
+    /// Returns the number that the two bytes from a place on are in this order. O(1).
     #[tactic(auto, unfolding(crate::specs::Number::number))]
     pub fn u16_at(self, bytes: &[u8], place: usize) -> u16
         requires { place + 2 ≤ length bytes.now }
@@ -70,6 +71,7 @@ impl Endian {
         }
     }
 
+    /// Returns the number that the four bytes from a place on are in this order. O(1).
     #[tactic(auto, unfolding(crate::specs::Number::number))]
     pub fn u32_at(self, bytes: &[u8], place: usize) -> u32
         requires { place + 4 ≤ length bytes.now }

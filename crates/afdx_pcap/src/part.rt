@@ -25,6 +25,7 @@ impl<A: Allocator> Model for Part<A> {
 }
 
 impl<A: Allocator> Part<A> {
+    /// Returns its bytes. O(1).
     pub fn as_slice(&self) -> &[u8]
         ensures { result.now ≡ self.now }
     {

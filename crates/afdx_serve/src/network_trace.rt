@@ -140,7 +140,7 @@ fn traced<F: Folder>(
 ///
 /// What is met first: as `network run`.
 ///
-/// O(files), beside the runs of the switches, which keep their lists, and O(wires) for each arrival and each switch of its way.
+/// O(files), beside the runs of the switches, which keep their lists, and O(wires + ports) for each arrival and each switch of its way.
 pub(crate) fn network_trace<F: Folder>(
     alloc: Global,
     paths: &NetworkPaths<'_>,

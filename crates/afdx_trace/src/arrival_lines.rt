@@ -13,8 +13,8 @@ pub(crate) const HEADING: &str = "frame,port,record,stamp,link,size,fate,early,f
 
 /// Writes a heading, and then a line for each arrival that is selected, in the order in which the switch took them.
 ///
-/// An error says that memory ran out. O(arrivals); each one takes as many steps as links are selected. Each port of the table that was
-/// offered copies takes a byte for each arrival.
+/// An error says that memory ran out. O(links + arrivals); each arrival takes as many steps as links are selected. Each port of the table
+/// that sent or discarded a copy takes a byte for each arrival.
 pub fn arrivals<A: Allocator + Copy, B: Allocator + Copy>(
     alloc: A,
     done: &Done<'_, B>,

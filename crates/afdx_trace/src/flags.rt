@@ -82,7 +82,8 @@ fn know_the_table(table: &Table)
     table.constant();
 }
 
-/// Makes the flags of the copies that each port took, by the ports' numbers from 0 to 24. O(arrivals) for each port that was offered copies.
+/// Makes the flags of the copies that each port took, by the ports' numbers from 0 to 24. O(arrivals) for each port that sent or
+/// discarded one.
 pub(crate) fn all_taken<A: Allocator + Copy, B: Allocator + Copy>(
     alloc: A,
     done: &Done<'_, B>,
