@@ -200,20 +200,6 @@ impl<B: Allocator + Copy> Folder for MemoryFolder<B> {
         self.log.note(name)
     }
 
-    fn put<A: Allocator + Copy>(
-        &mut self,
-        _alloc: A,
-        name: &str,
-        bytes: &[u8],
-    ) -> Result<(), FolderFault> {
-        let mut new = self.begin(name)?;
-        if new.append(bytes).is_err() {
-            self.abandon(new);
-            return Err(FolderFault::Memory);
-        }
-        self.put_new(new, name)
-    }
-
     /// Begins a new file with room for the header of a capture.
     fn begin(&mut self, _name: &str) -> Result<MemoryFile<B>, AllocError> {
         let bytes = Vec::with_capacity(self.alloc, 24)?;

@@ -7,7 +7,6 @@ use crate::device_log::DeviceLog;
 use crate::file_id::FileId;
 use crate::folder::{Folder, FolderFault};
 use crate::input::read_to_end;
-use crate::new_file::NewFile;
 use crate::output::WriteFault;
 use crate::whole_file::WholeFile;
 use std::alloc::{AllocError, Allocator};
@@ -152,17 +151,6 @@ impl<R: Files<File = File>, A: Allocator + Copy> Folder for Disk<'_, R, A> {
 
     fn note_unread(&mut self, name: &str) -> FolderFault {
         self.log.note(name)
-    }
-
-    fn put<B: Allocator + Copy>(
-        &mut self,
-        _alloc: B,
-        name: &str,
-        bytes: &[u8],
-    ) -> Result<(), FolderFault> {
-        let mut new = self.begin(name)?;
-        new.append(bytes)?;
-        self.put_new(new, name)
     }
 
     fn begin(&mut self, name: &str) -> Result<WholeFile<A>, AllocError> {

@@ -98,23 +98,6 @@ pub trait Folder {
         ensures same { KeepsFiles (files self.old) (files self.new) }
         ensures cause { IsCause result name.now (failed self.old) (failed self.new) };
 
-    /// Puts bytes under a name, in place of what is there. After an error nothing is said of what is there.
-    ///
-    /// # Errors
-    ///
-    /// `Memory` if memory ran out; `Device`, counted, if the folder failed.
-    ///
-    /// O(bytes).
-    fn put<A: Allocator + Copy>(
-        &mut self,
-        alloc: A,
-        name: &str,
-        bytes: &[u8],
-    ) -> Result<(), FolderFault>
-        ensures bytes { OnOk result (PutsFile (files self.old) (files self.new) name.now bytes.now) }
-        ensures others { KeepsOthers (files self.old) (files self.new) name.now }
-        ensures cause { HasCause name.now (failed self.old) (failed self.new) result };
-
     /// Begins a new file of no bytes, to be put under a name. Nothing else changes, and a failure of the device is answered when the
     /// file is settled or put. An error says that memory ran out.
     ///
@@ -143,7 +126,7 @@ pub trait Folder {
     ///
     /// # Errors
     ///
-    /// As `put`, also if the device failed since the file was begun.
+    /// `Memory` if memory ran out; `Device`, counted, if the folder failed, also if it did since the file was begun.
     ///
     /// O(bytes).
     fn put_new(&mut self, new: Self::New, name: &str) -> Result<(), FolderFault>

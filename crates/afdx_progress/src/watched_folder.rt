@@ -68,15 +68,6 @@ where
         self.inner.note_unread(name)
     }
 
-    fn put<A: Allocator + Copy>(
-        &mut self,
-        alloc: A,
-        name: &str,
-        bytes: &[u8],
-    ) -> Result<(), FolderFault> {
-        self.inner.put(alloc, name, bytes)
-    }
-
     fn begin(&mut self, name: &str) -> Result<F::New, AllocError> {
         self.inner.begin(name)
     }
