@@ -7,7 +7,6 @@ use afdx_alone::{AloneFault, ReadFault};
 use afdx_folder::WriteFault;
 use afdx_load::LoadFault;
 use afdx_pcap::PcapFault;
-use afdx_session::RunFault;
 use afdx_table::TableFault;
 use afdx_wiring::NetworkFault;
 use std::alloc::{AllocError, AllocFailed};
@@ -135,21 +134,6 @@ impl From<NetworkFault> for Failure {
         match e {
             NetworkFault::Memory => Failure::Memory,
             _ => Failure::Network(NetworkFailure::Refused(e, None)),
-        }
-    }
-}
-
-impl From<RunFault> for Failure {
-    ghost use Rattle.afdx_messages.specs.Inner.Failures.{run_failure};
-
-    ghost from_gives = { λ fault failure. failure ≡ run_failure fault };
-
-    fn from(e: RunFault) -> Failure {
-        match e {
-            RunFault::Memory => Failure::Memory,
-            RunFault::Capture(port, fault) => Failure::PortCapture(port, fault),
-            // Captures are got by the table's own ports, and given whole, so that none of these is met.
-            RunFault::WrongPorts | RunFault::Closed | RunFault::Failed => Failure::Usage,
         }
     }
 }

@@ -4,8 +4,6 @@ use Rattle.afdx_table.specs.declared.fault.TableFault.{TableFault}
 use Rattle.afdx_table.specs.declared.fault.TableFault.TheVariants as table
 use Rattle.afdx_wiring.specs.declared.fault.NetworkFault.{NetworkFault}
 use Rattle.afdx_wiring.specs.declared.fault.NetworkFault.TheVariants as wiring
-use Rattle.afdx_session.specs.declared.plan.RunFault.{RunFault}
-use Rattle.afdx_session.specs.declared.plan.RunFault.TheVariants as run
 use Rattle.afdx_alone.specs.declared.fault.AloneFault.{AloneFault}
 use Rattle.afdx_alone.specs.declared.fault.AloneFault.TheVariants as alone
 use Rattle.afdx_alone.specs.declared.fault.ReadFault.{ReadFault}
@@ -30,10 +28,3 @@ table_failure fault = failure.Table fault
 abbrev pub wiring_failure : NetworkFault → Failure
 wiring_failure wiring.Memory = failure.Memory
 wiring_failure fault = failure.Network (network.Refused fault None)
-
-abbrev pub run_failure : RunFault → Failure
-run_failure run.Memory = failure.Memory
-run_failure (run.Capture port fault) = failure.PortCapture port fault
-run_failure run.WrongPorts = failure.Usage
-run_failure run.Closed = failure.Usage
-run_failure run.Failed = failure.Usage
