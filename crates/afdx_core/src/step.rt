@@ -12,15 +12,15 @@ use thiserror::Error;
 /// Why an arrival or an advance was refused. Each message is its variant's name.
 #[derive(Clone, Copy, Debug, PartialEq, Eq, Error)]
 pub enum CoreFault {
-    /// Out of memory.
-    #[error("Memory")]
-    Memory,
-    /// The stamp is below that of an earlier arrival or advance.
-    #[error("Earlier")]
-    Earlier,
     /// The table has no port of this number.
     #[error("NoSuchPort")]
     NoSuchPort,
+    /// The stamp is below that of an earlier arrival or advance.
+    #[error("Earlier")]
+    Earlier,
+    /// Out of memory.
+    #[error("Memory")]
+    Memory,
 }
 
 /// What the switch did with a frame.

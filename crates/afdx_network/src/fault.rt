@@ -14,11 +14,11 @@ pub enum NetworkRunFault {
     Read(usize),
     /// What comes in at this port of a switch is no capture, and this is its first fault. All that was given was read.
     Capture(usize, u8, PcapFault),
-    /// Two wires go to one port, as no two of a file do.
-    WrongWires,
     /// What was given for this port of a switch did not come over one line, as the network file says: this record, from 1, came too soon.
     /// All that was given was read.
     Line(usize, u8, u64),
+    /// Two wires go to one port, as no two of a file do.
+    WrongWires,
 }
 
 impl From<AllocError> for NetworkRunFault {
