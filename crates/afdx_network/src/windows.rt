@@ -47,19 +47,12 @@ use afdx_pcap::{PcapFault, Record};
 use afdx_port::Sent;
 use afdx_session::laws::{all_start_before_the_last_instant, records_are_early};
 use afdx_units::{LEAST_SIZE, Stamp, cost};
-use afdx_wiring::{End, Wire};
+use afdx_wiring::{End, Wire, is_end};
 use std::alloc::{AllocError, Global};
 use std::io::Read;
 
 /// How long a window is if there are no wires, in nanoseconds: any length is right then. It is no longer than that if there are some.
 const ALONE: u64 = 1_000_000;
-
-/// Returns whether two ends are one port.
-fn is_end(one: End, other: End) -> bool
-    ensures { result ≡ is_end one other }
-{
-    one.switch == other.switch && one.port == other.port
-}
 
 /// Returns the least time from an arrival at the switch where a wire of this delay begins to the arrival that it causes at the wire's end: the
 /// switch's latency, the line time of the least frame, and the delay.

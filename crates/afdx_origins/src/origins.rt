@@ -3,7 +3,6 @@
 ghost use Rattle.std.specs.Prelude.{◌≡◌, ◌<◌, ℕ, [], ◌==◌, List, length, slice_get, position, option_map, option_copied, IfOk, IfSome, MatchOption, IsTrue, OnOk, Some, None, Contains, ◌↔◌};
 ghost use Rattle.afdx_port.specs.declared.Sent.{Sent as Copy};
 ghost use Rattle.afdx_table.specs.Link.{Link};
-ghost use Rattle.afdx_wiring.specs.File.{is_end};
 ghost use Rattle.afdx_network_check.specs.Net.{Row as Line, row_at, wire_to};
 ghost use Rattle.afdx_network_check.specs.Order.{row_before};
 ghost use Rattle.afdx_origins.specs.declared.departure.Departure.{Departure as Went};
@@ -20,7 +19,7 @@ use afdx_port::Sent;
 use afdx_table::LinkRow;
 use afdx_table::laws::{links_are_at_their_places, links_are_found};
 use afdx_units::Stamp;
-use afdx_wiring::{End, Wire};
+use afdx_wiring::{End, Wire, is_end};
 use std::alloc::{AllocError, Global};
 use std::marker::Model;
 
@@ -52,13 +51,6 @@ fn place_in(link: &LinkRow, port: u8) -> Option<usize>
     ensures { result ≡ position (λ to. to == port) link.now.to }
 {
     link.to.as_slice().iter().position(|to| *to == port)
-}
-
-/// Returns whether two ends are one port.
-fn is_end(one: End, other: End) -> bool
-    ensures { result ≡ is_end one other }
-{
-    one.switch == other.switch && one.port == other.port
 }
 
 /// Returns the row of a link in the table of a switch, and its place there, if there is one. O(1) on average, as [`Table::link`](afdx_table::Table::link).
