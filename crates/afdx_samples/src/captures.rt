@@ -23,21 +23,27 @@ pub fn joined(alloc: Global, parts: &[&[u8]]) -> Result<Vec<u8>, AllocError> {
     Ok(bytes)
 }
 
+/// Appends the record of a frame.
+fn put_record(alloc: Global, bytes: &mut Vec<u8>, sample: &Sample) -> Result<(), AllocError> {
+    for number in [
+        sample.seconds,
+        sample.nanos,
+        sample.captured,
+        sample.original,
+    ] {
+        bytes.extend_from_slice(&number.to_le_bytes())?;
+    }
+    bytes.extend_from_slice(&sample.header())?;
+    let rest = vec![in alloc; 0u8; sample.captured.saturating_sub(14) as usize]?;
+    bytes.extend_from_slice(&rest)?;
+    Ok(())
+}
+
 /// Makes the capture of these frames.
 pub fn capture(alloc: Global, samples: &[Sample]) -> Result<Vec<u8>, AllocError> {
     let mut bytes = Vec::from_slice(alloc, &HEADER)?;
     for sample in samples {
-        for number in [
-            sample.seconds,
-            sample.nanos,
-            sample.captured,
-            sample.original,
-        ] {
-            bytes.extend_from_slice(&number.to_le_bytes())?;
-        }
-        bytes.extend_from_slice(&sample.header())?;
-        let rest = vec![in alloc; 0u8; sample.captured.saturating_sub(14) as usize]?;
-        bytes.extend_from_slice(&rest)?;
+        put_record(alloc, &mut bytes, sample)?;
     }
     Ok(bytes)
 }

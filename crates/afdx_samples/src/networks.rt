@@ -8,6 +8,17 @@ use std::fmt::Write;
 /// The start and the end of a wire as the network file has them, `A.3`, and its nanoseconds of delay.
 pub type Ends = (&'static str, &'static str, u32);
 
+/// Appends these wires.
+fn put_wires(text: &mut String, wires: &[Ends]) -> Result<(), AllocError> {
+    for (from, to, delay) in wires {
+        writeln!(text, "[[wire]]")?;
+        writeln!(text, "from = \"{from}\"")?;
+        writeln!(text, "to = \"{to}\"")?;
+        writeln!(text, "delay_ns = {delay}")?;
+    }
+    Ok(())
+}
+
 /// Writes a network file: switches of these names, each with its table in `NAME.toml`, and these wires.
 pub fn network_file(alloc: Global, names: &[&str], wires: &[Ends]) -> Result<String, AllocError> {
     let mut text = String::from_str(alloc, "version = 1\n")?;
@@ -16,12 +27,7 @@ pub fn network_file(alloc: Global, names: &[&str], wires: &[Ends]) -> Result<Str
         writeln!(text, "name = \"{name}\"")?;
         writeln!(text, "table = \"{name}.toml\"")?;
     }
-    for (from, to, delay) in wires {
-        writeln!(text, "[[wire]]")?;
-        writeln!(text, "from = \"{from}\"")?;
-        writeln!(text, "to = \"{to}\"")?;
-        writeln!(text, "delay_ns = {delay}")?;
-    }
+    put_wires(&mut text, wires)?;
     Ok(text)
 }
 

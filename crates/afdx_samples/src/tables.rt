@@ -28,12 +28,8 @@ pub fn link(id: u16, from: u8, to: &'static str) -> Link {
     }
 }
 
-/// Writes a table, in the second version if a link states the kind of its policing.
-pub fn table(alloc: Global, ports: &[Port], links: &[Link]) -> Result<String, AllocError> {
-    let mut text = String::new(alloc);
-    if links.iter().any(|link| !link.police.is_empty()) {
-        writeln!(text, "version = 2")?;
-    }
+/// Appends these ports.
+fn put_ports(text: &mut String, ports: &[Port]) -> Result<(), AllocError> {
     for port in ports {
         writeln!(text, "[[port]]")?;
         writeln!(text, "id = {}", port.id)?;
@@ -41,6 +37,16 @@ pub fn table(alloc: Global, ports: &[Port], links: &[Link]) -> Result<String, Al
         writeln!(text, "buffer = {}", port.buffer)?;
         writeln!(text, "max_delay_us = {}", port.max_delay_us)?;
     }
+    Ok(())
+}
+
+/// Writes a table, in the second version if a link states the kind of its policing.
+pub fn table(alloc: Global, ports: &[Port], links: &[Link]) -> Result<String, AllocError> {
+    let mut text = String::new(alloc);
+    if links.iter().any(|link| !link.police.is_empty()) {
+        writeln!(text, "version = 2")?;
+    }
+    put_ports(&mut text, ports)?;
     for link in links {
         writeln!(text, "[[link]]")?;
         writeln!(text, "id = {}", link.id)?;
