@@ -233,6 +233,11 @@ interrupted() {
     done
 }
 
+# polices_in KIB: a stack of so many KiB is enough for the policing of one link.
+polices_in() {
+    (ulimit -s "$1" && exec "$afdx" alone --id 10 --bag 1 --jitter 0 --size 1000) <given/port-1.pcap >answer.txt && [ -s answer.txt ]
+}
+
 # each_kill: the program is ended at each call in turn. The captures that were moved are those of this run; what is left
 # beside them is in no one's way, and is removed by the next run.
 each_kill() {
@@ -402,5 +407,6 @@ check "another run puts into OUT" another_puts
 check "another run has the new file" another_writes
 check "two runs at once" two_runs
 check "few open files" few_open_files
+check "alone in a stack of 512 KiB" polices_in 512
 check "a stack of 128 KiB" leaves 0 "" 2 bash -c 'ulimit -s 128 && exec "$@"' -
 finish
