@@ -99,6 +99,16 @@ def test_outputs_are_kept(tmp_path: Path, keep: str, policed: int, kept: bool) -
     assert (tmp_path / "campaign/kept/t/r1/port-1.pcap").exists() == kept
 
 
+@pytest.mark.parametrize("keep, kept", [
+    ("none", ["inner", "old.pcap"]), ("policed", ["inner"]), ("all", ["inner", "port-1.pcap"])])
+def test_what_is_kept_is_of_the_newest_answer(tmp_path: Path, keep: str, kept: list[str]) -> None:
+    folder = tmp_path / "campaign/kept/t/r1"
+    (folder / "inner").mkdir(parents=True)
+    (folder / "old.pcap").write_text("text")
+    work_hard(task(tmp_path, f'echo >"$out/port-1.pcap"\n{QUIET}', ask="run", keep=keep))
+    assert sorted(path.name for path in folder.glob("*")) == kept
+
+
 @pytest.mark.parametrize("ask, kept", [
     ("survey", []), ("run", ["A/port-1.pcap"]), ("trace", ["A/arrivals.csv", "B/arrivals.csv"])])
 def test_of_a_network_the_same_is_asked(tmp_path: Path, ask: str, kept: list[str]) -> None:

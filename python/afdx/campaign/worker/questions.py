@@ -16,7 +16,9 @@ CSV = "--csv"
 
 
 def ask(task: Task, program: Program, scratch: Path) -> Said:
-    """Answers the question of a task; outputs that are to be kept are put."""
+    """Answers the question of a task; outputs that are to be kept are put, in place of those of an earlier answer."""
+    if task.keep != "none":
+        clear(folders_in(task, kept_place(task)))
     of_networks = ("network",) if task.table.switches else ()
     files = (task.table.files[0], task.recording.folder)
     options = ("--unchecked",) if task.table.unchecked else ()
@@ -33,11 +35,11 @@ def run(task: Task, program: Program, scratch: Path, arguments: tuple[str, ...],
         policed: bool | None = None) -> Said:
     """Runs a command that puts files, and keeps these if the task asks for it."""
     out = scratch / "kept"
-    for switch in task.table.switches or (".",):
-        (out / switch).mkdir(parents=True)
+    for folder in folders_in(task, out):
+        folder.mkdir(parents=True)
     said = program(*arguments, str(out), *options)
     if said.status == 0 and wanted(task.keep, polices(said.text) if policed is None else policed):
-        keep(out, Path(task.root, "kept", task.table.name, task.recording.name))
+        keep(out, kept_place(task))
     shutil.rmtree(out)
     return said
 
@@ -51,6 +53,24 @@ def polices(report: str) -> bool:
 def wanted(keeps: str, policed: bool) -> bool:
     """Answers whether the outputs of a recording are kept."""
     return keeps == "all" or keeps == "policed" and policed
+
+
+def kept_place(task: Task) -> Path:
+    """Answers where the outputs of a recording are kept."""
+    return Path(task.root, "kept", task.table.name, task.recording.name)
+
+
+def folders_in(task: Task, place: Path) -> list[Path]:
+    """Answers the folders of a place in which outputs lie: one for each switch of a network."""
+    return [place / switch for switch in task.table.switches or (".",)]
+
+
+def clear(folders: list[Path]) -> None:
+    """Removes the files in folders, but not what lies in folders of these: a recording may lie in another one's."""
+    for folder in folders:
+        for path in folder.glob("*"):
+            if not path.is_dir():
+                path.unlink()
 
 
 def keep(out: Path, place: Path) -> None:
