@@ -50,6 +50,15 @@ def test_each_frame_is_followed_to_its_end_system(tmp_path: Path) -> None:
     assert following.origins_of(said, answered.LAYOUT, frames).tolist() == [0, 1, 7, 3, 0, 5, 6, 7, 3]
 
 
+def test_what_left_is_read_to_the_nanosecond(tmp_path: Path) -> None:
+    """Also beside a copy that was discarded, which has no instant at which it left."""
+    said = answered.answers(tmp_path)
+    with (tmp_path / "B" / "departures.csv").open("a") as file:
+        file.write(f"2,,1,12,high,64,{answered.FIRST + 400},,,,aged\n")
+    left = [int(at) - answered.FIRST for rows in following.sent(said, "B") for at in rows.left]
+    assert left == [5200, 500, 610, 1_000_610]
+
+
 def test_frames_over_many_wires() -> None:
     """Also back to switches where they were."""
     before = numpy.array([0, 0, 1, 2, 3, 5, 5, 6])

@@ -36,7 +36,7 @@ def verdict_of(answer: Answer) -> Facts:
 
 
 def words(field: str) -> str:
-    """Answers a list as it is shown, NONE if it is empty."""
+    """Answers a field as it is shown: a list with blanks, NONE if it is empty."""
     return printed.listed(field) or NONE
 
 
@@ -74,8 +74,8 @@ def need_facts(said: str, facts: Facts) -> Facts:
 def way_facts(said: str) -> Facts:
     """Answers the ways that `afdx network check` printed."""
     return {Place("", "way", f"{row['link']} to {row['to']}"):
-            {"start": row["from"], "ways": words(row["ways"]), "least": row["least"], "most": row["most"],
-             "jitter": words(row["jitter"])} for row in printed.rows_of(said)}
+            {"start": words(row["from"]), "ways": words(row["ways"]), "least": words(row["least"]),
+             "most": words(row["most"]), "jitter": words(row["jitter"])} for row in printed.rows_of(said)}
 
 
 def ask_network(program: Program, side: Side) -> None:

@@ -54,10 +54,14 @@ def frames_of(answers: NetworkAnswers) -> Frames:
 
 
 def sent(answers: NetworkAnswers, switch: str) -> Iterator[Any]:
-    """Reads the copies that a switch sent, a piece at a time."""
-    kinds = {"port": "int64", "frame": "int64", "link": "int64", "left": "Int64"}
+    """Reads the copies that a switch sent, a piece at a time.
+
+    What a discarded copy has no instant of is read as text: a whole number beside fields that are empty goes through a
+    float in pandas, to the next 256 ns.
+    """
+    kinds = {"port": "int64", "frame": "int64", "link": "int64", "left": "str"}
     for rows in pieces(answers.switches[switch].departures, kinds):
-        yield rows[rows.left.notna()]
+        yield rows[rows.left.notna()].astype({"left": "int64"})
 
 
 def over_wires(answers: NetworkAnswers, layout: Layout, frames: Frames) -> Iterator[tuple[Port, Ints]]:
