@@ -3,13 +3,14 @@ import os
 import signal
 import subprocess
 import sys
+import time
 from dataclasses import replace
 from pathlib import Path
 
 import pytest
 
 from afdx.campaign.worker.files import scratch_folder
-from afdx.campaign.worker.program import Program
+from afdx.campaign.worker.program import TIMED_OUT, Program
 from afdx.campaign.worker.stamps import first_stamp
 from afdx.campaign.worker.work import answer_at, work, work_hard
 from captures import header, words
@@ -40,6 +41,18 @@ def test_faults_are_answers(tmp_path: Path, act: str, fault: str, status: int, l
     answer = answer_at(asked.answer)
     assert (answer["fault"], answer["status"], answer["line"], answer["how"]["tries"]) == (fault, status, line, tries)
     assert list((tmp_path / "scratch").iterdir()) == []
+
+
+def test_a_child_may_end_as_its_time_does(monkeypatch: pytest.MonkeyPatch) -> None:
+    waitid = os.waitid
+
+    def wait_longer(*arguments: int) -> os.waitid_result | None:
+        found = waitid(*arguments)
+        time.sleep(0.3)
+        return found
+
+    monkeypatch.setattr(os, "waitid", wait_longer)
+    assert Program("/bin/true", 0.2, 1 << 30)().status == TIMED_OUT
 
 
 def test_a_fault_that_passes_is_none(tmp_path: Path) -> None:

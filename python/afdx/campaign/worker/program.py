@@ -5,6 +5,7 @@
 from __future__ import annotations
 
 import os
+import signal
 import subprocess
 import tempfile
 import threading
@@ -54,7 +55,7 @@ class Program:
 
         def end() -> None:
             late.set()
-            child.kill()
+            os.kill(child.pid, signal.SIGKILL)  # `child.kill` would reap a child that has just ended
 
         timer = threading.Timer(self.timeout, end)
         timer.start()
