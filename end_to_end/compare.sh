@@ -144,5 +144,9 @@ check "one whose last byte is turned" finds turned missing extra
 check "a babbler's frame that is let through" let_through
 head -c 30 out/port-2.pcap >cut.pcap && mkdir broken && cp out/*.pcap broken && cp cut.pcap broken/port-2.pcap
 check "an output that is no capture" fails 3 "afdx: capture P6 CutHeader, output 2, record 1" "$table" "$network/in" broken
+check "a port that the table lacks, before an output is looked for" fails 2 "afdx: argument A2 NoSuchPort, --ports 9" "$table" "$network/in" nowhere --ports 1,9
+check "an offset of a port that is left out" fails 2 "afdx: argument A3 LeftOut, --offset 1" "$table" "$network/in" out --ports 3 --offset 1=5
+check "a least latency above the table's" fails 2 "afdx: argument A1 Latency, --least-latency 17, limit 16" "$network/faster.toml" "$network/in" faster \
+    --stamps free --least-latency 17
 check "no output" fails 5 "afdx: device get nowhere/port-1.pcap" "$table" "$network/in" nowhere
 finish

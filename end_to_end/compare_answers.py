@@ -1,7 +1,8 @@
 #!/usr/bin/env python3
 """What `afdx compare` answers, by the plain model in compare_model.py: slowly. It can stand in the program's place.
 
-Of a refused load or capture it prints a line on standard error, with status 3 or 4; the table itself is taken to be in order.
+Of a refused load or capture it prints a line on standard error, with status 3 or 4; the table is taken to be in order, and the options
+to fit it.
 """
 import argparse
 import dataclasses

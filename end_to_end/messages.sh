@@ -18,7 +18,7 @@ says() {
 # explained STATUS LINE FILE ARGUMENT..: with --explain it ends so too, and then says of the line's code what \`afdx explain\` says.
 explained() {
     local code
-    code=$(sed -E 's/^afdx: ((table|capture|load|device) )?(\w+).*/\3/' <<<"$2")
+    code=$(sed -E 's/^afdx: ((argument|table|capture|load|device) )?(\w+).*/\3/' <<<"$2")
     "$afdx" explain "$code" >entry.txt && [ -s entry.txt ] && ends "$1" "$2"$'\n'"$(cat entry.txt)" "$3" --explain "${@:4}"
 }
 
@@ -90,6 +90,11 @@ cp good.pcap in/port-1.pcap
 head -c 24 good.pcap >in/port-2.pcap
 
 says 2 "afdx: usage" run table.toml in
+table '1i version = 3\nlatency_us = 80'
+says 2 "afdx: argument A1 Latency, --least-latency 90, limit 80" compare changed.toml in out --least-latency 90
+says 2 "afdx: argument A2 NoSuchPort, --ports 3" compare table.toml in out --ports 1,3
+says 2 "afdx: argument A2 NoSuchPort, --offset 3" compare table.toml in out --offset 3=100
+says 2 "afdx: argument A3 LeftOut, --offset 1" compare table.toml in out --ports 2 --offset 1=100
 
 refuses_table "C2 Toml" 's/"low"/"low/'
 refuses_table "C3 UnknownKey, link 1" 's/bag_ms/bag/'

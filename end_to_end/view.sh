@@ -259,6 +259,8 @@ check "the recordings' origin" tells_its_origin faulty.html "$network/table.toml
 check "what they were compared by" grep -q 'compare table.toml in faulty --stamps=free$' faulty.html
 check "so is that of earlier answers of compare" from_recorded_answers
 check "an option that compare refuses" ends_with 2 "afdx: usage" "$network/table.toml" "$network/in" made/page.html --recorded out --stamps begin
+check "a port that the table lacks" ends_with 2 "afdx: argument A2 NoSuchPort, --ports 9" "$network/table.toml" "$network/in" made/page.html \
+    --recorded out --stamps free --ports 9
 check "recordings that are not there" ends_with 5 "afdx: device get none/port-1.pcap" \
     "$network/table.toml" "$network/in" made/page.html --recorded none
 

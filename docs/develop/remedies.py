@@ -4,7 +4,7 @@
     docs/develop/remedies.py           writes crates/afdx_remedies/src/entries.rt anew
     docs/develop/remedies.py --check   changes nothing; fails if the file is not what the page says
 
-A code is the word of a line that stands for its fault: `C6` of a table, `P3` of a capture, `L2` of a load, `G3` or `J1` of a network,
+A code is the word of a line that stands for its fault: `A2` of an argument, `C6` of a table, `P3` of a capture, `L2` of a load, `G3` or `J1` of a network,
 and `usage`, `get`, `put`, `read`, `write` and `memory`. Lines of one code have one entry: of each name the first row of the page that
 has it, with its cause and its remedy, in lines of at most 80 columns.
 """
@@ -20,7 +20,7 @@ PAGE = Path("docs/use/MESSAGES.md")
 SOURCE = Path("crates/afdx_remedies/src/entries.rt")
 WIDTH = 80
 ROW = re.compile(r"^\| `afdx: ([^`]+)` \| \d \| (.*) \| (.*) \|$", re.M)
-CODED = re.compile(r"(?:table|capture|load|network) (([A-Z]\d+) \w+)")
+CODED = re.compile(r"(?:argument|table|capture|load|network) (([A-Z]\d+) \w+)")
 QUOTED = re.compile(r"`[^`]*`")
 GAP = "\N{NO-BREAK SPACE}"
 HEAD = """\

@@ -159,16 +159,16 @@ def test_options_are_handed_on_as_they_are_given() -> None:
                                              "--rest"])
 
 
-@pytest.mark.parametrize("status", [0, 1, LOAD])
+@pytest.mark.parametrize("status", [0, 1, USAGE, LOAD])
 def test_that_recordings_differ_is_an_answer(tmp_path: Path, status: int) -> None:
     file = tmp_path / "program"
     file.write_text(f"#!/bin/sh\necho \"$@\"\necho refused >&2\nexit {status}\n")
     file.chmod(0o755)
     asked = program.Program("afdx-view", str(file))
-    if status == LOAD:
+    if status > 1:
         with pytest.raises(Failure) as caught:
             answers.compare(asked, "t", "in", Asked("out", ["--rest"]), tmp_path)
-        assert (caught.value.status, caught.value.lines) == (LOAD, ("refused",))
+        assert (caught.value.status, caught.value.lines) == (status, ("refused",))
         return
     found = answers.compare(asked, "t", "in", Asked("out", ["--rest"]), tmp_path)
     assert found.said == f"compare t in out --rest --rows {tmp_path} --csv\n"

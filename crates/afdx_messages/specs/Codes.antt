@@ -9,12 +9,20 @@ use Rattle.afdx_load.specs.declared.fault.Rule.{Rule}
 use Rattle.afdx_load.specs.declared.fault.Rule.TheVariants.{Rate, Buffer, HighDelay, LowDelay}
 use Rattle.afdx_wiring.specs.declared.fault.NetworkFault.{NetworkFault}
 use Rattle.afdx_wiring.specs.declared.fault.NetworkFault.TheVariants as net
+use Rattle.afdx_messages.specs.declared.argument.ArgumentFault.{ArgumentFault}
+use Rattle.afdx_messages.specs.declared.argument.ArgumentFault.TheVariants as argument
 use Rattle.afdx_messages.specs.declared.network_failure.JitterRule.TheVariants as jitter
 use Rattle.afdx_messages.specs.declared.network_failure.NetworkFailure.{NetworkFailure}
 use Rattle.afdx_messages.specs.declared.network_failure.NetworkFailure.TheVariants as network
 use Rattle.afdx_messages.specs.declared.failure.Failure.{Failure}
 use Rattle.afdx_messages.specs.declared.failure.Failure.TheVariants as failure
 use Rattle.afdx_remedies.specs.Entries.{entry_of}
+
+abbrev pub argument_code : ArgumentFault → List ℕ
+argument_code (argument.Latency least limit) = codes "A1"
+argument_code (argument.Ports port) = codes "A2"
+argument_code (argument.Offset port) = codes "A2"
+argument_code (argument.LeftOut port) = codes "A3"
 
 abbrev pub table_code : TableFault → List ℕ
 table_code table.Memory = codes "memory"
@@ -90,6 +98,7 @@ network_code (network.Line port number name) = codes "R2"
 abbrev pub code_of : Failure → Option (List ℕ)
 code_of failure.Found = None
 code_of failure.Usage = Some (codes "usage")
+code_of (failure.Argument f) = Some (argument_code f)
 code_of (failure.Table refusal) = Some (table_code refusal)
 code_of (failure.Load f) = Some (rule_code f.rule)
 code_of (failure.Capture f) = Some (capture_code f)

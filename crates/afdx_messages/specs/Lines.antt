@@ -14,6 +14,8 @@ use Rattle.afdx_wiring.specs.declared.fault.NetworkFault.TheVariants as net
 use Rattle.afdx_wiring.specs.declared.fault.Short.{Short}
 use Rattle.afdx_wiring.specs.Lines.{as_line}
 use Rattle.afdx_wiring.specs.Names.{key_text as wiring_key_text, place_text as wiring_place_text}
+use Rattle.afdx_messages.specs.declared.argument.ArgumentFault.{ArgumentFault}
+use Rattle.afdx_messages.specs.declared.argument.ArgumentFault.TheVariants as argument
 use Rattle.afdx_messages.specs.declared.network_failure.JitterRule.{JitterRule}
 use Rattle.afdx_messages.specs.declared.network_failure.JitterRule.TheVariants as jitter
 use Rattle.afdx_messages.specs.declared.network_failure.NetworkFailure.{NetworkFailure}
@@ -22,6 +24,18 @@ use Rattle.afdx_messages.specs.declared.network_failure.NetworkFailure.TheVarian
 -- that memory ran out, wherever it did
 abbrev pub memory_text : List ℕ
 memory_text = codes "afdx: memory"
+
+-- ---- of an option that does not fit the table
+
+-- the refusal, and the option with its value: of a latency the microseconds, beside the most that it may have; else the port
+abbrev pub argument_text : ArgumentFault → List ℕ
+argument_text (argument.Latency least limit) = codes "afdx: argument A1 Latency, --least-latency " ++ decimal least ++ codes ", limit " ++ decimal limit
+argument_text (argument.Ports port) = codes "afdx: argument A2 NoSuchPort, --ports " ++ decimal port
+argument_text (argument.Offset port) = codes "afdx: argument A2 NoSuchPort, --offset " ++ decimal port
+argument_text (argument.LeftOut port) = codes "afdx: argument A3 LeftOut, --offset " ++ decimal port
+
+abbrev pub argument_line : ArgumentFault → List ℕ
+argument_line f = as_line (argument_text f)
 
 -- ---- of a table
 

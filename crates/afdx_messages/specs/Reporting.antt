@@ -5,7 +5,7 @@ use Rattle.afdx_messages.specs.declared.failure.Failure.{Failure}
 use Rattle.afdx_messages.specs.declared.failure.Failure.TheVariants as failure
 use Rattle.afdx_wiring.specs.Lines.{as_line}
 use Rattle.afdx_folder.specs.Output.{AppendsPrefix}
-use Rattle.afdx_messages.specs.Lines.{memory_text, table_line, capture_line, output_line, load_line, network_failure_line, network_status}
+use Rattle.afdx_messages.specs.Lines.{memory_text, argument_line, table_line, capture_line, output_line, load_line, network_failure_line, network_status}
 
 abbrev pub memory_line : List ℕ
 memory_line = as_line memory_text
@@ -14,6 +14,7 @@ memory_line = as_line memory_text
 abbrev pub line_of : Failure → List ℕ
 line_of failure.Found = []
 line_of failure.Usage = as_line (codes "afdx: usage")
+line_of (failure.Argument f) = argument_line f
 line_of (failure.Table refusal) = table_line refusal
 line_of (failure.Load f) = load_line f
 line_of (failure.Capture f) = capture_line None f
@@ -29,6 +30,7 @@ line_of failure.Memory = memory_line
 abbrev pub status_of : Failure → ℕ
 status_of failure.Found = 1
 status_of failure.Usage = 2
+status_of (failure.Argument f) = 2
 status_of (failure.Table refusal) = 3
 status_of (failure.Capture f) = 3
 status_of (failure.PortCapture port f) = 3

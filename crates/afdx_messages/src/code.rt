@@ -1,8 +1,9 @@
 //! The code of a failure: the word of its line under which MESSAGES has an entry.
 
 ghost use Rattle.std.specs.Prelude.{◌≡◌, option_map};
-ghost use Rattle.afdx_messages.specs.Codes.{table_code, capture_code, rule_code, fault_code, network_code, code_of, more_of};
+ghost use Rattle.afdx_messages.specs.Codes.{argument_code, table_code, capture_code, rule_code, fault_code, network_code, code_of, more_of};
 
+use crate::argument::ArgumentFault;
 use crate::failure::Failure;
 use crate::network_failure::{JitterRule, NetworkFailure};
 use afdx_load::Rule;
@@ -10,6 +11,17 @@ use afdx_pcap::PcapFault;
 use afdx_remedies::entry_of;
 use afdx_table::TableFault;
 use afdx_wiring::NetworkFault;
+
+/// Returns the code of an option that does not fit the table.
+fn argument_code(fault: ArgumentFault) -> &'static str
+    ensures { result.now ≡ argument_code fault }
+{
+    match fault {
+        ArgumentFault::Latency(_, _) => "A1",
+        ArgumentFault::Ports(_) | ArgumentFault::Offset(_) => "A2",
+        ArgumentFault::LeftOut(_) => "A3",
+    }
+}
 
 /// Returns the code of a table's refusal.
 fn table_code(refusal: TableFault) -> &'static str
@@ -115,6 +127,7 @@ fn code_of(failure: &Failure) -> Option<&'static str>
     let code = match failure {
         Failure::Found => return None,
         Failure::Usage => "usage",
+        Failure::Argument(fault) => argument_code(*fault),
         Failure::Table(refusal) => table_code(*refusal),
         Failure::Load(fault) => rule_code(fault.rule),
         Failure::Capture(fault)

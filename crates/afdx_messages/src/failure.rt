@@ -2,6 +2,7 @@
 
 ghost use Rattle.std.specs.Prelude.{◌≡◌};
 
+use crate::argument::ArgumentFault;
 use crate::network_failure::NetworkFailure;
 use afdx_alone::{AloneFault, ReadFault};
 use afdx_folder::WriteFault;
@@ -21,6 +22,9 @@ pub enum Failure {
     /// The arguments are refused.
     #[error("Usage")]
     Usage,
+    /// An option of `compare` does not fit the table, and this is the first.
+    #[error("Argument")]
+    Argument(ArgumentFault),
     /// The file of the table holds none, and this is its first refusal.
     #[error("Table")]
     Table(TableFault),

@@ -16,6 +16,7 @@
 //! ```
 #![tactic(auto)]
 
+mod argument;
 mod capture;
 mod code;
 mod failure;
@@ -25,6 +26,7 @@ mod network_failure;
 mod reporting;
 mod table;
 
+pub use argument::{ArgumentFault, argument_line};
 pub use capture::{capture_line, output_line};
 pub use failure::Failure;
 pub use load::load_line;

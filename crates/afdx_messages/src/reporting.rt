@@ -8,6 +8,7 @@ ghost use Rattle.afdx_messages.specs.Codes.{more_of};
 ghost use Rattle.afdx_messages.specs.Reporting.{line_of, memory_line, status_of, ReportsAs, IsTold};
 ghost use Rattle.afdx_wiring.specs.Lines.{as_line};
 
+use crate::argument::argument_line;
 use crate::capture::{capture_line, output_line};
 use crate::code::more_of;
 use crate::failure::Failure;
@@ -76,8 +77,9 @@ fn device_line(alloc: Global, call: &str, name: &str) -> Result<String, AllocErr
 
 /// Writes the line of a failure, or its lines, and if failures are explained what MESSAGES says of their code, as far as the writer
 /// takes them, and returns the failure's status: 1, without a line, if there was one of what a run is to fail on, or something speaks
-/// against a switch that was recorded, 2 for refused arguments, 3 for a refused table, network or capture, 4 for a refused load,
-/// refused jitters or a record that came too soon for a line, 5 for a device or memory. It also returns whether the writer took all of it.
+/// against a switch that was recorded, 2 for refused arguments or one that does not fit the table, 3 for a refused table, network or
+/// capture, 4 for a refused load, refused jitters or a record that came too soon for a line, 5 for a device or memory. It also returns
+/// whether the writer took all of it.
 ///
 /// Only a line with a number or a name takes memory. If that is refused, memory is the failure. O(line).
 pub fn report<E: Write>(alloc: Global, failure: &Failure, is_explained: bool, err: &mut E) -> Ending
@@ -93,6 +95,7 @@ pub fn report<E: Write>(alloc: Global, failure: &Failure, is_explained: bool, er
             is_told: true,
         },
         Failure::Usage => write_line(err, "afdx: usage\n", more, 2),
+        Failure::Argument(fault) => write_made(err, argument_line(alloc, *fault), more, memory, 2),
         Failure::Table(refusal) => write_made(err, table_line(alloc, *refusal), more, memory, 3),
         Failure::Capture(fault) => {
             write_made(err, capture_line(alloc, None, *fault), more, memory, 3)

@@ -1,7 +1,7 @@
 //! What MESSAGES says of each code. `docs/develop/remedies.py` writes this file; change docs/use/MESSAGES.md instead.
 
 /// The codes in the order of the page, each with its entry.
-pub(crate) const ENTRIES: [(&str, &str); 45] = [
+pub(crate) const ENTRIES: [(&str, &str); 48] = [
     (
         "usage",
         "usage: no command, an argument or option that is missing, unknown or given twice
@@ -9,6 +9,27 @@ pub(crate) const ENTRIES: [(&str, &str); 45] = [
 value out of range, a list of `--fail-on` with another word than `policed`,
 `filtered` and `lost` or with one twice, or a code that `explain` does not know
 Remedy: `afdx --help`, `afdx run --help`; `docs/use/FORMATS.md` has the ranges
+",
+    ),
+    (
+        "A1",
+        "A1 Latency: (`compare`) the option is above `latency_us` of the table, the
+limit: the most that the switch takes
+Remedy: mend one of the two
+",
+    ),
+    (
+        "A2",
+        "A2 NoSuchPort: (`compare`) `--ports` or `--offset` names a port that is not in
+the table
+Remedy: mend the number
+",
+    ),
+    (
+        "A3",
+        "A3 LeftOut: (`compare`) `--ports` leaves out the port that `--offset` names:
+nothing is read there
+Remedy: name the port in `--ports` too, or leave out its offset
 ",
     ),
     (

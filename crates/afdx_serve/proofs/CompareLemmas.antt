@@ -21,17 +21,20 @@ use Rattle.afdx_compare.specs.Found.{IsFound, IsFirstAt}
 use Rattle.afdx_folder.specs.Files.{Files, ShowsAll, IsOpened, KeepsFiles, PutsFiles, DeviceLog, one_more, settled_after}
 use Rattle.afdx_folder.specs.Input.{AreGiven}
 use Rattle.afdx_arguments.specs.declared.request.Compare.{Compare}
+use Rattle.afdx_messages.specs.declared.argument.ArgumentFault.{ArgumentFault}
 use Rattle.afdx_messages.specs.declared.failure.Failure.{Failure}
 use Rattle.afdx_messages.specs.declared.failure.Failure.TheVariants as failure
 use Rattle.afdx_serve.specs.Runs.{capture_name, HasTable, GetsNamed, FailsToGet, FailsToRead, FailsToPut}
-use Rattle.afdx_serve.specs.Compares.{scatter_of, HasVaryingTable, HasFaultyTable, output_names, recording_names, IsFoundUnder, IsFoundIn, rows_names, rows_texts, PutsRows, FailsToGetVarying}
-use Rattle.afdx_serve.specs.Compares.{IsFaultyUnder, FailsUnder, FailsToFind, StopsRows, EndsRows}
+use Rattle.afdx_serve.specs.Fits.{first_argument_fault}
+use Rattle.afdx_serve.specs.Compares.{scatter_of, HasFittingTable, HasVaryingTable, HasFaultyTable, HasUnfitTable, output_names, recording_names, IsFoundUnder, IsFoundIn, rows_names, rows_texts, PutsRows}
+use Rattle.afdx_serve.specs.Compares.{FailsToGetFitting, FailsToGetVarying, IsFaultyUnder, FailsUnder, FailsToFind, StopsRows, EndsRows}
 use Rattle.afdx_serve.specs.Inner.Leading.{AreOpened}
 use Rattle.afdx_serve.specs.Inner.NotGot.{FailsToGetNamed}
 use Rattle.afdx_csv.specs.declared.form.Form.{Form}
 use Rattle.afdx_serve.specs.Serving.{world, FailsToCompareAll}
 use Rattle.afdx_serve.proofs.CaptureLemmas.{StopsAt-before, EndsAt-before}
 use Rattle.afdx_serve.proofs.FileLemmas.{KeepsFiles-trans, PutsFiles-before, ShowsAll-before}
+use Rattle.afdx_serve.proofs.FitLemmas.{options_fit}
 use Rattle.afdx_serve.proofs.GivenLemmas.{GetsNamed-before, not_got_named}
 use Rattle.afdx_serve.proofs.LeadLemmas.{opened_shown}
 
@@ -201,7 +204,16 @@ under_before f names t r a b first before after keeps same h = absurd h
 
 -- ---- tables
 
-module _ (files : Option Files) (path : List ℕ) (r : Recordings) (t : Content) (scatter : ℕ) (found : Option LoadFault) (has : HasTable files path t) (is : scatter ≡ scatter_of t r)
+module _ (files : Option Files) (path : List ℕ) (r : Recordings) (t : Content) (found : Option ArgumentFault) (has : HasTable files path t) (is : found ≡ first_argument_fault t r) where
+  -- the options fit it
+  pub is_fitting : found ≡ None → HasFittingTable files path r t
+  is_fitting none = (has, options_fit t r (sym is ∙ none))
+
+  -- one does not
+  pub is_unfit : (fault : ArgumentFault) → found ≡ Some fault → HasUnfitTable files path r fault
+  is_unfit fault some = (t, has, sym is ∙ some)
+
+module _ (files : Option Files) (path : List ℕ) (r : Recordings) (t : Content) (scatter : ℕ) (found : Option LoadFault) (has : HasFittingTable files path r t) (is : scatter ≡ scatter_of t r)
     (same : found ≡ first_scattered_fault scatter t.latency t.links t.ports) where
   told : found ≡ first_scattered_fault (scatter_of t r) t.latency t.links t.ports
   told = same ∙ ap (λ (d : ℕ). first_scattered_fault d t.latency t.links t.ports) is
@@ -215,8 +227,17 @@ module _ (files : Option Files) (path : List ℕ) (r : Recordings) (t : Content)
   is_faulty fault some = (t, has, sym told ∙ some)
 
 -- a table was not got
-pub not_varying : (f : Failure) (files : Option Files) (path : List ℕ) (r : Recordings) (before after : DeviceLog) → FailsToRead f files path before after
+pub not_fitting : (f : Failure) (files : Option Files) (path : List ℕ) (r : Recordings) (before after : DeviceLog) → FailsToRead f files path before after
+    → FailsToGetFitting f files path r before after
+not_fitting (failure.Table e) files path r before after h = h
+not_fitting (failure.Get s) files path r before after h = h
+not_fitting failure.Memory files path r before after h = h
+not_fitting f files path r before after h = absurd h
+
+-- or the options do not fit it
+pub not_varying : (f : Failure) (files : Option Files) (path : List ℕ) (r : Recordings) (before after : DeviceLog) → FailsToGetFitting f files path r before after
     → FailsToGetVarying f files path r before after
+not_varying (failure.Argument e) files path r before after h = h
 not_varying (failure.Table e) files path r before after h = h
 not_varying (failure.Get s) files path r before after h = h
 not_varying failure.Memory files path r before after h = h
@@ -243,6 +264,7 @@ pub not_found : (form : Form) (f : Failure) (c : Compare) (r : Recordings) (a b 
     → FailsToFind f c r a first after → FailsToCompareAll f form c r (world w a first) (world v b after)
 not_found form failure.Found c r a b first after w v keeps none h = absurd (never_found c r a first after h)
 not_found form failure.Usage c r a b first after w v keeps none h = ((h, keeps), none)
+not_found form (failure.Argument e) c r a b first after w v keeps none h = ((h, keeps), none)
 not_found form (failure.Table e) c r a b first after w v keeps none h = ((h, keeps), none)
 not_found form (failure.Load e) c r a b first after w v keeps none h = ((h, keeps), none)
 not_found form (failure.Capture e) c r a b first after w v keeps none h = ((h, keeps), none)

@@ -1,5 +1,6 @@
 mod Errors
 mod FileLemmas
+mod FitLemmas
 pub mod JitterLemmas
 pub mod NetworkCheckLemmas
 pub mod CaptureLemmas

@@ -419,6 +419,7 @@ no_run form failure.Write paths a b first after keeps w v none h = absurd (never
 no_run form (failure.Put s) paths a b first after keeps w v none h = absurd (never_put paths.network.now paths.unchecked paths.input.now a first after s h)
 no_run form failure.Found paths a b first after keeps w v none h = ((h, keeps), none)
 no_run form failure.Usage paths a b first after keeps w v none h = ((h, keeps), none)
+no_run form (failure.Argument r) paths a b first after keeps w v none h = ((h, keeps), none)
 no_run form (failure.Table r) paths a b first after keeps w v none h = ((h, keeps), none)
 no_run form (failure.Load r) paths a b first after keeps w v none h = ((h, keeps), none)
 no_run form (failure.Capture r) paths a b first after keeps w v none h = ((h, keeps), none)

@@ -14,9 +14,11 @@ use Rattle.afdx_compare.specs.Sources.{sources_of}
 use Rattle.afdx_compare.specs.Found.{IsFound, IsFirstAt}
 use Rattle.afdx_compare.specs.Differences.{differences_of}
 use Rattle.afdx_arguments.specs.declared.request.Compare.{Compare}
+use Rattle.afdx_messages.specs.declared.argument.ArgumentFault.{ArgumentFault}
 use Rattle.afdx_messages.specs.declared.failure.Failure.{Failure}
 use Rattle.afdx_messages.specs.declared.failure.Failure.TheVariants as failure
 use Rattle.afdx_folder.specs.Files.{Files, ShowsAll, KeepsFiles, PutsFiles, DeviceLog, one_more, settled_after}
+use Rattle.afdx_serve.specs.Fits.{Fits, first_argument_fault}
 use Rattle.afdx_serve.specs.Runs.{capture_name, HasTable, GetsNamed, StopsAt, EndsAt, FailsToRead}
 
 -- ---- what is got
@@ -25,13 +27,21 @@ use Rattle.afdx_serve.specs.Runs.{capture_name, HasTable, GetsNamed, StopsAt, En
 abbrev pub scatter_of : Content → Recordings → ℕ
 scatter_of t r = t.latency - r.least
 
--- the file is the text of this table, which is accepted at a switch whose latency varies so
-abbrev pub HasVaryingTable : Option Files → List ℕ → Recordings → Content → Type 0
-HasVaryingTable files path r t = HasTable files path t × IsAcceptedWith (scatter_of t r) t
+-- the file is the text of this table, which the options fit
+abbrev pub HasFittingTable : Option Files → List ℕ → Recordings → Content → Type 0
+HasFittingTable files path r t = HasTable files path t × Fits t r
 
--- the file is the text of a table that is not; this is the first fault
+-- and which is accepted at a switch whose latency varies so
+abbrev pub HasVaryingTable : Option Files → List ℕ → Recordings → Content → Type 0
+HasVaryingTable files path r t = HasFittingTable files path r t × IsAcceptedWith (scatter_of t r) t
+
+-- or which is not; this is the first fault
 abbrev pub HasFaultyTable : Option Files → List ℕ → Recordings → LoadFault → Type 0
-HasFaultyTable files path r fault = (t : Content) × HasTable files path t × (first_scattered_fault (scatter_of t r) t.latency t.links t.ports ≡ Some fault)
+HasFaultyTable files path r fault = (t : Content) × HasFittingTable files path r t × (first_scattered_fault (scatter_of t r) t.latency t.links t.ports ≡ Some fault)
+
+-- the file is the text of a table that the options do not fit; this is the first that does not
+abbrev pub HasUnfitTable : Option Files → List ℕ → Recordings → ArgumentFault → Type 0
+HasUnfitTable files path r fault = (t : Content) × HasTable files path t × (first_argument_fault t r ≡ Some fault)
 
 -- the names of what was recorded at output ports, by rising number
 abbrev pub output_names : List ℕ → Outputs → List PortRow → List (List ℕ)
@@ -77,10 +87,15 @@ PutsRows c r old new before after from until found =
 
 -- ---- why nothing is found out, and the failures before and after
 
--- there is no such table
+-- there is no table that the options fit
+abbrev pub FailsToGetFitting : Failure → Option Files → List ℕ → Recordings → DeviceLog → DeviceLog → Type 0
+FailsToGetFitting (failure.Argument fault) files path r before after = HasUnfitTable files path r fault × (after ≡ before)
+FailsToGetFitting f files path r before after = FailsToRead f files path before after
+
+-- or none of a switch whose latency varies so
 abbrev pub FailsToGetVarying : Failure → Option Files → List ℕ → Recordings → DeviceLog → DeviceLog → Type 0
 FailsToGetVarying (failure.Load fault) files path r before after = HasFaultyTable files path r fault × (after ≡ before)
-FailsToGetVarying f files path r before after = FailsToRead f files path before after
+FailsToGetVarying f files path r before after = FailsToGetFitting f files path r before after
 
 -- of the files under these names, that of what left, or of what came, at a port is the first that is no capture, and has this fault
 pub record IsFaultyUnder (names : List (List ℕ)) (t : Content) (r : Recordings) (files : Option Files) (leaves : Bool) (port : ℕ) (why : PcapFault) : Type 0 where

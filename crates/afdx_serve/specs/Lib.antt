@@ -1,5 +1,6 @@
 pub mod Checks
 pub mod Compares
+pub mod Fits
 pub mod Inner
 pub mod Measures
 pub mod NetworkChecks

@@ -7,10 +7,12 @@ ghost use Rattle.afdx_compare.specs.Sources.{sources_of};
 ghost use Rattle.afdx_compare.specs.Found.{IsCompareFault};
 ghost use Rattle.afdx_folder.specs.Files.{Files, KeepsFiles, PutsFiles, settled_after};
 ghost use Rattle.afdx_serve.specs.Runs.{FailsToPut};
-ghost use Rattle.afdx_serve.specs.Compares.{scatter_of, HasVaryingTable, output_names, names_of, recording_names, IsFoundUnder, rows_name, rows_names, rows_texts, FailsToGetVarying, FailsUnder};
+ghost use Rattle.afdx_serve.specs.Compares.{HasFittingTable, FailsToGetFitting, HasVaryingTable, FailsToGetVarying, scatter_of};
+ghost use Rattle.afdx_serve.specs.Compares.{output_names, names_of, recording_names, IsFoundUnder, rows_name, rows_names, rows_texts, FailsUnder};
 ghost use Rattle.afdx_serve.specs.Inner.Leading.{AreOpened};
 ghost use Rattle.afdx_serve.specs.Serving.{world, Compares, FailsToCompareAll};
 
+use crate::fitting::first_argument_fault;
 use crate::get::{get_table, open_all, unread_failure};
 use crate::names::{capture_name, name_in, port_names};
 use crate::outputs::put_texts;
@@ -34,7 +36,26 @@ fn scatter_of(table: &Table, recordings: &Recordings) -> u64
     table.latency().saturating_sub(recordings.least)
 }
 
-/// Gets the table of a file, and checks its load at a switch whose latency varies down to the least.
+/// Gets the table of a file, which the options have to fit.
+fn get_fitting<F: Folder>(
+    alloc: Global,
+    path: &str,
+    recordings: &Recordings,
+    folder: &mut F,
+) -> Result<Table, Failure>
+    ensures got { MatchResult result
+        (λ table. HasFittingTable (F.files folder.old) path.now recordings.now table × (F.failed folder.new ≡ F.failed folder.old))
+        (λ f. FailsToGetFitting f (F.files folder.old) path.now recordings.now (F.failed folder.old) (F.failed folder.new)) }
+    ensures same { KeepsFiles (F.files folder.old) (F.files folder.new) }
+{
+    let table = get_table(alloc, folder, path)?;
+    match first_argument_fault(&table, recordings) {
+        Some(fault) => Err(Failure::Argument(fault)),
+        None => Ok(table),
+    }
+}
+
+/// Gets the table of a file, which the options have to fit, and checks its load at a switch whose latency varies down to the least.
 fn get_varying<F: Folder>(
     alloc: Global,
     path: &str,
@@ -47,7 +68,7 @@ fn get_varying<F: Folder>(
     ensures same { KeepsFiles (F.files folder.old) (F.files folder.new) }
 {
     accepted_has_no_scattered_fault();
-    let table = get_table(alloc, folder, path)?;
+    let table = get_fitting(alloc, path, recordings, folder)?;
     match first_scattered_fault(&table, scatter_of(&table, recordings)) {
         Some(fault) => Err(Failure::Load(fault)),
         None => Ok(table),
@@ -192,14 +213,16 @@ fn put_rows<F: Folder>(
 /// Compares recordings of a switch with what is proved of this one, puts each difference if asked for, and writes what was found out, in this
 /// form.
 ///
-/// The table is got first and its load checked, as for a switch whose latency varies from the least to the table's. Then the captures of
-/// what came are opened, and those of what left, each by rising port; each is read once, in pieces. If one cannot be read or has a
-/// fault, the others are read on to their ends, so that the failure is the first in this order. The report's text is made before the put.
+/// The table is got first. The options have to fit it: its latency is no less than the least, it has the ports that were recorded by name,
+/// and what is added to stamps is added at ports that were recorded. Then its load is checked, as for a switch whose latency varies from
+/// the least to the table's. Then the captures of what came are opened, and those of what left, each by rising port; each is read once,
+/// in pieces. If one cannot be read or has a fault, the others are read on to their ends, so that the failure is the first in this order.
+/// The report's text is made before the put.
 ///
 /// # Errors
 ///
-/// What is met first: `Get` of the table, `Table`, `Load`, `Get` of a capture, `PortCapture`, `OutputCapture`, `Put`, `Write`; `Found`
-/// if something speaks against the switch, and all else was done; `Memory` if memory ran out.
+/// What is met first: `Get` of the table, `Table`, `Argument`, `Load`, `Get` of a capture, `PortCapture`, `OutputCapture`, `Put`, `Write`;
+/// `Found` if something speaks against the switch, and all else was done; `Memory` if memory ran out.
 ///
 /// O(bytes of the captures), with what `compare` of `afdx_compare` does for each record.
 pub(crate) fn compare<O: Write, F: Folder>(

@@ -19,6 +19,7 @@
 mod check;
 mod compare;
 mod explain;
+mod fitting;
 mod forms;
 mod gathering;
 mod get;

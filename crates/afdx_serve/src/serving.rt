@@ -99,8 +99,9 @@ fn serve_arguments<R: Read, O: Write, F: Folder>(
 }
 
 /// Serves what the arguments ask for, of which the first is the program's name, and returns how it ended. The status is 0 done,
-/// 1 done with one of what a run is to fail on or with what speaks against a switch that was recorded, 2 refused arguments, 3 a
-/// refused table, network or capture, 4 a refused load or jitter or a record that came too soon for a line, 5 memory or a device.
+/// 1 done with one of what a run is to fail on or with what speaks against a switch that was recorded, 2 refused arguments, also if they
+/// do not fit the table, 3 a refused table, network or capture, 4 a refused load or jitter or a record that came too soon for a line,
+/// 5 memory or a device.
 ///
 /// `afdx alone` reads `input` to its end and writes its answer on `out`. `afdx check TABLE` and `afdx size TABLE` get TABLE
 /// from `folder` and write their lines on `out`. `afdx run TABLE IN OUT` gets TABLE, checks its load unless there is
@@ -108,9 +109,9 @@ fn serve_arguments<R: Read, O: Write, F: Folder>(
 /// verdict as the last line if there is `--verdict`. `afdx measure TABLE IN` does so too, but puts nothing and writes what
 /// delays and buffers were. `afdx survey TABLE IN` writes the report and these, and when links were policed. `afdx trace TABLE
 /// IN OUT` puts OUT/arrivals.csv and OUT/departures.csv in place of the captures, with the lines of the links of `--link` alone
-/// if there is one, and writes nothing. `afdx compare TABLE IN OUT` gets TABLE, checks its load as of a switch whose latency varies,
-/// gets IN/port-1.pcap and so on, and OUT/port-1.pcap and so on of the ports that were recorded, puts FOLDER/differences.csv if there is
-/// `--rows FOLDER`, and writes what it found out.
+/// if there is one, and writes nothing. `afdx compare TABLE IN OUT` gets TABLE, which its options have to fit, checks its load as of a
+/// switch whose latency varies, gets IN/port-1.pcap and so on, and OUT/port-1.pcap and so on of the ports that were recorded, puts
+/// FOLDER/differences.csv if there is `--rows FOLDER`, and writes what it found out.
 ///
 /// `afdx network check NET`, `afdx network size NET` and `afdx network jitter NET` get NET and the tables that it names and write their
 /// lines. `afdx network run NET IN OUT` gets IN/A/port-1.pcap and so on for each switch A, puts OUT/A/port-1.pcap and so on and writes

@@ -26,11 +26,17 @@ returns-in-Memory-clause-reported g c =
     rw c.in-Memory.is (rw c.write_line-in-Memory.ensures.status
     (said failure.Memory _ _ _ _ _ _ _ refl refl c.more_of-memory.ensures c.write_line-in-Memory.ensures.line))
 
+pub returns-in-Argument-clause-reported : goal.returns-in-Argument-clause-reported
+returns-in-Argument-clause-reported g c =
+    rw c.in-Argument.is (
+    made (failure.Argument c.in-Argument.fault) _ _ _ _ _ _ _ _ _ tt c.argument_line.ensures refl
+    (rw c.in-Argument.is at c.more_of-more.ensures) c.more_of-memory.ensures c.write_made.ensures)
+
 pub returns-in-Table-clause-reported : goal.returns-in-Table-clause-reported
 returns-in-Table-clause-reported g c =
     rw c.in-Table.is (
     made (failure.Table c.in-Table.refusal) _ _ _ _ _ _ _ _ _ tt c.table_line.ensures refl
-    (rw c.in-Table.is at c.more_of-more.ensures) c.more_of-memory.ensures c.write_made.ensures)
+    (rw c.in-Table.is at c.more_of-more.ensures) c.more_of-memory.ensures c.write_made-in-Table.ensures)
 
 pub returns-in-Capture-clause-reported : goal.returns-in-Capture-clause-reported
 returns-in-Capture-clause-reported g c =
