@@ -34,7 +34,7 @@ is_missing t r port = is_named r port && lacks t port
 abbrev pub is_stray : Content → Recordings → ℕ → Bool
 is_stray t r port = is_moved r port && (lacks t port || not (is_recorded r.outputs port))
 
--- the table has the ports that are named, offsets are of ports that were recorded, and the least latency is not above the table's
+-- the least latency is not above the table's, the table has the ports that are named, and offsets are of ports that were recorded
 pub record Fits (t : Content) (r : Recordings) : Type 0 where
   pub least : r.least ≤ t.latency
   pub ports : list_any (is_missing t r) port_numbers ≡ false
