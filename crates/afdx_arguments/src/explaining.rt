@@ -4,7 +4,7 @@ ghost use Rattle.std.specs.Prelude.{◌≡◌, ℕ, List, false, map, string_byt
 ghost use Rattle.clap.specs.Words.{app_of, found_of, rows_of};
 ghost use Rattle.clap.specs.declared.builder.command.Command.TheViews.{out-Command};
 ghost use Rattle.afdx_arguments.specs.Commands.{explain_app};
-ghost use Rattle.afdx_arguments.specs.Explaining.{HasEntry, is_explained, plain_of};
+ghost use Rattle.afdx_arguments.specs.Explaining.{HasEntry, is_flag_at, is_explained, plain_of};
 
 use crate::arguments::argument;
 use crate::command::{path, with_no_arguments};
@@ -40,24 +40,33 @@ pub(crate) fn entry_asked(matches: &ArgMatches<'_>) -> Option<&'static str>
     entry_of(code)
 }
 
-/// Returns whether the first argument after the program's name is `--explain`: after the line of a failure its entry is wanted too. O(1).
-pub fn is_explained(arguments: &[String]) -> bool
-    ensures { result ≡ is_explained (map string_bytes arguments.now) }
+/// Returns whether the argument at a place is `--explain`.
+fn is_flag_at(arguments: &[String], place: usize) -> bool
+    ensures { result ≡ is_flag_at place (map string_bytes arguments.now) }
 {
-    match arguments.get(1) {
+    match arguments.get(place) {
         Some(argument) => argument.as_str() == "--explain",
         None => false,
     }
 }
 
+/// Returns whether the first argument after the program's name is `--explain`: after the line of a failure its entry is wanted too. O(1).
+pub fn is_explained(arguments: &[String]) -> bool
+    ensures { result ≡ is_explained (map string_bytes arguments.now) }
+{
+    is_flag_at(arguments, 1)
+}
+
 /// Returns the arguments that ask for a command: those from `--explain` on, if it is the first after the program's name. It stands
-/// then in the place of that name, which nothing reads. O(1).
+/// then in the place of that name, which nothing reads. If it is there twice, all are returned, which `clap` refuses. O(1).
 pub fn plain_of(arguments: &[String]) -> &[String]
     ensures { map string_bytes result.now ≡ plain_of (map string_bytes arguments.now) }
 {
-    if is_explained(arguments) {
-        &arguments[1..]
-    } else {
-        arguments
+    if !is_explained(arguments) {
+        return arguments;
     }
+    if is_flag_at(arguments, 2) {
+        return arguments;
+    }
+    &arguments[1..]
 }

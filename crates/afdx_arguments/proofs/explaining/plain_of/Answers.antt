@@ -1,9 +1,12 @@
 use Rattle.std.proofs.Common.{sym, ◌∙◌}
-use Rattle.afdx_arguments.proofs.ExplainingLemmas.{without_flag, with_all}
+use Rattle.afdx_arguments.proofs.ExplainingLemmas.{without_flag, with_none, with_both}
 use Rattle.afdx_arguments.proofs.explaining.plain_of.Goals as goal
 
-pub returns-then-is_explained : goal.returns-then-is_explained
-returns-then-is_explained c = without_flag c.args.arguments.now (sym c.is_explained.ensures ∙ c.if-is_explained.true)
+pub returns-then-not-is_explained : goal.returns-then-not-is_explained
+returns-then-not-is_explained c = with_none c.args.arguments.now (sym c.is_explained.ensures ∙ c.if-not-is_explained.true)
 
-pub returns-else-is_explained : goal.returns-else-is_explained
-returns-else-is_explained c = with_all c.args.arguments.now (sym c.is_explained.ensures ∙ c.if-is_explained.false)
+pub returns-then-is_flag_at : goal.returns-then-is_flag_at
+returns-then-is_flag_at c = with_both c.args.arguments.now (sym c.is_flag_at.ensures ∙ c.if-is_flag_at.true)
+
+pub returns : goal.returns
+returns c = without_flag c.args.arguments.now (sym c.is_explained.ensures ∙ c.if-not-is_explained.false) (sym c.is_flag_at.ensures ∙ c.if-is_flag_at.false)
