@@ -3,7 +3,7 @@
 use afdx_alone::AloneFault;
 use afdx_folder::FolderFault;
 use afdx_load::{LoadFault, Rule};
-use afdx_messages::{Failure, report};
+use afdx_messages::{ArgumentFault, Failure, report};
 use afdx_pcap::PcapFault;
 use afdx_table::TableFault;
 use std::alloc::{AllocError, Global};
@@ -66,10 +66,12 @@ fn inputs_are_named(alloc: Global) -> Result<bool, AllocError> {
 fn others_are_named(alloc: Global) -> Result<bool, AllocError> {
     let found = is_named(alloc, Failure::Found, "Found")?;
     let usage = is_named(alloc, Failure::Usage, "Usage")?;
+    let misfit = Failure::Argument(ArgumentFault::Ports(3));
+    let argument = is_named(alloc, misfit, "Argument")?;
     let read = is_named(alloc, Failure::Read, "Read")?;
     let write = is_named(alloc, Failure::Write, "Write")?;
     let memory = is_named(alloc, Failure::Memory, "Memory")?;
-    Ok(found && usage && read && write && memory)
+    Ok(found && usage && argument && read && write && memory)
 }
 
 #[test]
