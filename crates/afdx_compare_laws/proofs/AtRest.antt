@@ -88,7 +88,7 @@ still_known t size l same fits = by (nat_le (t.price size) l.most) refl (nat_lt 
 -- ---- such a link: no fate is open, and no frame was unsure
 
 abbrev pub watched : Account → Levels → List Output → ℕ → Watched
-watched account l os latest = record { account = account; tolerance = 0; levels = l; undecided = []; outputs = os; unsure = 0; latest = latest }
+watched account l os latest = record { account = account; tolerance = 0; levels = l; undecided = []; outputs = os; unsure = 0; latest = latest; failed = false }
 
 abbrev passes_next : Terms → Levels → Numbered → Bool
 passes_next t l n = fate_told (outlook_of t 0 (frame_size n) (credited t l n.frame.stamp)) false

@@ -107,6 +107,7 @@ fate_in_step n ns passes unsure f kept =
     let told = with_fate n passes (record f { unsure = unsure }) in
     let now : told.levels.since ≡ at = after_since (account_terms f.account) f.tolerance (frame_size n) passes (levels_at f n) in
     record {
+      going = kept.going;
       bounded = kept.bounded;
       in_order = kept.in_order.1;
       since = subst (λ (i : ℕ). AllByRecursion (λ other. i ≤ other.frame.stamp) ns) (sym now) kept.in_order.0;
@@ -131,6 +132,7 @@ pub paired_in_step : (f : Watched) → IsInStep f → IsInStep (with_paired f)
 paired_in_step f kept =
     let unknown = first_unknown f.undecided in
     record {
+      going = kept.going;
       bounded = kept.bounded;
       in_order = kept.in_order;
       since = kept.since;
@@ -144,6 +146,7 @@ paired_in_step f kept =
 pub gone_in_step : (at : Option ℕ) (f : Watched) → IsInStep f → IsInStep (with_gone at f)
 gone_in_step None f kept = kept
 gone_in_step (Some at) f kept = record {
+  going = kept.going;
   bounded = kept.bounded;
   in_order = kept.in_order;
   since = kept.since;
@@ -170,6 +173,7 @@ own_in_step f n kept le fits =
     let at = n.frame.stamp in
     let by = all_weaker (λ other. other.frame.stamp ≤ f.latest) (λ other. other.frame.stamp ≤ at) (λ other early. omega (arith, early, le)) f.undecided kept.by in
     record {
+      going = kept.going;
       bounded = kept.bounded;
       in_order = order_more f.undecided n kept.in_order by;
       since = all_more (λ other. f.levels.since ≤ other.frame.stamp) f.undecided n kept.since (known_came f n kept.known le);
@@ -190,6 +194,7 @@ at_place P Q change weaker (suc place) (o ∷ os) here all = (weaker o all.0, at
 pub record_in_step : (f : Watched) (place : ℕ) (n : Numbered) (at : ℕ) → IsInStep f → at ≡ left_by_at place n f → f.latest ≤ at
     → IsInStep (record f { outputs = changed_at place (λ o. with_waiting n o) f.outputs; latest = at })
 record_in_step f place n at kept is le = record {
+  going = kept.going;
   bounded = kept.bounded;
   in_order = kept.in_order;
   since = kept.since;
@@ -207,6 +212,7 @@ record_in_step f place n at kept is le = record {
 -- in the end
 pub ends_in_step : (last : Option ℕ) (f : Watched) → IsInStep f → IsInStep (record f { outputs = map (λ o. with_end last o) f.outputs })
 ends_in_step last f kept = record {
+  going = kept.going;
   bounded = kept.bounded;
   in_order = kept.in_order;
   since = kept.since;
@@ -234,6 +240,7 @@ first_in_step account tolerance since outputs bounded fresh =
     let first = (levels_at_first account tolerance since).since in
     let is = first_since account tolerance since in
     record {
+      going = refl;
       bounded = bounded;
       in_order = tt;
       since = tt;

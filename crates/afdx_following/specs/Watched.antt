@@ -1,5 +1,5 @@
 -- Which frames of a link its account passed, and what left of them at its ports (profile).
-use Rattle.std.specs.Prelude.{ℕ, zero, suc, ◌≤◌, Bool, true, List, [], ◌∷◌, ◌++◌, map, length, Option, Some, None, slice_get, if◌then◌else◌}
+use Rattle.std.specs.Prelude.{◌≡◌, ℕ, zero, suc, ◌≤◌, Bool, true, false, List, [], ◌∷◌, ◌++◌, map, length, Option, Some, None, slice_get, if◌then◌else◌}
 use Rattle.std.specs.List.{list_all, list_any}
 use Rattle.std.specs.Option.{option_map_or}
 use Rattle.afdx_units.specs.Line.{size_of}
@@ -13,7 +13,7 @@ use Rattle.afdx_following.specs.Output.{Output, has, is_over, left_by, stamped_b
 use Rattle.afdx_following.specs.Tally.{up, conforms_in}
 
 -- a link that is watched: how it is policed and by how much stamps may be off, what is known of its account's level, the frames of which the
--- fate is not told yet, its ports, how many frames were unsure, and the instant of the last that was taken
+-- fate is not told yet, its ports, how many frames were unsure, the instant of the last that was taken, and whether a call has failed
 pub record Watched : Type 0 where
   pub account : Account
   pub tolerance : ℕ
@@ -22,6 +22,7 @@ pub record Watched : Type 0 where
   pub outputs : List Output
   pub unsure : ℕ
   pub latest : ℕ
+  pub failed : Bool
 
 -- what is known of the account at first: it was full, or nothing is known of it at an instant
 abbrev pub levels_at_first : Account → ℕ → Option ℕ → Levels
@@ -37,6 +38,7 @@ at_first account tolerance since outputs = record {
   outputs = outputs;
   unsure = 0;
   latest = option_map_or (λ at. at) since 0;
+  failed = false;
 }
 
 -- nothing speaks against the switch
@@ -141,3 +143,10 @@ with_record place n f =
 -- the end: records were recorded up to an instant, or all had left
 abbrev pub with_ends : Option ℕ → Watched → Watched
 with_ends last f = let all = settled_by None f in record all { outputs = map (λ o. with_end last o) all.outputs }
+
+-- ---- what stands after an error
+
+-- a call has failed: nothing else is said of the link, but if one had failed before, nothing has changed
+pub record HasFailed (old new : Watched) : Type 0 where
+  pub failed : new.failed ≡ true
+  pub same : old.failed ≡ true → new ≡ old

@@ -1,10 +1,10 @@
 //! A link at all its output ports.
 
-ghost use Rattle.std.specs.Prelude.{◌≡◌, ◌==◌, ◌≤◌, ◌<◌, nat_le, true, false, length, option_map, slice_get, IfSome, OnOk};
+ghost use Rattle.std.specs.Prelude.{◌≡◌, ◌==◌, ◌≤◌, ◌<◌, nat_le, true, false, length, option_map, slice_get, IfSome, OnErr, OnOk};
 ghost use Rattle.std.specs.List.{AllByRecursion, position};
 ghost use Rattle.afdx_account.specs.Account.{account_terms};
 ghost use Rattle.afdx_following.specs.Output.{IsFresh, left_by};
-ghost use Rattle.afdx_following.specs.Watched.{at_first, conforms, frame_size, Fits, with_own, left_by_at, with_record, with_ends};
+ghost use Rattle.afdx_following.specs.Watched.{at_first, conforms, frame_size, Fits, with_own, left_by_at, with_record, with_ends, HasFailed};
 
 use crate::output::Output;
 use crate::watched::Watched;
@@ -19,8 +19,10 @@ use std::marker::Model;
 /// frames by the instants at which they came, records by the latest instants at which they left by the stamps (profile).
 ///
 /// It tells by what is known of the account which frames were passed; an unsure one was passed if a record within its bounds has its bytes, at any
-/// port. It holds the frames of the last two bounds, and the records that wait for one, of one bound. Once a call fails, as it does if
-/// memory runs out, all later ones fail.
+/// port. It holds the frames of the last two bounds, and the records that wait for one, of one bound.
+///
+/// Once [`Following::came`], [`Following::left`] or [`Following::end`] fails, as it does if memory runs out, nothing is said of what it has noted:
+/// all later ones of these calls fail, and change nothing. Contracts see whether one has failed.
 #[derive(Drop)]
 pub struct Following<'a, A: Allocator> {
     link: Watched<'a, A>,
@@ -34,7 +36,7 @@ impl<'a, A: Allocator> Model for Following<'a, A> {
 
     ghost Value = { Seen };
 
-    ghost view = { λ f. f.link };
+    ghost view = { λ f. record f.link { failed = f.failed } };
 
     ghost invariant = { λ f. f.failed ≡ false → IsInStep f.link };
 }
@@ -110,7 +112,9 @@ impl<'a, A: Allocator + Copy> Following<'a, A> {
     pub fn came(&mut self, frame: Numbered<'a, A>) -> Result<(), AllocError>
         requires in_order { self.old.latest ≤ frame.frame.stamp }
         requires fits { Fits self.old.account frame }
-        ensures { OnOk result (self.new ≡ with_own frame.entry self.old) }
+        ensures going { OnOk result (self.old.failed ≡ false) }
+        ensures ok { OnOk result (self.new ≡ with_own frame.entry self.old) }
+        ensures err { OnErr result (HasFailed self.old self.new) }
     {
         begin(&mut self.failed)?;
         self.link.came(frame)?;
@@ -133,7 +137,9 @@ impl<'a, A: Allocator + Copy> Following<'a, A> {
     pub fn left(&mut self, place: usize, left: Numbered<'a, A>) -> Result<(), AllocError>
         requires place { place < length self.old.outputs }
         requires in_order { self.old.latest ≤ left_by_at place left self.old }
-        ensures { OnOk result (self.new ≡ with_record place left.entry self.old) }
+        ensures going { OnOk result (self.old.failed ≡ false) }
+        ensures ok { OnOk result (self.new ≡ with_record place left.entry self.old) }
+        ensures err { OnErr result (HasFailed self.old self.new) }
     {
         begin(&mut self.failed)?;
         self.link.left(place, left)?;
@@ -144,7 +150,9 @@ impl<'a, A: Allocator + Copy> Following<'a, A> {
     /// Ends the link once all frames and records were taken. Records were recorded up to an instant in nanoseconds or, if there is none, all had
     /// left. O(bytes, log of what is held) for each frame and each record that is held.
     pub fn end(&mut self, last: Option<u64>) -> Result<(), AllocError>
-        ensures { OnOk result (self.new ≡ with_ends last self.old) }
+        ensures going { OnOk result (self.old.failed ≡ false) }
+        ensures ok { OnOk result (self.new ≡ with_ends last self.old) }
+        ensures err { OnErr result (HasFailed self.old self.new) }
     {
         begin(&mut self.failed)?;
         self.link.end(last)?;

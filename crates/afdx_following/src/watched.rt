@@ -39,6 +39,7 @@ pub(crate) struct Watched<'a, A: Allocator> {
 }
 
 impl<'a, A: Allocator> Model for Watched<'a, A> {
+    ghost use Rattle.std.specs.Prelude.{false};
     ghost use Rattle.afdx_following.specs.Watched.{Watched as Seen};
 
     ghost Value = { Seen };
@@ -51,6 +52,7 @@ impl<'a, A: Allocator> Model for Watched<'a, A> {
       outputs = f.outputs.items;
       unsure = f.unsure;
       latest = f.latest;
+      failed = false;
     } };
 }
 

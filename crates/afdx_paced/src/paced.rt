@@ -1,6 +1,6 @@
 //! A switch that is fed by time.
 
-ghost use Rattle.std.specs.Prelude.{◌≡◌, ◌<◌, ◌≤◌, ◌||◌, nat_lt, max, false, None, IfOk, IfErr, OnOk, OnErr};
+ghost use Rattle.std.specs.Prelude.{◌≡◌, ◌<◌, ◌≤◌, ◌||◌, nat_lt, max, true, false, None, IfOk, IfErr, OnOk, OnErr};
 ghost use Rattle.afdx_units.specs.Time.{last_second};
 ghost use Rattle.afdx_count.specs.Run.{counts_of};
 ghost use Rattle.afdx_measure.specs.Wanted.{keeps_lists};
@@ -144,11 +144,13 @@ impl<'a, A: Allocator + Copy> Paced<'a, A> {
     /// Lets the switch come to an instant: it takes what came in before it, by stamp and then by port, and carries out the starts before the
     /// instant that it reaches, one latency later.
     ///
-    /// O(ports), and O(1) for each record that it takes, beside the switch's own work. If memory runs out, it is of no use any more.
+    /// An error says that memory ran out: it has failed then, and no call follows. O(ports), and O(1) for each record that it takes, beside the
+    /// switch's own work.
     pub fn go_to(&mut self, instant: Stamp) -> Result<(), AllocError>
         requires going { self.old.failed ≡ false }
         requires in_order { self.old.reached ≤ instant }
-        ensures { OnOk result (self.new ≡ after_going instant self.old) }
+        ensures ok { OnOk result (self.new ≡ after_going instant self.old) }
+        ensures err { OnErr result (self.new.failed ≡ true) }
     {
         self.failed = true;
         self.feeder.come_to(self.reached, instant)?;

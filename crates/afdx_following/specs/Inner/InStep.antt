@@ -1,5 +1,5 @@
 -- What a watched link keeps between its calls.
-use Rattle.std.specs.Prelude.{ℕ, ◌≤◌, List, [], ◌∷◌}
+use Rattle.std.specs.Prelude.{◌≡◌, ℕ, ◌≤◌, false, List, [], ◌∷◌}
 use Rattle.std.specs.List.{AllByRecursion}
 use Rattle.afdx_pairing.specs.Events.{Numbered}
 use Rattle.afdx_following.specs.Output.{Output, HasComeBy, left_by}
@@ -14,9 +14,10 @@ ComeInOrder (n ∷ ns) = AllByRecursion (λ other. n.frame.stamp ≤ other.frame
 abbrev pub WaitsBy : ℕ → Output → Type 0
 WaitsBy at o = AllByRecursion (λ n. left_by n o ≤ at) o.waiting
 
--- frames of which the fate is not told came in order, after those of which it was told, and may be sent; nothing came or left after the last
--- that was taken
+-- no call has failed; frames of which the fate is not told came in order, after those of which it was told, and may be sent; nothing came or
+-- left after the last that was taken
 pub record IsInStep (f : Watched) : Type 0 where
+  pub going : f.failed ≡ false
   pub bounded : f.tolerance ≤ 1000000000
   pub in_order : ComeInOrder f.undecided
   pub since : AllByRecursion (λ n. f.levels.since ≤ n.frame.stamp) f.undecided

@@ -47,4 +47,4 @@ returns g c =
     let may = may_come f link n sound (is_own c.clean_frames_have_a_link.ensures c.links_are_at_their_places.ensures f.table port n.frame link named) (turn has) in
     let get = item_there f.links link old may.within c.index_mut.ensures.value in
     IfOk-weaker c.came.result (λ u. new ≡ with_own m old) (λ u. record f { links = set f.links link new } ≡ with_came port n c.args.self.now)
-    (λ u is. came_made f port n m link old new has named get c.in_ok-came.ensures is ∙ ap (λ (x : Comparison). with_came port n x) c.self.view_is) c.came.ensures
+    (λ u is. came_made f port n m link old new has named get c.in_ok-came.ensures is ∙ ap (λ (x : Comparison). with_came port n x) c.self.view_is) c.came.ensures.ok

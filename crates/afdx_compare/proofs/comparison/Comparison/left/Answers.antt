@@ -72,7 +72,7 @@ returns-in_ok-left-in-Some g c =
     let seen : ports ≡ set f.ports s.place (with_seen p) = ap (λ (x : Port). set f.ports s.place x) c.note_seen.ensures in
     IfOk-weaker c.left.result (λ u. new ≡ with_record output m old) (λ u. record f { links = set f.links link new; ports = ports } ≡ with_left s n c.args.self.now)
     (λ u made. left_made f s n m link output old new p ports has is there seen (item_there f.links link old may.within c.index_mut-in-Some.ensures.value) c.in_ok-left-in-Some.ensures made
-    ∙ ap (λ (x : Comparison). with_left s n x) c.self.view_is) c.left.ensures
+    ∙ ap (λ (x : Comparison). with_left s n x) c.self.view_is) c.left.ensures.ok
 
 pub index_mut-requires-in-None : goal.index_mut-requires-in-None
 index_mut-requires-in-None g c =

@@ -1,4 +1,4 @@
-use Rattle.std.proofs.Common.{◌≤◌, sym, ap, subst, ◌∙◌}
+use Rattle.std.proofs.Common.{◌≤◌, false, sym, ap, subst, ◌∙◌}
 use Rattle.std.proofs.lemmas.Result.{IfOk-equal}
 use Rattle.afdx_following.specs.Watched.{Watched, Fits, with_own}
 use Rattle.afdx_following.specs.Inner.InStep.{IsInStep}
@@ -16,6 +16,7 @@ settle-requires g c =
       outputs = i.outputs.items;
       unsure = i.unsure;
       latest = i.latest;
+      failed = false;
     } in
     own_made_in_step f c.args.frame c.push_back.new.self.items c.from-at.result c.in_ok-push_back.ensures.items (c.from-at.ensures ∙ c.ns.ensures.same ∙ c.stamp.ensures)
     (subst (λ (x : Watched). IsInStep x) (sym c.self.view_is) c.requires.in_step)
@@ -33,6 +34,7 @@ returns-clause-ok g c =
       outputs = i.outputs.items;
       unsure = i.unsure;
       latest = i.latest;
+      failed = false;
     } in
     IfOk-equal c.settle.result _ _ _ c.settle.ensures.ok
     (own_made f c.args.frame c.push_back.new.self.items c.from-at.result c.in_ok-push_back.ensures.items (c.from-at.ensures ∙ c.ns.ensures.same ∙ c.stamp.ensures)

@@ -1,4 +1,4 @@
-use Rattle.std.proofs.Common.{◌≡◌, ℕ, List, ◌∷◌, IsTrue, length, sym, ap, subst, ◌∙◌}
+use Rattle.std.proofs.Common.{◌≡◌, ℕ, List, ◌∷◌, false, IsTrue, length, sym, ap, subst, ◌∙◌}
 use Rattle.std.specs.List.{AllByRecursion}
 use Rattle.std.specs.Vec.{with_items}
 use Rattle.afdx_units.specs.Line.{size_of}
@@ -23,6 +23,7 @@ learn-requires-clause-may_be g c =
       outputs = i.outputs.items;
       unsure = i.unsure;
       latest = i.latest;
+      failed = false;
     } in
     let n = c.in-Some.frame in
     let ns = c.pop_front.new.self.items in
@@ -43,6 +44,7 @@ hand_all-requires g c =
       outputs = i.outputs.items;
       unsure = i.unsure;
       latest = i.latest;
+      failed = false;
     } in
     let n = c.in-Some.frame in
     let kept = subst (λ (x : Watched). IsInStep x) (sym c.self.view_is) c.requires.in_step in
@@ -59,6 +61,7 @@ returns-in_ok-hand_all g c = λ n ns us.
       outputs = i.outputs.items;
       unsure = i.unsure;
       latest = i.latest;
+      failed = false;
     } in
     let m = c.in-Some.frame in
     let passes = c.args.passes in

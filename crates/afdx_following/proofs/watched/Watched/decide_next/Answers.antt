@@ -1,4 +1,4 @@
-use Rattle.std.proofs.Common.{◌≡◌, ◌<◌, length, drop, true, refl, arith, sym, ap, ◌∙◌}
+use Rattle.std.proofs.Common.{◌≡◌, ◌<◌, length, drop, true, false, refl, arith, sym, ap, ◌∙◌}
 use Rattle.afdx_following.specs.Watched.{Watched, can_tell, counted, with_fate}
 use Rattle.afdx_following.proofs.Changing.{item_there}
 use Rattle.afdx_following.proofs.Deciding.{first_and_rest, told_as}
@@ -15,6 +15,7 @@ returns-clause-more g c =
       outputs = i.outputs.items;
       unsure = i.unsure;
       latest = i.latest;
+      failed = false;
     } in
     let n = c.in-Some.frame.now in
     let ns = drop 1 f.undecided in

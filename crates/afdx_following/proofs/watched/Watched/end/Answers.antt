@@ -1,4 +1,4 @@
-use Rattle.std.proofs.Common.{◌≡◌, List, map, sym, subst, ◌∙◌}
+use Rattle.std.proofs.Common.{◌≡◌, false, List, map, sym, subst, ◌∙◌}
 use Rattle.std.specs.Vec.{with_items}
 use Rattle.std.proofs.lemmas.Result.{IfOk-weaker}
 use Rattle.afdx_following.specs.Output.{Output, with_end}
@@ -19,6 +19,7 @@ returns-clause-ok g c =
       outputs = i.outputs.items;
       unsure = i.unsure;
       latest = i.latest;
+      failed = false;
     } in
     let ended = (with_items i.outputs c.end_all.new.outputs).items in
     IfOk-weaker c.end_all.result (λ u. c.end_all.new.outputs ≡ map (λ (o : Output). with_end c.args.last o) c.deref_mut.result.now)
@@ -38,6 +39,7 @@ returns-clause-in_step g c =
       outputs = i.outputs.items;
       unsure = i.unsure;
       latest = i.latest;
+      failed = false;
     } in
     let ended = (with_items i.outputs c.end_all.new.outputs).items in
     let kept = subst (λ (x : Watched). IsInStep x) (sym c.self.view_is) c.in_ok-settle.ensures.in_step in

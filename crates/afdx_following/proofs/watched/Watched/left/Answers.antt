@@ -1,4 +1,4 @@
-use Rattle.std.proofs.Common.{◌≡◌, ◌<◌, ◌≤◌, length, set, sym, ap, subst, ◌∙◌}
+use Rattle.std.proofs.Common.{◌≡◌, ◌<◌, ◌≤◌, false, length, set, sym, ap, subst, ◌∙◌}
 use Rattle.std.proofs.lemmas.Result.{IfOk-equal}
 use Rattle.afdx_following.specs.Output.{Output, left_by, stamped_by, with_waiting}
 use Rattle.afdx_following.specs.Watched.{Watched, left_by_at, with_record}
@@ -17,6 +17,7 @@ settle-requires g c =
       outputs = i.outputs.items;
       unsure = i.unsure;
       latest = i.latest;
+      failed = false;
     } in
     let o = c.index_mut.result.now in
     let lt = subst (λ (x : Watched). c.args.place < length x.outputs) (sym c.self.view_is) c.requires.place in
@@ -40,6 +41,7 @@ returns-clause-ok g c =
       outputs = i.outputs.items;
       unsure = i.unsure;
       latest = i.latest;
+      failed = false;
     } in
     let o = c.index_mut.result.now in
     let lt = subst (λ (x : Watched). c.args.place < length x.outputs) (sym c.self.view_is) c.requires.place in

@@ -1,4 +1,4 @@
-use Rattle.std.proofs.Common.{rules, ◌≡◌, ℕ, map, Option, sym, ap, subst, ◌∙◌}
+use Rattle.std.proofs.Common.{rules, ◌≡◌, ℕ, false, map, Option, sym, ap, subst, ◌∙◌}
 use Rattle.std.specs.Vec.{with_items}
 use Rattle.std.proofs.lemmas.Result.{IfOk-weaker}
 use Rattle.afdx_following.specs.Output.{Output, paired_up_to, gone_on}
@@ -19,6 +19,7 @@ returns-in-Some-clause-ok g c =
       outputs = i.outputs.items;
       unsure = i.unsure;
       latest = i.latest;
+      failed = false;
     } in
     let decided_is = c.self.view_is ∙ c.in_ok-decide_all.ensures ∙ ap (λ (at : Option ℕ). decided at c.args.self.now.undecided c.args.self.now) c.in-Some.is in
     let unknown : c.first_unknown-unknown.result ≡ first_unknown f.undecided = search rules in
@@ -40,6 +41,7 @@ returns-in-Some-clause-in_step g c =
       outputs = i.outputs.items;
       unsure = i.unsure;
       latest = i.latest;
+      failed = false;
     } in
     let decided_is = c.self.view_is ∙ c.in_ok-decide_all.ensures ∙ ap (λ (at : Option ℕ). decided at c.args.self.now.undecided c.args.self.now) c.in-Some.is in
     let unknown : c.first_unknown-unknown.result ≡ first_unknown f.undecided = search rules in
@@ -62,6 +64,7 @@ returns-in-None-clause-ok g c =
       outputs = i.outputs.items;
       unsure = i.unsure;
       latest = i.latest;
+      failed = false;
     } in
     let decided_is = c.self.view_is ∙ c.in_ok-decide_all.ensures ∙ ap (λ (at : Option ℕ). decided at c.args.self.now.undecided c.args.self.now) c.in-None.is in
     let unknown : c.first_unknown-unknown.result ≡ first_unknown f.undecided = search rules in
@@ -80,6 +83,7 @@ returns-in-None-clause-in_step g c =
       outputs = i.outputs.items;
       unsure = i.unsure;
       latest = i.latest;
+      failed = false;
     } in
     let decided_is = c.self.view_is ∙ c.in_ok-decide_all.ensures ∙ ap (λ (at : Option ℕ). decided at c.args.self.now.undecided c.args.self.now) c.in-None.is in
     let unknown : c.first_unknown-unknown.result ≡ first_unknown f.undecided = search rules in

@@ -18,7 +18,7 @@ invariant_of-self g c = (c.come_to.ensures.of, λ e. absurd (differ e)) where
 pub invariant_of-self-2 : goal.invariant_of-self-2
 invariant_of-self-2 g c = (c.come_to.ensures.of, λ e. c.in_ok-come_to.ensures.ok.0)
 
-pub returns : goal.returns
-returns g c =
+pub returns-clause-ok : goal.returns-clause-ok
+returns-clause-ok g c =
     let s = c.self.inside in
     gone_seen s.feeder c.come_to.new.self s.reached s.failed c.args.instant c.args.self.now c.self.view_is c.requires.going c.come_to.ensures.same c.in_ok-come_to.ensures.ok.1
