@@ -37,7 +37,9 @@ Remedy: name the port in `--ports` too, or leave out its offset
         "C2 Toml: not TOML: a quote or bracket is missing, a key is given twice, bytes
 are not UTF-8, or it is the wrong file
 Remedy: Python finds the line:
-`python3 -c 'import tomllib; tomllib.load(open(\"table.toml\", \"rb\"))'`
+`python3 -c 'import tomllib; tomllib.load(open(\"table.toml\", \"rb\"))'`; if it
+finds none, the file has what Python alone takes: a number past 64 bits, a float
+as `1e999`, more than 80 brackets in one another, or a key of more than 80 parts
 ",
     ),
     (
@@ -123,7 +125,8 @@ Remedy: a switch has no more; check the file
         "P2",
         "P2 NoHeader: the file has fewer than 24 bytes; often it is empty
 Remedy: check that it was recorded; `afdx-import` makes a capture without frames
-for a port that only sends (`silent`)
+for a port that only sends (`silent`); an output that was not recorded is left
+out of `compare` by `--ports`
 ",
     ),
     (
@@ -140,7 +143,8 @@ Remedy: `editcap -F nsecpcap`, if Wireshark reads it
     ),
     (
         "P5",
-        "P5 LinkType: not Ethernet; 113 is what `tcpdump -i any` records
+        "P5 LinkType: not Ethernet; 113 is what `tcpdump -i any` records, 276 what a
+newer one does
 Remedy: record at the interface itself
 ",
     ),
@@ -219,12 +223,13 @@ Remedy: as `C2`
         "G2",
         "G2 UnknownKey: a key that does not belong here
 Remedy: a wire has `from`, `to`, `delay_ns`, `down`; a switch has `name`,
-`table`, `least_latency_us`, `down`
+`table`, `least_latency_us`, `down`; the top has `version`, `one_line`,
+`switch`, `wire`
 G2 MissingKey: a key of a switch or of a wire is missing; only `delay_ns`,
 `least_latency_us` and `down` may be left out
 Remedy: write it
 G2 Kind: a number for a text, or the other way round; `[wire]` for `[[wire]]`; a
-`down` that is neither `true` nor `false`
+`down` or `one_line` that is neither `true` nor `false`
 Remedy: `from = \"A.3\"`
 G2 Range: a name that is empty, of more than 16 letters, digits, `-` and `_`, or
 with other characters; an empty `table`; an end that is not NAME, a dot and a
@@ -302,7 +307,8 @@ Remedy: another number for one of the two
         "J1 Jitter: delays on the link's way may differ by more than its jitter at this
 switch allows, so frames may be policed there; in µs
 Remedy: set `jitter_us` of the link in this switch's table to at least `need`;
-`afdx network jitter` prints the least of all rows
+`afdx network jitter` prints the least of all rows; no table can have more than
+10,000: then smaller frames, longer gaps, fewer links on one cable, faster lines
 ",
     ),
     (
@@ -326,19 +332,25 @@ than a microsecond; or no `one_line`, with larger bounds
     ),
     (
         "get",
-        "device get: the file does not exist or cannot be read; nothing was run
-Remedy: one capture for each port of the table, also for a port that only sends
+        "device get: the file, a table, a network file or a capture, does not exist, is a
+folder or cannot be read, or too many files are open; nothing was run
+Remedy: mend the name; one capture for each port of the table, also for a port
+that only sends; `compare`: `--ports` with the outputs that were recorded, no
+empty capture for another; `ulimit -n 4096` lets more files be open
 ",
     ),
     (
         "put",
         "device put: the file cannot be written: the folder does not exist (none is
 made), no permission, no room (new files exist beside older ones until the run
-is over), a limit of a file's size, or another run is putting files there
-Remedy: `mkdir -p out`, or once more when the other run has ended; nothing has
-changed, unless it was the move onto the name that failed: then captures of
-lower ports are there, in a network also those of earlier switches. There is no
-report; `trace` puts `out/arrivals.csv` and then `out/departures.csv`
+is over), a limit of a file's size, too many files are open, a folder has the
+file's name, OUT is IN (no file that was read is replaced), or another run is
+putting files there
+Remedy: `mkdir -p out`, another OUT, `ulimit -n 4096`, or once more when the
+other run has ended; nothing has changed, unless it was the move onto the name
+that failed: then captures of lower ports are there, in a network also those of
+earlier switches. There is no report; `trace` puts `out/arrivals.csv` and then
+`out/departures.csv`
 ",
     ),
     (
