@@ -48,11 +48,14 @@ const RUN: &str = "Checks the network as check does. IN/A has the captures of th
 to which no wire leads, port-1.pcap and so on; those of all its output ports are
 put into OUT/A, which must be there. What leaves a port with a wire comes in at the
 wire's end. The report of each switch is written, with its name before each line.
-With --unchecked nothing is checked but the files, and nothing is promised: frames
-may be policed, lost or late at any switch.
+With --unchecked no load, no jitter and nothing that the tables agree on is checked,
+and nothing is promised: frames may be policed, lost or late at any switch.
+
+If the network file has one_line = true, a capture that did not come over one line
+is refused, also with --unchecked.
 
 Status: 0 done, 2 arguments, 3 no network, table or capture, 4 a network that
-check refuses, 5 memory or a device.
+check refuses or a capture that is not of one line, 5 memory or a device.
 
 Example: mkdir -p out/A out/B && afdx network run network.toml in out";
 
@@ -65,7 +68,7 @@ and the bounds that check prints, - with --unchecked. Then for each port of each
 switch how full its buffer was.
 
 Status: 0 done, 2 arguments, 3 no network, table or capture, 4 a network that
-check refuses, 5 memory or a device.
+check refuses or a capture that is not of one line, 5 memory or a device.
 
 Example: afdx network measure network.toml in";
 
@@ -77,7 +80,7 @@ arrivals have one more column, origin: the number that the frame had among the
 arrivals at its first switch, empty where this is that one.
 
 Status: 0 done, 2 arguments, 3 no network, table or capture, 4 a network that
-check refuses, 5 memory or a device.
+check refuses or a capture that is not of one line, 5 memory or a device.
 
 Example: mkdir -p out/A out/B && afdx network trace network.toml in out";
 
@@ -87,7 +90,7 @@ const SURVEY: &str =
 measure, and of each switch when its links were policed and when frames came.
 
 Status: 0 done, 2 arguments, 3 no network, table or capture, 4 a network that
-check refuses, 5 memory or a device.
+check refuses or a capture that is not of one line, 5 memory or a device.
 
 Example: afdx network survey network.toml in";
 
