@@ -5,7 +5,9 @@ import openpyxl
 import pytest
 
 from afdx.failure import INPUT, Failure
-from afdx.icd import command
+from afdx.icd import command, mapping
+from afdx.icd.complaints import Complaints
+from afdx.icd.network import lists_of
 from tests import worked_lists
 
 GOOD = {"id": "20", "name": "heading", "from": "A1", "to": "B1", "bag_ms": "8", "jitter_us": "0", "max_size": "100",
@@ -185,12 +187,31 @@ def test_missing_columns_of_all_lists_at_once(tmp_path: Path) -> None:
         f"afdx-icd: {what}, {paths[order]} line 1, column {column}" for what, order, column in places)
 
 
-def test_a_unit_in_the_heading_of_a_column_that_may_be_missing(tmp_path: Path) -> None:
-    """Without the column all links would be policed by bytes."""
-    heading = "Police\n[byte/frame]"
-    paths = worked_lists.write(tmp_path, worked_lists.LINKS.replace("police", f'"{heading}"'))
-    what = "a heading has brackets behind this name: the mapping has to name it"
-    assert refusal(paths).lines == (f"afdx-icd: {what}, {paths[0]} line 1, column police",)
+@pytest.mark.parametrize("order, column, heading", [
+    (0, "police", "Police\n[byte/frame]"), (0, "police", "police mode"), (0, "police", "policing"), (0, "via", "Route"),
+    (2, "delay_ns", "delay [ns]"), (2, "delay_ns", "delay\nns"), (2, "delay_ns", "DELAY-ns"), (2, "delay_ns", "delay"),
+    (2, "delay_ns", "delay_ns/ns"), (2, "delay_ns", "delay_ns*")])
+def test_another_heading_of_a_column_that_may_be_missing(tmp_path: Path, order: int, column: str, heading: str) -> None:
+    """Without the column all links would be policed by bytes, all cables without delay: the mapping has to say it."""
+    lists = [worked_lists.LINKS, worked_lists.ENDS, worked_lists.WIRES]
+    lists[order] = lists[order].replace(column, f'"{heading}"')
+    paths, path = worked_lists.write(tmp_path, *lists), tmp_path / "map.toml"
+    shown = " ".join(heading.split())
+    what = f'"{shown}" may be this column: the mapping has to name it, or "" for none'
+    assert refusal(paths).lines == (f"afdx-icd: {what}, {paths[order]} line 1, column {column}",)
+    for says in (shown, ""):
+        path.write_text(f'[columns{".wires" if order else ""}]\n{column} = "{says}"\n', encoding="utf-8")
+        complaints = Complaints()
+        found = lists_of("afdx-icd", paths, mapping.read("afdx-icd", path), complaints)
+        assert (column in found[order].places) == (says != "")
+
+
+def test_headings_that_are_no_column(tmp_path: Path) -> None:
+    """A name beside the numbers of links may be called as it likes, and words may stand before a name."""
+    heading = "id,name (long),from,to,bag_ms,jitter_us,max_size,payload of UDP,priority,no police,remark to via"
+    paths = worked_lists.write(tmp_path, worked_lists.LINKS.replace(worked_lists.LINKS.splitlines()[0], heading))
+    found = lists_of("afdx-icd", paths, mapping.read("afdx-icd", None), Complaints())
+    assert {"name", "udp_payload", "police", "via"}.isdisjoint(found[0].places)
 
 
 def test_formulas_whose_values_were_not_saved(tmp_path: Path) -> None:

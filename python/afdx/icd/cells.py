@@ -15,10 +15,12 @@ class Unfit(Exception):
 
 @dataclass(frozen=True)
 class Column(Generic[T]):
-    """A column: its key in the mapping, what reads its cells, and what stands for an empty one, if one may be empty."""
+    """A column: its key in the mapping, what reads its cells, what stands for an empty one, if one may be empty, and
+    how it may be called too: such a heading is not passed over in silence."""
     key: str
     reader: Callable[[str], T]
     default: str | None = None
+    also: tuple[str, ...] = ()
 
 
 def number(text: str) -> int:
@@ -60,6 +62,11 @@ def word(*words: str) -> Callable[[str], str]:
 def one_line(text: str) -> str:
     """Writes a text with line feeds and many spaces as one line."""
     return " ".join(text.split())
+
+
+def words_of(text: str) -> list[str]:
+    """Answers the words of a heading in small letters; all that is no letter or digit lies between words."""
+    return re.findall(r"[^\W_]+", text.casefold())
 
 
 def printable(text: str) -> str:

@@ -1,17 +1,18 @@
 """Finds the columns of a list and reads its cells."""
-import re
+import json
 from collections.abc import Iterable, Iterator
 from pathlib import Path
 from typing import Any, TypeVar, cast
 
 from afdx.icd import spreadsheet
-from afdx.icd.cells import Column, Unfit, one_line
-from afdx.icd.columns import Columns
+from afdx.icd.cells import Column, Unfit, one_line, words_of
+from afdx.icd.columns import NAME, Columns
 from afdx.icd.complaints import Complaints, Place
 from afdx.icd.mapping import ListMapping
 from afdx.icd.spreadsheet import Formula, Row
 
 T = TypeVar("T")
+UNITS = {"ms", "us", "ns"}  # at the ends of keys
 UNSAVED = "a formula whose value was not saved with it"
 
 
@@ -26,6 +27,8 @@ class List:
         self.places: dict[str, int] = {}
         for column in known:
             self.find(column)
+        for column in known:
+            self.complain_of_likely(column)
         self.complain_beside(sheet.heading, UNSAVED, [
             at for at, heading in enumerate(sheet.heading.cells) if isinstance(heading, Formula)])
 
@@ -33,25 +36,39 @@ class List:
         """Answers what a column is called: in the list, or what is looked for if the list lacks it."""
         if column.key in self.places:
             return one_line(self.sheet.heading.cells[self.places[column.key]])
-        return self.mapping.headings.get(column.key, column.key)
+        return self.mapping.headings.get(column.key) or column.key
 
     def find(self, column: Column[Any]) -> None:
-        """Finds a column. It has to be there if the mapping names it, and if nothing stands for its empty cells.
-
-        One that may be missing is not missed in silence if a heading has its name with a unit, `police [byte/frame]`.
-        """
+        """Finds a column. It has to be there if the mapping names it, and if nothing stands for its empty cells."""
+        if self.mapping.headings.get(column.key) == "":
+            if not self.may_be_missing(column):
+                self.complain_of_heading(column, "no such column")
+            return
         name = one_line(self.heading(column)).casefold()
         headings = [one_line(heading).casefold() for heading in self.sheet.heading.cells]
         at = [place for place, heading in enumerate(headings) if heading == name]
         if at:
             self.places[column.key] = at[0]
-        stands_in = column.default is not None or column.key in self.mapping.defaults
         if len(at) > 1:
             self.complain_of_heading(column, "two columns of this name")
-        elif not at and (column.key in self.mapping.headings or not stands_in):
+        elif not at and (column.key in self.mapping.headings or not self.may_be_missing(column)):
             self.complain_of_heading(column, "no such column")
-        elif not at and any(re.match(rf"{re.escape(name)} ?[(\[]", heading) for heading in headings):
-            self.complain_of_heading(column, "a heading has brackets behind this name: the mapping has to name it")
+
+    def may_be_missing(self, column: Column[Any]) -> bool:
+        return column.default is not None or column.key in self.mapping.defaults
+
+    def complain_of_likely(self, column: Column[Any]) -> None:
+        """Complains if a column that may be missing seems to be there by another heading, `delay [ns]` for `delay_ns`:
+        its name, or that without its unit, with or without words behind it. A link's name is but a comment."""
+        if column is NAME or column.key in self.places or column.key in self.mapping.headings:
+            return
+        own = words_of(column.key)
+        names = [own[:-1] if own[-1] in UNITS else own, *map(words_of, column.also)]
+        others = [heading for at, heading in enumerate(self.sheet.heading.cells) if at not in self.places.values()]
+        likely = [heading for heading in others if any(words_of(heading)[:len(name)] == name for name in names)]
+        if likely and self.may_be_missing(column):
+            shown = json.dumps(one_line(likely[0]), ensure_ascii=False)
+            self.complain_of_heading(column, f'{shown} may be this column: the mapping has to name it, or "" for none')
 
     def complain_of_heading(self, column: Column[Any], what: str) -> None:
         place = Place(self.order, self.sheet.heading.line, 0, str(self.path), self.heading(column), None)
