@@ -129,12 +129,39 @@ def test_check_sequences(folder: Folder, fcs: str, got: list[Record], word: str,
 def test_check_sequences_of_some_frames(folder: Folder) -> None:
     """Of each interface what most of its first frames have is done to all, and said."""
     left = [Record(AT + number, frame(fill=number)) for number in range(5)]
-    right = [Record(AT + number, data, interface=1)
+    right = [Record(AT + 10 + number, data, interface=1)
              for number, data in enumerate([bytes(64), checked(frame(fill=1)), checked(frame(fill=2))])]
     status, lines, said = folder.run(ONE, a_pcap=captures.pcapng(left + right, ["left", "right"]))
     assert (status, said) == (0, ["afdx-import: warning: 2 of 3 frames looked at end with their check sequence, "
                                   "taken off all, a.pcap, interface 1"])
     assert " fcs stripped-of-3 " in lines[0]
+
+
+@pytest.mark.parametrize("fcs, wrong, said", [
+    ("true", 1, "warning: 1 of 3 frames looked at do not end with their check sequence, taken off all"),
+    ("true", 3, "warning: 3 of 3 frames looked at do not end with their check sequence, taken off all"),
+    ('"auto"', 1, "warning: 2 of 3 frames looked at end with their check sequence, taken off all")])
+def test_wrong_check_sequences(folder: Folder, fcs: str, wrong: int, said: str) -> None:
+    """They are said, also of later pieces, and of those that are said to have them."""
+    records = [Record(AT + number, checked(frame(fill=number))) for number in range(3 - wrong)]
+    records += [Record(AT + 5 + number, frame(fill=number) + bytes(4)) for number in range(wrong)]
+    with patch.object(Import.__init__, "__defaults__", (24 + 80,)):
+        status, lines, notes = folder.run(f"{ONE}fcs = {fcs}\n", a_pcap=captures.pcap(records))
+    assert (status, notes) == (0, [f"afdx-import: {said}, a.pcap, interface 0"])
+    assert " fcs stripped " in lines[0]
+
+
+def test_a_recording_that_is_taken_twice(folder: Folder) -> None:
+    """By its name and compressed; frames that differ have one stamp too, and equal ones another."""
+    records = [Record(AT + stamp, frame(fill=fill)) for stamp, fill in ((0, 1), (0, 2), (0, 3), (7, 1), (8, 2))]
+    text = captures.pcap(records)
+    rules = ONE.replace("a.pcap", "a.pcap*")
+    assert folder.run(rules, a_pcap=text)[2] == []
+    for piece in (100, 4 * 1024 * 1024):
+        with patch.object(Import.__init__, "__defaults__", (piece,)):
+            status, lines, notes = folder.run(rules, a_pcap=text, a_pcap_gz=gzip.compress(text))
+        assert (status, lines[0].split()[2], notes) == (0, "10", [
+            "afdx-import: warning: 5 of 10 frames are there twice, with one stamp: is a recording taken twice?, port-1"])
 
 
 def test_check_sequences_where_interfaces_come_later(folder: Folder) -> None:

@@ -83,11 +83,38 @@ def arranged(text: bytes | memoryview, length: Column, order: Column) -> tuple[m
     return copied(text, places_of(length)[:-1], length, permuted(at[:-1], order)), at
 
 
-def merged(chunks: list[Chunk]) -> list[memoryview]:
-    """Answers the records of sorted chunks in order, of equal stamps those of the first chunk first."""
-    if all(before.last <= after.first for before, after in zip(chunks, chunks[1:])):
-        return [chunk.text for chunk in chunks]
+@dataclass(frozen=True)
+class Ordered:
+    """Are records in the order of their stamps, as they are written."""
+    text: memoryview
+    at: Column
+    stamp: Column
+
+    def twice(self) -> int:
+        """Counts the records of which one of the same stamp has the same bytes before them. Only where neighbours have
+        one stamp are bytes compared."""
+        count, end = 0, -1
+        seen: set[bytes] = set()
+        for before in np.flatnonzero(self.stamp[1:] == self.stamp[:-1]).tolist():
+            if before != end:
+                seen = {self.record(before)}
+            end = before + 1
+            record = self.record(end)
+            count += record in seen
+            seen.add(record)
+        return count
+
+    def record(self, index: int) -> bytes:
+        return bytes(self.text[self.at[index]:self.at[index + 1]])
+
+
+def merged(chunks: list[Chunk]) -> list[Ordered]:
+    """Answers the records of sorted chunks in order, of equal stamps those of the first chunk first, all of one stamp
+    together."""
+    if all(before.last < after.first for before, after in zip(chunks, chunks[1:])):
+        return [Ordered(chunk.text, chunk.at, chunk.stamp) for chunk in chunks]
     text = b"".join([chunk.text for chunk in chunks])
     length = np.concatenate([np.diff(chunk.at) for chunk in chunks])
-    order = np.argsort(np.concatenate([chunk.stamp for chunk in chunks]), kind="stable")
-    return [arranged(text, length, order)[0]]
+    stamp = np.concatenate([chunk.stamp for chunk in chunks])
+    order = np.argsort(stamp, kind="stable")
+    return [Ordered(*arranged(text, length, order), stamp[order])]

@@ -22,6 +22,7 @@ class Ordering:
         self.window_ms = window_ms
         self.write = write
         self.reordered = 0
+        self.twice = 0  # records that have come before, with the same stamp
         self.waiting: list[Chunk] = []
         self.size = 0  # bytes that wait
         self.newest: dict[int, Seen] = {}  # of each source
@@ -97,7 +98,8 @@ class Ordering:
             self.put(ready)
 
     def put(self, ready: list[Chunk]) -> None:
-        for text in merged(ready):
-            self.write(text)
-            self.size -= len(text)
+        for ordered in merged(ready):
+            self.write(ordered.text)
+            self.size -= len(ordered.text)
+            self.twice += ordered.twice()
         self.written = max(ready, key=lambda chunk: chunk.last).seen(-1)

@@ -49,6 +49,11 @@ def check_sequence_notes(reading: Reading) -> Iterator[str]:
             what = "taken off all" if check.are_there else "none taken off"
             yield (f"{warning}{check.right} of {check.looked} frames looked at end with their check sequence, {what}, "
                    f"{reading.recording.name}, interface {interface}")
+    for place, check in reading.claimed.items():
+        if check.right < check.looked:
+            yield (f"warning: {check.looked - check.right} of {check.looked} frames looked at do not end with their check "
+                   f"sequence, taken off all, {reading.recording.name}, "
+                   f"interface {reading.recording.interfaces[place].number}")
 
 
 def left_note(reading: Reading) -> str:
@@ -67,11 +72,14 @@ def interface_note(taker: Taker) -> str:
 
 
 def port_notes(ports: dict[str, Port]) -> Iterator[str]:
-    """Answers where networks are mixed, and where clocks may be apart."""
+    """Answers where networks are mixed, where frames were taken twice, and where clocks may be apart."""
     for name, port in ports.items():
         if all(port.networks.values()):
             counts = " and ".join(f"{count} of network {network}" for network, count in port.networks.items())
             yield f"warning: frames of both networks: {counts}, {name}"
+        if port.ordering.twice:
+            yield (f"warning: {port.ordering.twice} of {port.frames} frames are there twice, with one stamp: is a "
+                   f"recording taken twice?, {name}")
     firsts = sorted((port.first, name) for name, port in ports.items() if port.frames)
     if firsts and firsts[-1][0] - firsts[0][0] > SECOND:
         apart = (firsts[-1][0] - firsts[0][0]) / SECOND

@@ -31,7 +31,8 @@ class Reading:
     def __init__(self, recording: Recording, begin: int | None) -> None:
         self.recording = recording
         self.takers: list[Taker] = []
-        self.checks: dict[int, CheckSequences] = {}
+        self.checks: dict[int, CheckSequences] = {}  # by interface, of sources that find out what frames have
+        self.claimed: dict[int, CheckSequences] = {}  # of those that say that all have theirs
         self.newest = begin  # stamp by the recorder's clock
         self.frames = 0
         self.left = np.zeros(END_SYSTEMS - NONE, np.int64)  # frames that no source takes, by their end system
@@ -83,7 +84,8 @@ class Import:
         return [reading.fault for reading in self.readings.values() if reading.fault]
 
     def add(self, reading: Reading, source: Source, anchor: int) -> None:
-        taker = Taker(len(self.takers), source, anchor, reading.recording, reading.checks, self.ports)
+        checks = reading.checks if source.fcs == "auto" else reading.claimed
+        taker = Taker(len(self.takers), source, anchor, reading.recording, checks, self.ports)
         reading.takers.append(taker)
         self.takers.append((reading, taker))
 

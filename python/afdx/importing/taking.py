@@ -130,7 +130,7 @@ class Taker:
         self.source = source
         self.anchor = anchor
         self.recording = recording
-        self.checks = checks  # by interface, the same for all sources of the recording
+        self.checks = checks  # by interface, the same for all sources of the recording that have the same `fcs`
         self.names = list(dict.fromkeys(source.ports))
         self.ports = [ports[name] for name in self.names]
         # the number of the port, from 1, or 0 for none: by end system; at the end if a frame names none
@@ -199,8 +199,13 @@ class Taker:
 
     def check_sequences(self, batch: Batch, mine: Column) -> npt.NDArray[np.bool_]:
         """Answers which of these frames have a check sequence to be taken off."""
-        if isinstance(self.source.fcs, bool):
-            return np.full(len(mine), self.source.fcs)
+        if self.source.fcs is False:
+            return np.zeros(len(mine), np.bool_)
+        has = self.looked_at(batch, mine)
+        return np.full(len(mine), True) if self.source.fcs is True else has
+
+    def looked_at(self, batch: Batch, mine: Column) -> npt.NDArray[np.bool_]:
+        """Looks at some of these frames; answers which are of an interface whose frames have a check sequence."""
         if len(self.recording.interfaces) == 1:
             return np.full(len(mine), self.checks.setdefault(0, CheckSequences()).look(batch, mine))
         has = np.zeros(len(mine), np.bool_)
