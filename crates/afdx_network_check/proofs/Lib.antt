@@ -21,3 +21,4 @@ pub mod Shorts
 pub mod Staying
 pub mod WalkLemmas
 pub mod WayLemmas
+pub mod WaysThere

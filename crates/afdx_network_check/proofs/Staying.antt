@@ -20,12 +20,12 @@ use Rattle.afdx_network_check.specs.Inner.Staying.{whole_bound_at, WholeJittersA
 use Rattle.afdx_network_check.proofs.Alike.{all_at}
 
 -- the whole bound beside a lesser one
-record Above (load : Load) (priority : Priority) (x : ℕ) : Type 0 where
+pub record Above (load : Load) (priority : Priority) (x : ℕ) : Type 0 where
   pub bound : ℕ
   pub bound_is : bound_in (bounds_of load) priority ≡ Some bound
   pub order : x ≤ bound
 
-above : BoundsAreNoMore → (d : ℕ) (roundings : ℕ → Option ℕ) (t : Content) (p : PortRow) → IsWellFormed t → (priority : Priority) (x : ℕ)
+pub above : BoundsAreNoMore → (d : ℕ) (roundings : ℕ → Option ℕ) (t : Content) (p : PortRow) → IsWellFormed t → (priority : Priority) (x : ℕ)
     → bound_in (bounds_of (lesser_load d roundings t p)) priority ≡ Some x
     → Above (scattered d (load_of t.latency p.speed p.id t.links)) priority x
 above law d roundings t p formed High x x_is =

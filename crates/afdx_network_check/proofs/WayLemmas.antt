@@ -1,7 +1,6 @@
 -- Ways that go over one line more, and the exits of rows one after another.
 use Rattle.std.proofs.Common.{◌≡◌, ℕ, ◌+◌, ◌<◌, List, [], ◌∷◌, ◌++◌, map, length, take, get_or, slice_get, Option, Some, None, option_map}
-use Rattle.std.proofs.Common.{option_and_then, Ok, Err, refl, ap, sym, ◌∙◌, subst}
-use Rattle.std.specs.Prelude.{Result, IfOk}
+use Rattle.std.proofs.Common.{option_and_then, refl, ap, sym, ◌∙◌, subst}
 use Rattle.std.specs.List.{filter, AllZip}
 use Rattle.std.proofs.lemmas.List.{take_more, reverse-append}
 use Rattle.std.proofs.lemmas.Option.{same_Some}
@@ -16,7 +15,8 @@ use Rattle.afdx_wiring.specs.declared.layout.Wire.{Wire}
 use Rattle.afdx_network_check.specs.declared.ways.Way.{Way}
 use Rattle.afdx_network_check.specs.Net.{Network, Row, Back, port_at, ingress, wire_to, least_at, load_at, bound_in, bound_at, source_of}
 use Rattle.afdx_network_check.specs.Order.{row_before, within_reason, hop_from, hop_on}
-use Rattle.afdx_network_check.specs.Ways.{leads_out, IsWayOver, IsWayAlong, IsWayOut}
+use Rattle.afdx_network_check.specs.Ways.{leads_out, IsWayOver, IsWayOut}
+use Rattle.afdx_network_check.specs.Inner.Walks.{IsWayTo}
 use Rattle.afdx_network_check.proofs.Enough.{reasonable, from_port}
 use Rattle.afdx_network_check.proofs.FeedLemmas.{before_says}
 
@@ -79,19 +79,17 @@ longer net r line old new hop same h link from jitter ports jitters delays sourc
       delays = (over.table, over.port, over.bound, old.delays, over.table_is, over.port_is, over.bound_is, w.delays, delays ∙ ap (joined old.delays) over.hop_is);
     }
 
--- ---- the way along a line
+-- ---- the way to a row
 
-pub from_source : (net : Network) (id : ℕ) (line : Wire) (r : Row) (w : Way) → row_before net id line ≡ Some r → wire_to net (ingress r) ≡ None
-    → IsWayOver net r (record { wire = line; row = r } ∷ []) w → IsWayAlong net id line w
-from_source net id line r w found is over = (r, [], found, is, over)
+-- from the source stages over a line more
+abbrev pub GoesOver : Network → Wire → Row → Way → Way → Type 0
+GoesOver net line r old w = (source : Row) (stages : List Back) → IsWayOver net source stages old → IsWayOver net source (record { wire = line; row = r } ∷ stages) w
 
-pub from_wire : (net : Network) (id : ℕ) (line : Wire) (r : Row) (wire : Wire) (old w : Way) → row_before net id line ≡ Some r → wire_to net (ingress r) ≡ Some wire
-    → IsWayAlong net r.link.id wire old
-    → ((source : Row) (stages : List Back) → IsWayOver net source stages old → IsWayOver net source (record { wire = line; row = r } ∷ stages) w) → IsWayAlong net id line w
-from_wire net id line r wire old w found is along further =
-    let said = before_says net r.link.id wire along.0 along.2 in
-    let back : Back = record { wire = wire; row = along.0 } in
-    (r, back ∷ along.1, found, (is, said.row_is, said.leads, along.3), further (source_of along.0 along.1) (back ∷ along.1) along.4)
+pub from_wire : (net : Network) (r before : Row) (wire : Wire) (old w : Way) → wire_to net (ingress r) ≡ Some wire → row_before net r.link.id wire ≡ Some before → IsWayTo net before old
+    → GoesOver net wire before old w → IsWayTo net r w
+from_wire net r before wire old w is found way further =
+    let said = before_says net r.link.id wire before found in
+    (record { wire = wire; row = before } ∷ way.0, (is, said.row_is, said.leads, way.1), further (source_of before way.0) way.0 way.2)
 
 -- ---- one after another
 
@@ -105,7 +103,3 @@ pub way_more : (net : Network) (exits : List Exit) (i : ℕ) (d : Exit) (ways : 
     → IsWayOut net (get_or exits i d) w → AllZip (IsWayOut net) (take (i + 1) exits) (ways ++ w ∷ [])
 way_more net exits i d ways w within all one =
     subst (λ (prefix : List Exit). AllZip (IsWayOut net) prefix (ways ++ w ∷ [])) (sym (take_more exits i d within)) (zip_push (IsWayOut net) (take i exits) ways (get_or exits i d) w all one)
-
-pub if_ok : {X E : Type 0} (P Q : X → Type 0) (r : Result X E) → ((x : X) → P x → Q x) → IfOk r P → IfOk r Q
-if_ok P Q (Ok x) further h = further x h
-if_ok P Q (Err e) further h = tt

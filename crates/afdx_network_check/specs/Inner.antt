@@ -2,3 +2,4 @@ pub mod Given
 pub mod Loads
 pub mod Staying
 pub mod Tabled
+pub mod Walks

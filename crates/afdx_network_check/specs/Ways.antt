@@ -1,5 +1,5 @@
 -- The ways of a network's links, from their sources to the ports at which they lead out of it (profile).
-use Rattle.std.specs.Prelude.{◌≡◌, ℕ, not, Bool, false, Option, is_some, find, List, [], ◌∷◌, ◌++◌, map, filter, flat_map, reverse, Some}
+use Rattle.std.specs.Prelude.{◌≡◌, ◌⊎◌, ℕ, not, Bool, false, Option, is_some, find, List, [], ◌∷◌, ◌++◌, map, filter, flat_map, reverse, Some, Err, Contains}
 use Rattle.std.specs.List.{AllZip}
 use Rattle.std.specs.List.Sorted.{IsPermutation, IsSorted}
 use Rattle.std.specs.Ordering.{nat_cmp, ordering_then}
@@ -7,12 +7,14 @@ use Rattle.std.specs.declared.cmp.Ordering.{Ordering}
 use Rattle.afdx_jitter.specs.declared.delays.Delays.{Delays}
 use Rattle.afdx_jitter.specs.Delay.{least_jitter}
 use Rattle.afdx_network_check.specs.declared.exit.Exit.{Exit}
+use Rattle.afdx_wiring.specs.declared.fault.NetworkFault.{NetworkFault}
+use Rattle.afdx_wiring.specs.declared.fault.NetworkFault.TheVariants.{Memory}
 use Rattle.afdx_wiring.specs.declared.layout.End.{End}
 use Rattle.afdx_wiring.specs.declared.layout.Wire.{Wire}
 use Rattle.afdx_network_check.specs.declared.ways.Way.{Way}
 use Rattle.afdx_wiring.specs.File.{is_end}
 use Rattle.afdx_network_check.specs.Net.{Network, Row, Back, rows_of, ingress, IsWayBack, source_of, AreDelays}
-use Rattle.afdx_network_check.specs.Order.{row_before}
+use Rattle.afdx_network_check.specs.Order.{row_before, has_source}
 
 -- ---- exits
 
@@ -71,3 +73,9 @@ IsWayOut net x w = IsWayAlong net x.link (line_of x) w
 -- one for each exit of a link, in their order
 abbrev pub AreWaysOf : Network → List Way → Type 0
 AreWaysOf net ways = (exits : List Exit) × IsPermutation (exits_of net) exits × IsSorted by_link exits × AllZip (IsWayOut net) exits ways
+
+-- ---- where they are not found
+
+-- memory ran out, or this is the refusal of a row that has no way back to a source
+abbrev pub IsWayFault : Network → NetworkFault → Type 0
+IsWayFault net fault = (fault ≡ Memory) ⊎ ((r : Row) × Contains (rows_of net) r × (has_source net r ≡ Err fault))

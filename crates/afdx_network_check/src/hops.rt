@@ -1,7 +1,8 @@
 //! What a frame takes from a switch to the next one.
 
-ghost use Rattle.std.specs.Prelude.{◌≡◌, ◌≤◌, ◌==◌, slice_get, position, option_copied, option_map, option_and_then, IfOk, IfSome};
+ghost use Rattle.std.specs.Prelude.{◌≡◌, ◌≤◌, ◌==◌, slice_get, position, option_copied, option_map, option_and_then, All, IfOk, IfSome};
 ghost use Rattle.afdx_table.specs.Content.{port_row};
+ghost use Rattle.afdx_table.specs.WellFormed.{IsWellFormed};
 ghost use Rattle.afdx_load.specs.Bounds.{bounds_of};
 ghost use Rattle.afdx_network_check.specs.Net.{bound_in, load_at};
 ghost use Rattle.afdx_network_check.specs.Inner.Loads.{switch_bounds};
@@ -88,7 +89,8 @@ fn switch_bounds(
     switch: usize,
     table: &Table,
 ) -> Result<Vec<Bounds>, AllocError>
-    ensures { IfOk result (λ bounds. bounds.items ≡ switch_bounds network.now switch table.now) }
+    ensures bounds { IfOk result (λ bounds. bounds.items ≡ switch_bounds network.now switch table.now) }
+    ensures well_formed { IsWellFormed table.now }
 {
     only_ports_count();
     let scatter = network.scatter_at(switch, table);
@@ -98,7 +100,8 @@ fn switch_bounds(
 impl<'a> Hops<'a> {
     /// Finds the bounds of each switch's ports.
     pub(crate) fn new(alloc: Global, network: &'a Network) -> Result<Hops<'a>, AllocError>
-        ensures { IfOk result (λ h. h ≡ network.now) }
+        ensures network { IfOk result (λ h. h ≡ network.now) }
+        ensures well_formed { IfOk result (λ _. All IsWellFormed network.now.tables) }
     {
         let mut all = Vec::new(alloc);
         for (switch, table) in network.tables().iter().enumerate() {

@@ -1,5 +1,5 @@
 -- Why the run of a network of which nothing is put was not made.
-use Rattle.std.proofs.Common.{◌≡◌, ℕ, suc, List, [], ◌∷◌, length, Option, String, Global, string_bytes, inr, refl, sym, ap, subst, ◌∙◌}
+use Rattle.std.proofs.Common.{◌≡◌, ℕ, suc, Bool, true, false, not, List, [], ◌∷◌, length, Option, Ok, String, Global, string_bytes, inr, refl, sym, ap, subst, ◌∙◌}
 use Rattle.std.specs.Io.KnownBytes.{Keeps}
 use Rattle.std.proofs.lemmas.List.{length-map}
 use Rattle.afdx_core.specs.State.{State}
@@ -8,6 +8,7 @@ use Rattle.afdx_table.specs.Content.{Content}
 use Rattle.afdx_session.specs.Texts.{Text}
 use Rattle.afdx_session.specs.Outcome.{Results}
 use Rattle.afdx_wiring.specs.File.{Switch}
+use Rattle.afdx_network_check.specs.Order.{misfit}
 use Rattle.afdx_network.specs.Watched.{AreEnded}
 use Rattle.afdx_network_report.specs.Lines.{Names}
 use Rattle.afdx_origins.specs.Origins.{Origins}
@@ -19,7 +20,7 @@ use Rattle.afdx_serve.specs.declared.network_watched.Planned.{Planned}
 use Rattle.afdx_serve.specs.NetworkMeasures.{WatchesFrom}
 use Rattle.afdx_serve.specs.NetworkRuns.{FailsToGetGiven, FailsToLeadFrom}
 use Rattle.afdx_serve.specs.Serving.{world, FailsToWatchNetwork}
-use Rattle.afdx_serve.specs.Inner.NetworkRunning.{network_in}
+use Rattle.afdx_serve.specs.Inner.NetworkRunning.{network_in, is_accepted}
 use Rattle.afdx_serve.specs.Inner.Watching.{IsPlanned}
 use Rattle.afdx_serve.proofs.FileLemmas.{KeepsFiles-trans}
 use Rattle.afdx_serve.proofs.NetworkRunLemmas.{never_write, not_given_before}
@@ -37,6 +38,15 @@ named_switches inputs a b path p switches o planned watched =
     sym (length-map p.names.items (λ (s : String Global). string_bytes s)) ∙ ap (λ (ns : Names). length ns) planned.names
     ∙ length-map (network_in p.plan).layout.switches (λ (s : Switch). s.name) ∙ sym planned.tables
     ∙ ended_count (network_in p.plan).tables watched.came watched.left switches watched.ended
+
+-- ---- an accepted network breaks no rule
+
+checked : (unchecked : Bool) → not unchecked ≡ true → unchecked ≡ false
+checked false is = refl
+checked true is = absurd cc
+
+pub accepted_keeps : (inputs : NetworkInputs) (files : Option Files) (p : Planned) → IsPlanned inputs files p → is_accepted p.plan ≡ true → misfit (network_in p.plan) ≡ Ok tt
+accepted_keeps inputs files p planned accepted = planned.kept (checked inputs.unchecked (sym planned.chosen ∙ accepted))
 
 -- ---- why there is none
 

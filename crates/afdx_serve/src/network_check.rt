@@ -1,8 +1,10 @@
 //! The command `network check`.
 
-ghost use Rattle.std.specs.Prelude.{◌≡◌, [], map, string_bytes, IfOk, MatchResult};
+ghost use Rattle.std.specs.Prelude.{◌≡◌, [], map, string_bytes, Ok, IfOk, MatchResult};
 ghost use Rattle.afdx_wiring.specs.Refusal.{Gives};
+ghost use Rattle.afdx_network_check.specs.Order.{misfit};
 ghost use Rattle.afdx_network_check.specs.Rules.{FitsTogether, HasJitters, IsAcceptedNetwork};
+ghost use Rattle.afdx_network_check.specs.Ways.{AreWaysOf};
 ghost use Rattle.afdx_messages.specs.declared.network_failure.JitterRule.TheVariants.{Jitter};
 ghost use Rattle.afdx_serve.specs.Networks.{names_of, judged, AreRefusedRows, FailsToAcceptNetwork};
 ghost use Rattle.afdx_serve.specs.NetworkChecks.{ways_text, IsNetworkCheck};
@@ -21,6 +23,7 @@ use std::io::Write;
 /// Checks whether the tables of a network whose loads are accepted fit together, and returns the rows whose jitter is not enough.
 fn judge(alloc: Global, cleared: &ClearedNetwork) -> Result<Vec<Short>, NetworkFault>
     ensures first { Gives (λ shorts. shorts.items) result (judged cleared.now) }
+    ensures kept { IfOk result (λ _. misfit cleared.now ≡ Ok tt) }
     ensures fits { IfOk result (λ shorts. FitsTogether cleared.now × (shorts.items ≡ [] → HasJitters cleared.now)) }
 {
     cleared.network().fit(alloc)?;
@@ -45,7 +48,7 @@ pub(crate) fn accept(
 ) -> Result<ClearedNetwork, Failure>
     requires { map string_bytes names.now ≡ names_of network.layout.switches }
     ensures { MatchResult result
-        (λ cleared. (cleared ≡ network) × IsAcceptedNetwork network)
+        (λ cleared. (cleared ≡ network) × IsAcceptedNetwork network × (misfit network ≡ Ok tt))
         (λ f. FailsToAcceptNetwork f network) }
 {
     let cleared = match network.clear() {
@@ -61,6 +64,18 @@ pub(crate) fn accept(
     }
     let switches = &cleared.network().layout().switches;
     Err(short_rows(alloc, switches, shorts))
+}
+
+/// Finds the ways of a network that fits together. An error says that memory ran out.
+pub(crate) fn ways_of(alloc: Global, cleared: &ClearedNetwork) -> Result<Vec<Way>, AllocError>
+    requires { misfit cleared.now ≡ Ok tt }
+    ensures { IfOk result (λ ways. AreWaysOf cleared.now ways.items) }
+{
+    match cleared.ways(alloc) {
+        Ok(ways) => Ok(ways),
+        Err(NetworkFault::Memory) => Err(AllocError),
+        Err(_) => unreachable!(),
+    }
 }
 
 /// Returns what is written of an accepted network, of switches of these names, of its ways and of those over which nothing comes.
@@ -87,13 +102,11 @@ fn check_text(
     names: &[String],
     cleared: &ClearedNetwork,
 ) -> Result<String, AllocError>
-    requires { map string_bytes names.now ≡ names_of cleared.now.layout.switches }
+    requires names { map string_bytes names.now ≡ names_of cleared.now.layout.switches }
+    requires kept { misfit cleared.now ≡ Ok tt }
     ensures { IfOk result (λ text. IsNetworkCheck form cleared.now (string_bytes text)) }
 {
-    let Ok(ways) = cleared.ways(alloc) else {
-        // An accepted network has all its ways, so that this is `Memory`.
-        return Err(AllocError);
-    };
+    let ways = ways_of(alloc, cleared)?;
     let layout = cleared.network().layout();
     let ways = part_ways(alloc, layout, ways)?;
     ways_text(alloc, form, names, layout.one_line, &ways.up, &ways.lost)

@@ -1,10 +1,12 @@
 //! The links of a network, and the ports at which they lead out of it.
 
-ghost use Rattle.std.specs.Prelude.{◌≡◌, ◌++◌, true, map, string_bytes, IfOk, OnOk};
+ghost use Rattle.std.specs.Prelude.{◌≡◌, ◌++◌, true, map, string_bytes, Ok, IfOk, OnOk};
+ghost use Rattle.afdx_network_check.specs.Order.{misfit};
 ghost use Rattle.afdx_serve.specs.Inner.NetworkRunning.{network_in, is_accepted};
 ghost use Rattle.afdx_serve.specs.NetworkMeasures.{AreEndsOf, HaveEnds, end_text, unchecked_end};
 ghost use Rattle.afdx_network_report.specs.LinkEnds.{link_end_of};
 
+use crate::network_check::ways_of;
 use crate::network_plan::NetworkPlan;
 use afdx_csv::Form;
 use afdx_measure::Delays;
@@ -57,17 +59,16 @@ fn ends_of_exits(
 
 /// Returns the ends of an accepted network, with what is promised of its ways.
 fn accepted_ends(alloc: Global, cleared: &ClearedNetwork) -> Result<Vec<LinkEnd>, AllocError>
+    requires { misfit cleared.now ≡ Ok tt }
     ensures { IfOk result (λ ends. AreEndsOf true cleared.now ends.items) }
 {
-    match cleared.ways(alloc) {
-        Ok(ways) => ends_of_ways(alloc, &ways),
-        // An accepted network has all its ways, so that this is `Memory`.
-        Err(_) => Err(AllocError),
-    }
+    let ways = ways_of(alloc, cleared)?;
+    ends_of_ways(alloc, &ways)
 }
 
 /// Returns the links of a network, and the ports at which they lead out of it: by link, then by switch and port.
 pub(crate) fn ends_of(alloc: Global, plan: &NetworkPlan) -> Result<Vec<LinkEnd>, AllocError>
+    requires { is_accepted plan.now ≡ true → misfit (network_in plan.now) ≡ Ok tt }
     ensures { IfOk result (λ ends. AreEndsOf (is_accepted plan.now) (network_in plan.now) ends.items) }
 {
     match plan {

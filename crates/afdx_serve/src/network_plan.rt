@@ -1,6 +1,7 @@
 //! What a run of a network is made over.
 
-ghost use Rattle.std.specs.Prelude.{◌≡◌, false, not, map, string_bytes, MatchResult};
+ghost use Rattle.std.specs.Prelude.{◌≡◌, false, not, map, string_bytes, Ok, MatchResult};
+ghost use Rattle.afdx_network_check.specs.Order.{misfit};
 ghost use Rattle.afdx_network_check.specs.Rules.{IsAcceptedNetwork};
 ghost use Rattle.afdx_serve.specs.Networks.{names_of};
 ghost use Rattle.afdx_serve.specs.NetworkRuns.{FailsToPlanNetwork};
@@ -41,7 +42,8 @@ pub(crate) fn plan(
 ) -> Result<NetworkPlan, Failure>
     requires { map string_bytes names.now ≡ names_of network.layout.switches }
     ensures { MatchResult result
-        (λ plan. (network_in plan ≡ network) × (is_accepted plan ≡ not unchecked) × (unchecked ≡ false → IsAcceptedNetwork network))
+        (λ plan. (network_in plan ≡ network) × (is_accepted plan ≡ not unchecked) × (unchecked ≡ false → IsAcceptedNetwork network)
+        × (unchecked ≡ false → misfit network ≡ Ok tt))
         (λ f. FailsToPlanNetwork f unchecked network) }
 {
     if unchecked {

@@ -1,9 +1,10 @@
 -- What the run of a network is made over, of which nothing is put.
-use Rattle.std.specs.Prelude.{◌≡◌, ◌++◌, ℕ, false, not, length, map, List, Option, string_bytes}
+use Rattle.std.specs.Prelude.{◌≡◌, ◌++◌, ℕ, false, not, length, map, List, Option, Ok, string_bytes}
 use Rattle.afdx_core.specs.State.{State}
 use Rattle.afdx_count.specs.Tally.{Tally}
 use Rattle.afdx_trace.specs.declared.shown.Selection.{Selection}
 use Rattle.afdx_origins.specs.Origins.{Origins}
+use Rattle.afdx_network_check.specs.Order.{misfit}
 use Rattle.afdx_network_check.specs.Rules.{IsAcceptedNetwork}
 use Rattle.afdx_network_check.specs.Net.{Network}
 use Rattle.afdx_network.specs.Given.{NoneShareAPort}
@@ -30,6 +31,7 @@ pub record IsPlanned (inputs : NetworkInputs) (files : Option Files) (p : Planne
   pub one_each : NoneShareAPort (network_in p.plan)
   pub chosen : is_accepted p.plan ≡ not inputs.unchecked
   pub accepted : inputs.unchecked ≡ false → IsAcceptedNetwork (network_in p.plan)
+  pub kept : inputs.unchecked ≡ false → misfit (network_in p.plan) ≡ Ok tt
 
 -- what is written of the switches has more of one: its counts, how full its buffers were, and when its links were policed
 pub record HasPartsMore (form : Form) (name : List ℕ) (counts : Tally) (s : State) (old new : Parts) : Type 0 where

@@ -1,5 +1,5 @@
 use Rattle.afdx_serve.proofs.NetworkMeasureLemmas.{accepted_ends}
 use Rattle.afdx_serve.proofs.network_ends.accepted_ends.Goals as goal
 
-pub returns-in-Ok : goal.returns-in-Ok
-returns-in-Ok c = accepted_ends c.args.cleared.now c.in-Ok.ways.items c.ends_of_ways.result c.in-Ok.ensures (rw c.deref.ensures.value at c.ends_of_ways.ensures)
+pub returns : goal.returns
+returns c = accepted_ends c.args.cleared.now c.in_ok-ways.ways.items c.ends_of_ways.result c.in_ok-ways.ensures (rw c.deref.ensures.value at c.ends_of_ways.ensures)

@@ -1,8 +1,11 @@
 use Rattle.std.proofs.Common.{map, string_bytes}
 use Rattle.afdx_serve.specs.Inner.NetworkRunning.{network_in, is_accepted}
 use Rattle.afdx_serve.proofs.NetworkTextLemmas.{measured_said}
-use Rattle.afdx_serve.proofs.WatchLemmas.{named_switches}
+use Rattle.afdx_serve.proofs.WatchLemmas.{named_switches, accepted_keeps}
 use Rattle.afdx_serve.proofs.network_measure.measured_text.Goals as goal
+
+pub ends_of-requires : goal.ends_of-requires
+ends_of-requires g c = accepted_keeps c.requires.0 c.requires.1 c.args.planned.now c.requires.2
 
 pub text_of-requires : goal.text_of-requires
 text_of-requires g c =

@@ -1,5 +1,6 @@
-use Rattle.std.proofs.Common.{rules, ◌≡◌, ◌∙◌, length, map, string_bytes, inl, inr, sym, ap, subst}
+use Rattle.std.proofs.Common.{rules, ◌≡◌, ◌∙◌, length, map, string_bytes, Ok, inl, inr, sym, ap, subst}
 use Rattle.afdx_network_check.specs.Net.{Network}
+use Rattle.afdx_network_check.specs.Order.{misfit}
 use Rattle.afdx_network_check.specs.Rules.{IsAcceptedNetwork}
 use Rattle.afdx_network.specs.Given.{NoneShareAPort}
 use Rattle.afdx_serve.specs.Networks.{names_of, HasNetwork}
@@ -31,6 +32,7 @@ returns-clause-got g c =
         one_each = subst NoneShareAPort same (none_share_a_port c.no_port_has_two_wires.ensures files c.args.inputs.now.network.now net got.0);
         chosen = planned.1;
         accepted = λ checked. subst IsAcceptedNetwork same (planned.2 checked);
+        kept = λ checked. subst (λ (n : Network). misfit n ≡ Ok tt) same (planned.3 checked);
       },
       got.1,
     )

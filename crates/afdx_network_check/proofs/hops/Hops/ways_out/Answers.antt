@@ -9,4 +9,4 @@ pub loop-exit-preserved : goal.loop-exit-preserved
 loop-exit-preserved c =
     let grown : c.push.new.self.items ≡ c.loop-exit.ways.items ++ c.in_ok-way_out.field-0 ∷ [] = search rules in
     subst (λ (ways : List Way). AllZip (IsWayOut c.args.self.now) (take (c.loop-exit.exit-index + 1) c.args.exits.now) ways) (sym grown)
-    (way_more c.args.self.now c.args.exits.now c.loop-exit.exit-index _ c.loop-exit.ways.items c.in_ok-way_out.field-0 c.loop-exit-test.true c.loop-exit.invariant c.in_ok-way_out.ensures)
+    (way_more c.args.self.now c.args.exits.now c.loop-exit.exit-index _ c.loop-exit.ways.items c.in_ok-way_out.field-0 c.loop-exit-test.true c.loop-exit.invariant c.in_ok-way_out.ensures.way)
