@@ -156,6 +156,17 @@ has_notices() {
     done
 }
 
+# has_linked FOLDER..: each file to which a page links is there.
+has_linked() {
+    local page link lacking=0
+    while read -r page; do
+        while read -r link; do
+            [ -e "$(dirname "$page")/$link" ] || { echo "$page: $link" && lacking=1; }
+        done < <(grep -oP '\]\(\K[^)#:\s]+(?=[)#])' "$page")
+    done < <(find "$@" -name '*.md')
+    [ "$lacking" -eq 0 ]
+}
+
 # without_anything ARGUMENT..: the .deb's program in a folder that has the C library and its loader beside it, and no more.
 without_anything() {
     local way=(chroot)
@@ -242,6 +253,7 @@ mkdir -p installed/lib/x86_64-linux-gnu installed/lib64 stubs typing/{inner,olde
 cp -L /lib/x86_64-linux-gnu/libc.so.6 installed/lib/x86_64-linux-gnu && cp -L /lib64/ld-linux-x86-64.so.2 installed/lib64
 check "both have the program" has_the_program
 check "the notices of what is linked in" has_notices
+check "each file to which a page of theirs links" has_linked "$unpacked" installed/usr/share/doc/afdx
 check "lintian finds no error" lintian --fail-on error "$deb"
 check "what the program needs" says_what_it_needs
 check "README's first run, beside the C library alone" first_run

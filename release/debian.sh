@@ -13,7 +13,7 @@ lay_root() {
     for command in "$share"/afdx/bin/afdx-*; do
         ln -s "../share/afdx/bin/${command##*/}" "$root/usr/bin"
     done
-    cp -r "$unpacked"/{README.md,CHANGELOG.md,docs,examples,notices} "$share/doc/afdx"
+    cp -r "$unpacked"/{README.md,SECURITY.md,CHANGELOG.md,docs,examples,bench,notices} "$share/doc/afdx"
     write_copyright >"$share/doc/afdx/copyright"
     write_changelog | gzip -9n >"$share/doc/afdx/changelog.gz"
     write_overrides >"$share/lintian/overrides/afdx"

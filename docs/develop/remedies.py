@@ -4,9 +4,9 @@
     docs/develop/remedies.py           writes crates/afdx_remedies/src/entries.rt anew
     docs/develop/remedies.py --check   changes nothing; fails if the file is not what the page says
 
-A code is the word of a line that stands for its fault: `A2` of an argument, `C6` of a table, `P3` of a capture, `L2` of a load, `G3` or `J1` of a network,
-and `usage`, `get`, `put`, `read`, `write` and `memory`. Lines of one code have one entry: of each name the first row of the page that
-has it, with its cause and its remedy, in lines of at most 80 columns.
+A code is the word of a line that stands for its fault: `A2` of an argument, `C6` of a table, `P3` of a capture, `L2` of a load,
+`G3` or `J1` of a network, and `usage`, `get`, `put`, `read`, `write` and `memory`. Lines of one code have one entry: of each name
+the first row of the page that has it, with its cause and its remedy, in lines of at most 80 columns.
 """
 
 import argparse
