@@ -1,6 +1,7 @@
 """What the command afdx-import makes of recordings: numbers by hand, and a plain model of random ones."""
 import gzip
 import shutil
+import struct
 from dataclasses import dataclass, replace
 from pathlib import Path
 from unittest.mock import patch
@@ -161,7 +162,8 @@ def test_a_recording_that_is_taken_twice(folder: Folder) -> None:
         with patch.object(Import.__init__, "__defaults__", (piece,)):
             status, lines, notes = folder.run(rules, a_pcap=text, a_pcap_gz=gzip.compress(text))
         assert (status, lines[0].split()[2], notes) == (0, "10", [
-            "afdx-import: warning: 5 of 10 frames are there twice, with one stamp: is a recording taken twice?, port-1"])
+            "afdx-import: warning: 5 of 10 frames are there twice, with one stamp: is a recording taken twice?, "
+            "port-1"])
 
 
 def test_check_sequences_where_interfaces_come_later(folder: Folder) -> None:
@@ -207,6 +209,26 @@ def test_drift_counts_from_the_first_recording_of_a_source(folder: Folder) -> No
     early, late = Record(AT, frame(1)), Record(AT + 2 * SECOND, frame(2))
     assert folder.run(rules, a9_pcap=captures.pcap([early]), a10_pcap=captures.pcap([late]))[0] == 0
     assert folder.captures() == {"port-1.pcap": captures.pcap([early, replace(late, stamp=late.stamp + 2000)])}
+
+
+def test_dropped_frames_that_the_recording_counts(folder: Folder) -> None:
+    """The last statistics of an interface count; old packets count what was dropped before each, if it is known."""
+    def statistics(interface: int, dropped: int, code: int = 5) -> bytes:
+        option = captures.option("<", code, struct.pack("<Q", dropped))
+        return captures.block("<", 5, struct.pack("<III", interface, 0, 0) + option + bytes(4))
+
+    def old(dropped: int) -> bytes:
+        return captures.block("<", 2, struct.pack("<HHIIII", 0, dropped, AT >> 32, AT & 0xFFFFFFFF, 60, 60) + frame())
+
+    begin = captures.section() + captures.interface() + captures.interface()
+    short, past = b"", struct.pack("<IIIHH", 0, 0, 0, 5, 99)
+    wrong = statistics(7, 9) + captures.block("<", 5, short) + captures.block("<", 5, past)
+    for text, count in ((statistics(0, 3) + statistics(1, 8) + statistics(0, 5, 7) + wrong, 5), (statistics(0, 0), 0),
+                        (old(0xFFFF) + old(0) + statistics(1, 8), 0), (old(0xFFFF) + old(2) + statistics(1, 1), 2)):
+        status, _, said = folder.run(ONE + "interface = 0\n", a_pcap=begin + text)
+        warnings = [line for line in said if "dropped" in line]
+        assert (status, warnings) == (0, [
+            f"afdx-import: warning: {count} frames were dropped when it was recorded, a.pcap, interface 0"][:count])
 
 
 def test_warnings(folder: Folder) -> None:

@@ -28,6 +28,7 @@ def notes(done: Import) -> Iterator[str]:
     for reading in done.readings.values():
         if reading.recording.broken:
             yield f"warning: breaks off; what was whole before is used, {reading.recording.broken}"
+        yield from dropped_notes(reading)
         yield from check_sequence_notes(reading)
         if reading.left.any():
             yield left_note(reading)
@@ -35,6 +36,15 @@ def notes(done: Import) -> Iterator[str]:
         if taker.source.interface is not None and not any(map(taker.is_asked, taker.recording.interfaces)):
             yield interface_note(taker)
     yield from port_notes(done.ports)
+
+
+def dropped_notes(reading: Reading) -> Iterator[str]:
+    """Answers of which interfaces that are asked for the recording says that frames were dropped."""
+    for place, count in sorted(reading.recording.dropped.items()):
+        interface = reading.recording.interfaces[place]
+        if count and any(taker.is_asked(interface) for taker in reading.takers):
+            yield (f"warning: {count} frames were dropped when it was recorded, {reading.recording.name}, "
+                   f"interface {interface.number}")
 
 
 def check_sequence_notes(reading: Reading) -> Iterator[str]:
@@ -51,8 +61,8 @@ def check_sequence_notes(reading: Reading) -> Iterator[str]:
                    f"{reading.recording.name}, interface {interface}")
     for place, check in reading.claimed.items():
         if check.right < check.looked:
-            yield (f"warning: {check.looked - check.right} of {check.looked} frames looked at do not end with their check "
-                   f"sequence, taken off all, {reading.recording.name}, "
+            yield (f"warning: {check.looked - check.right} of {check.looked} frames looked at do not end with their "
+                   f"check sequence, taken off all, {reading.recording.name}, "
                    f"interface {reading.recording.interfaces[place].number}")
 
 

@@ -11,14 +11,16 @@ from afdx.recordings.columns import HALF, SECOND, SENDER, Batch, Column, Interfa
 from afdx.recordings.faults import RecordingFault
 from afdx.recordings.form import MOST_CAPTURED, Form
 
-SECTION, INTERFACE, OLD_PACKET, SIMPLE, PACKET = 0x0A0D0D0A, 1, 2, 3, 6
-IN_TURN = {SECTION, INTERFACE, SIMPLE}  # blocks that are taken one by one
+SECTION, INTERFACE, OLD_PACKET, SIMPLE, STATISTICS, PACKET = 0x0A0D0D0A, 1, 2, 3, 5, 6
+IN_TURN = {SECTION, INTERFACE, SIMPLE, STATISTICS}  # blocks that are taken one by one
 READ = {SECTION, INTERFACE, OLD_PACKET, SIMPLE, PACKET}
 MAGIC = struct.pack("<I", SECTION)
 ORDERS = {bytes.fromhex("1a2b3c4d"): ">", bytes.fromhex("4d3c2b1a"): "<"}
 LEAST, MOST = 12, 1024 * 1024  # bytes of a block that is read; others may be longer
 BEFORE_FRAME, AROUND_FRAME = 28, 32  # bytes of a packet's block before its frame, and in all beside it
 NAME, RESOLUTION, SECONDS_LATER = 2, 9, 14  # options of an interface
+DROPPED = (5, 7)  # options of statistics: by the interface, and by the operating system
+UNKNOWN = 0xFFFF  # how many were dropped before an old packet
 LAST_POWER_OF_TEN, LAST_POWER_OF_TWO = 19, 63  # of the resolutions whose seconds 64 bits hold
 
 
@@ -114,6 +116,8 @@ class Pcapng(Form):
         self.refuse(interface >= len(self.interfaces), where, origin, "interface {} is not declared", interface)
         stamp = self.stamps(fields, interface)
         self.refuse_late(stamp, where, origin)
+        if (kind == OLD_PACKET).any():
+            self.count_dropped(fields[kind == OLD_PACKET, 2], interface[kind == OLD_PACKET])
         original = np.maximum(fields[:, 6], captured)
         sender = words(data, at + BEFORE_FRAME + SENDER, 1, "<")[:, 0]
         return Batch(data, origin, where, at + BEFORE_FRAME, captured, original, stamp, interface, sender)
@@ -138,7 +142,7 @@ class Pcapng(Form):
         kind, size = struct.unpack_from(f"{self.order}II", data, at)
         if size < LEAST or size % 4:
             raise self.fault(f"a block's length of {size} bytes")
-        if kind not in READ:
+        if kind not in READ and (kind != STATISTICS or size > MOST):
             self.pass_over(size, len(data) - at)
             return None
         if size > MOST:
@@ -154,6 +158,9 @@ class Pcapng(Form):
         """Takes a section's or an interface's block."""
         if struct.unpack(f"{self.order}I", block[-4:])[0] != len(block):
             raise self.fault(f"a block's length of {len(block)} bytes is not that at its end")
+        if kind == STATISTICS:
+            self.take_statistics(block)
+            return
         if kind == SIMPLE:
             raise self.fault("a simple packet block: its packet has no stamp")
         if len(block) < (28 if kind == SECTION else 20):
@@ -165,6 +172,26 @@ class Pcapng(Form):
         major, = struct.unpack_from(f"{self.order}H", block, 12)
         if major != 1:
             raise self.fault(f"pcapng version {major}")
+
+    def take_statistics(self, block: bytes) -> None:
+        """Takes how many frames of an interface were dropped up to here; what cannot be read is passed over."""
+        if len(block) < 24:
+            return
+        place = self.section + struct.unpack_from(f"{self.order}I", block, 8)[0]
+        try:
+            options = self.options(block[20:-4])
+        except RecordingFault:
+            return
+        counts = [options[code] for code in DROPPED if len(options.get(code, b"")) == 8]
+        if place < len(self.interfaces) and counts:
+            self.dropped[place] = sum(struct.unpack(f"{self.order}Q", count)[0] for count in counts)
+
+    def count_dropped(self, old: Column, interface: Column) -> None:
+        """Adds what was dropped before old packets, by the words that say so and their interfaces."""
+        count = old >> 16 if self.order == "<" else old & 0xFFFF
+        for place in np.unique(interface).tolist():
+            known = count[(interface == place) & (count != UNKNOWN)]
+            self.dropped[place] = self.dropped.get(place, 0) + int(known.sum())
 
     def add_interface(self, block: bytes) -> None:
         link_type, = struct.unpack_from(f"{self.order}H", block, 8)

@@ -27,6 +27,11 @@ class Recording:
     def interfaces(self) -> list[Interface]:
         return self.form.interfaces if self.form else []
 
+    @property
+    def dropped(self) -> dict[int, int]:
+        """Answers how many frames the recording says were dropped, by the place of the interface."""
+        return self.form.dropped if self.form else {}
+
     def batches(self) -> Iterator[Batch]:
         """Answers all records in their order. Raises RecordingFault, and OSError with the file's name if it fails."""
         try:
