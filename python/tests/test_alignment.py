@@ -69,6 +69,17 @@ def test_one_mark(tmp_path: Path, capsys: pytest.CaptureFixture[str]) -> None:
         "# beside this they differ by 0 to 0 ns, half of them by 0 to 0 ns", "offset_ns = -1500000", "drift_ppb = 0"]
 
 
+def test_where_the_drift_counts_from(tmp_path: Path, capsys: pytest.CaptureFixture[str]) -> None:
+    """It is said where there is a drift."""
+    marks = [Record(AT + number * SECOND, frame(number, 1)) for number in (1, 2)]
+    (tmp_path / "a").write_bytes(captures.pcap(marks))
+    (tmp_path / "b").write_bytes(captures.pcap([marks[0], Record(marks[1].stamp + 20_000, marks[1].frame)]))
+    assert main(["--align", str(tmp_path / "a"), str(tmp_path / "b")]) == 0
+    assert capsys.readouterr().out.splitlines()[2:] == [
+        "# the drift counts from its first record: it has to be the first recording of its source", "offset_ns = 0",
+        "drift_ppb = -20000"]
+
+
 def test_check_sequences_are_left_out(tmp_path: Path) -> None:
     sent = traffic(1, random.Random(1))
     checked = [Record(one.stamp, captures.checked(one.frame)) for one in sent]

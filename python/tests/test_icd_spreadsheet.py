@@ -52,6 +52,11 @@ def test_separators_and_line_ends(tmp_path: Path, text: bytes) -> None:
     assert read(tmp_path / "list.csv", text) == [Row(1, ["id", "to"]), Row(2, ["1", "A"])]
 
 
+def test_a_first_line_that_says_the_separator(tmp_path: Path) -> None:
+    rows = read(tmp_path / "list.csv", b'\xef\xbb\xbfsep=;\r\nid,a,b;to\r\n1;A\r\n')
+    assert rows == [Row(2, ["id,a,b", "to"]), Row(3, ["1", "A"])]
+
+
 def test_a_row_is_of_the_line_where_it_begins(tmp_path: Path) -> None:
     rows = read(tmp_path / "list.csv", b'\nid,to\n\n1,"A,\nB"\n,,\n2,C\n')
     assert rows == [Row(2, ["id", "to"]), Row(4, ["1", "A,\nB"]), Row(7, ["2", "C"])]

@@ -1,6 +1,7 @@
 """Reads spreadsheets, .csv and .xlsx, as rows of texts that know their line."""
 import csv
 import io
+import re
 from collections.abc import Iterable
 from dataclasses import dataclass
 from pathlib import Path
@@ -14,6 +15,7 @@ from afdx import files
 from afdx.failure import INPUT, Failure
 
 SEPARATORS = (",", "\t", ";")
+SAID = re.compile(r"sep=([,;\t])[,;\t]*\r?\n")
 PARTS = "{http://schemas.openxmlformats.org/spreadsheetml/2006/main}"  # before the tag of each part of a workbook
 
 
@@ -106,12 +108,16 @@ def separator_of(text: str) -> str:
 
 
 def separated_rows(text: str) -> list[Row]:
-    """Answers the rows of separated values; one with line feeds in its cells is of the line where it begins."""
-    reader = csv.reader(io.StringIO(text, newline=""), delimiter=separator_of(text), strict=True)
-    rows, line = [], 1
+    """Answers the rows of separated values; one with line feeds in its cells is of the line where it begins. A first
+    line may say the separator, as some spreadsheets have it."""
+    said = SAID.match(text)
+    separator = said[1] if said else separator_of(text)
+    begin, first = (said.end(), 1) if said else (0, 0)
+    reader = csv.reader(io.StringIO(text[begin:], newline=""), delimiter=separator, strict=True)
+    rows, line = [], first + 1
     for cells in reader:
         rows.append(Row(line, [cell.strip() for cell in cells]))
-        line = reader.line_num + 1
+        line = first + reader.line_num + 1
     return rows
 
 
