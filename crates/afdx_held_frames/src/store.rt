@@ -11,6 +11,9 @@ use slab::Slab;
 use std::alloc::{AllocError, Allocator};
 use std::marker::Model;
 
+/// For how many arrivals room is made at once (profile): so many that most find room, and so few that their room is a few KB.
+const ARRIVALS_AT_ONCE: usize = 64;
+
 /// The frames that are held.
 ///
 /// Contracts see, for each arrival in order, the frame that is held of it, if any, with the number of its copies that
@@ -113,23 +116,27 @@ impl<'a, A: Allocator + Copy> Store<'a, A> {
         self.keys.let_go(self.low);
     }
 
-    /// Makes room for one more arrival. An error says that memory ran out; what is held is as before then. O(1) on average.
+    /// Makes room for one more arrival, and for 64 if there is none. An error says that memory ran out; what is held is as before then.
+    /// O(1) on average.
     pub fn make_room(&mut self) -> Result<(), AllocError>
         ensures ok { OnOk result (0 < self.new.room) }
         ensures held { self.new.held ≡ self.old.held }
     {
+        if self.room > 0 {
+            return Ok(());
+        }
         self.let_go();
-        self.reserve_one()
+        self.reserve_some()
     }
 
-    /// Makes room for one more arrival.
-    fn reserve_one(&mut self) -> Result<(), AllocError>
+    /// Makes room for 64 more arrivals.
+    fn reserve_some(&mut self) -> Result<(), AllocError>
         ensures ok { OnOk result (0 < self.new.room) }
         ensures held { self.new.held ≡ self.old.held }
     {
-        self.slots.reserve(1)?;
-        self.keys.reserve(1)?;
-        self.room = 1;
+        self.slots.reserve(ARRIVALS_AT_ONCE)?;
+        self.keys.reserve(ARRIVALS_AT_ONCE)?;
+        self.room = ARRIVALS_AT_ONCE;
         Ok(())
     }
 

@@ -1,7 +1,7 @@
 use Rattle.std.proofs.Common.{refl, ap, arith, count_by, is_some}
 use Rattle.slab.specs.Slab.{Slab}
 use Rattle.afdx_held_frames.proofs.Keeping.{kept_reserved}
-use Rattle.afdx_held_frames.proofs.store.Store.reserve_one.Goals as goal
+use Rattle.afdx_held_frames.proofs.store.Store.reserve_some.Goals as goal
 
 pub invariant_of-self : goal.invariant_of-self
 invariant_of-self g c =
@@ -22,5 +22,5 @@ pub invariant_of-self-2 : goal.invariant_of-self-2
 invariant_of-self-2 g c =
     let p = c.self.inside in
     let same = ap (λ (s : Slab _). s.slots) c.reserve.ensures.rest_kept in
-    kept_reserved p c.reserve.new.self c.reserve-2.new.self 1 c.self.invariant same c.reserve-2.ensures.items c.reserve-2.ensures.first
+    kept_reserved p c.reserve.new.self c.reserve-2.new.self 64 c.self.invariant same c.reserve-2.ensures.items c.reserve-2.ensures.first
     c.in_ok-reserve.ensures.room c.in_ok-reserve-2.ensures.ok
