@@ -98,6 +98,7 @@ impl<'a, A: Allocator + Copy> Relay<'a, A> {
     }
 
     /// Takes an arrival, as [`Switch::arrive`](crate::Switch::arrive) does, with its refusals and its cost.
+    #[inline(always)]
     pub fn arrive(
         &mut self,
         in_port: u8,

@@ -73,6 +73,7 @@ pub struct Step {
 
 impl Step {
     /// Makes the step that says what became of the arrival of this row.
+    #[inline(always)]
     pub(crate) fn of(
         number: usize,
         row: &Row,

@@ -115,6 +115,7 @@ impl<A: Allocator + Copy> Links<A> {
     }
 
     /// Returns whether the link at a place has the number.
+    #[inline(always)]
     fn has_number_at(&self, place: usize, id: u16) -> bool
         ensures at { IsTrue result → IsPlaceOf (λ l. l.id) id self.now place }
         ensures distinct { IsDistinct nat_eq (map (λ l. l.id) self.now) }
@@ -124,6 +125,7 @@ impl<A: Allocator + Copy> Links<A> {
 
     /// Finds the place of the link with a number: the one that is given, if the link there has the number, else the one that
     /// a search finds.
+    #[inline(always)]
     fn place_reported(&self, id: u16, reported: Option<usize>) -> Option<usize>
         ensures at { IfSome result (IsPlaceOf (λ l. l.id) id self.now) }
         ensures absent { IfNone result (list_any (λ l. id == l.id) self.now ≡ false) }
@@ -148,6 +150,7 @@ impl<A: Allocator + Copy> Links<A> {
 
     /// Counts a passed frame at the link with a number, which may be at the place that is given, and returns the priority
     /// of its copies.
+    #[inline(always)]
     fn note_passed(&mut self, id: u16, reported: Option<usize>) -> Option<Priority>
         ensures links { self.new ≡ changed_at (λ l. l.id) id one_passed self.old }
         ensures class { result ≡ option_map (λ l. l.priority) (link_in id self.old) }
@@ -162,6 +165,7 @@ impl<A: Allocator + Copy> Links<A> {
         }
     }
 
+    #[inline(always)]
     fn note_policed(&mut self, id: u16, reported: Option<usize>)
         ensures { self.new ≡ changed_at (λ l. l.id) id one_policed self.old }
     {
@@ -172,6 +176,7 @@ impl<A: Allocator + Copy> Links<A> {
 
     /// Counts an arrival at its link, which may be at the place that is given, and returns the priority of the copies of a
     /// passed frame.
+    #[inline(always)]
     pub(crate) fn note(&mut self, fate: Fate, reported: Option<usize>) -> Option<Priority>
         ensures links { self.new ≡ map (noted_link fate) self.old }
         ensures class { result ≡ class_of fate self.old }

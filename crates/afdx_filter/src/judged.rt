@@ -53,6 +53,7 @@ impl Judged {
 /// Returns the verdict on a frame that arrives at a port, with the link that it names and the place of a clean frame's link.
 ///
 /// O(1) on average, with one look-up of the link by its number; it takes no memory.
+#[inline(always)]
 pub fn judge<A: Allocator>(table: &Table, in_port: u8, frame: &Record<'_, A>) -> Judged
     ensures verdict { result.verdict ≡ verdict_of table.now in_port frame.now }
     ensures place { result.place ≡ place_named table.now result.verdict }
@@ -77,6 +78,7 @@ pub fn judge<A: Allocator>(table: &Table, in_port: u8, frame: &Record<'_, A>) ->
 }
 
 /// Judges a frame of this size and link number, which has passed the tests that come before that of its link.
+#[inline(always)]
 fn judge_number(table: &Table, in_port: u8, size: u32, number: u16) -> Judged
     ensures verdict { result.verdict ≡ link_verdict in_port size (link_row table.now number) }
     ensures place { result.place ≡ place_named table.now result.verdict }

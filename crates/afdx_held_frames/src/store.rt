@@ -148,6 +148,7 @@ impl<'a, A: Allocator + Copy> Store<'a, A> {
     }
 
     /// Adds the next arrival, of whose frame so many copies are left; if none is, the frame is dropped. O(1).
+    #[inline(always)]
     pub fn add(&mut self, copies: usize, frame: Record<'a, A>)
         requires { 0 < self.old.room }
         ensures { self.new.held ≡ self.old.held ++ newcomer copies frame.entry ∷ [] }
@@ -160,6 +161,7 @@ impl<'a, A: Allocator + Copy> Store<'a, A> {
     }
 
     /// Adds the next arrival, which has no copies. O(1).
+    #[inline(always)]
     pub fn skip(&mut self)
         requires { 0 < self.old.room }
         ensures { self.new.held ≡ self.old.held ++ None ∷ [] }
@@ -169,6 +171,7 @@ impl<'a, A: Allocator + Copy> Store<'a, A> {
     }
 
     /// Adds the next arrival, which has at least one copy.
+    #[inline(always)]
     fn hold(&mut self, copies: usize, frame: Record<'a, A>)
         requires room { 0 < self.old.room }
         requires some { 0 < copies }

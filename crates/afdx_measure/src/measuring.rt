@@ -289,6 +289,7 @@ impl<'a, A: Allocator + Copy> Measuring<'a, A> {
     }
 
     /// Takes an arrival, as [`Relay::arrive`] does, with its refusals and its cost.
+    #[inline(always)]
     pub fn arrive(
         &mut self,
         in_port: u8,

@@ -132,6 +132,7 @@ impl<'a, A: Allocator + Copy> Machine<'a, A> {
     }
 
     /// Gives a record to the switch, and counts it.
+    #[inline(always)]
     fn give(&mut self, port: u8, frame: Record<'a, A>) -> Result<(), AllocError>
         requires early { frame.stamp < last_second }
         requires none_else { refusal_of self.old.switch.run port frame.stamp ≡ None }
