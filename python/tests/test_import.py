@@ -231,6 +231,41 @@ def test_dropped_frames_that_the_recording_counts(folder: Folder) -> None:
             f"afdx-import: warning: {count} frames were dropped when it was recorded, a.pcap, interface 0"][:count])
 
 
+@pytest.mark.parametrize("order, options, count", [
+    ("<", "0400 0800 0300000000000000", 3),
+    (">", "0004 0008 0000000000000003", 3),
+    ("<", "0400 0800 0000000001000000 0000 0000", 2**32),
+    (">", "0001 0005 6162636465 000000 0002 0004 00000001 0004 0008 0000000000000009 0004 0008 0000000000000001", 9),
+    ("<", "0400 0400 07000000 0400 0800 0700000000000000", 0),
+    ("<", "0000 0000 0400 0800 0700000000000000", 0),
+    ("<", "0400 0800 07000000", 0),
+    ("<", "0100 ffff 0400 0800 0700000000000000", 0)])
+@pytest.mark.parametrize("size", [60, 61, 63])
+def test_dropped_frames_that_packets_count(folder: Folder, order: str, options: str, count: int, size: int) -> None:
+    """Option 4 of a packet, of 64 bits, wherever it is among its options; of a repeated one the first; one of a wrong
+    length, one after the end of options and one past the block's end are none."""
+    two = [captures.packet(Record(AT, frame(size=size), interface=number), order, options=bytes.fromhex(options))
+           for number in (0, 1)]
+    none = captures.packet(Record(AT + 1, frame(size=size)), order)
+    text = captures.section(order) + captures.interface(order) + captures.interface(order)
+    status, _, said = folder.run(ONE + "interface = 0\n", a_pcap=text + none + b"".join(two) + none)
+    assert (status, [line for line in said if "dropped" in line]) == (0, [
+        f"afdx-import: warning: {count} frames were dropped when it was recorded, a.pcap, interface 0"][:count])
+
+
+@pytest.mark.parametrize("in_all, before, count", [(5, (2, 1), 5), (2, (2, 1), 3), (0, (0, 0), 0)])
+def test_dropped_frames_that_are_counted_in_two_ways(folder: Folder, in_all: int, before: tuple[int, int],
+                                                     count: int) -> None:
+    """Statistics and packets tell of the same frames: the greater count is said, once."""
+    packets = [captures.packet(Record(AT + one, frame()), options=bytes.fromhex("04000800") + struct.pack("<Q", one))
+               for one in before]
+    statistics = captures.block("<", 5, bytes(12) + bytes.fromhex("05000800") + struct.pack("<Q", in_all))
+    text = captures.section() + captures.interface() + b"".join(packets) + statistics
+    status, _, said = folder.run(ONE, a_pcap=text)
+    assert (status, [line for line in said if "dropped" in line]) == (0, [
+        f"afdx-import: warning: {count} frames were dropped when it was recorded, a.pcap, interface 0"][:count])
+
+
 def test_warnings(folder: Folder) -> None:
     mixed = [Record(AT, frame(network=0x20)), Record(AT, frame(network=0x40)), Record(AT, frame())]
     late = [Record(AT + SECOND + 1, frame())]

@@ -20,10 +20,14 @@ class Form(ABC):
     def __init__(self, name: str) -> None:
         self.name = name
         self.interfaces: list[Interface] = []
-        self.dropped: dict[int, int] = {}  # frames, as the recording says, by the interface's place
         self.count = 0  # of records that were read
         self.offset = 0  # of the record after them
         self.used = 0  # bytes of the last data that are not needed again
+
+    @property
+    def dropped(self) -> dict[int, int]:
+        """Answers how many frames the recording says were dropped, by the place of the interface."""
+        return {}
 
     @property
     def ends_within(self) -> bool:

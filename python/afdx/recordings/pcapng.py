@@ -2,7 +2,7 @@
 import struct
 from collections.abc import Iterator
 from functools import partial
-from typing import Self
+from typing import Any, Self
 
 import numpy as np
 import numpy.typing as npt
@@ -18,8 +18,10 @@ MAGIC = struct.pack("<I", SECTION)
 ORDERS = {bytes.fromhex("1a2b3c4d"): ">", bytes.fromhex("4d3c2b1a"): "<"}
 LEAST, MOST = 12, 1024 * 1024  # bytes of a block that is read; others may be longer
 BEFORE_FRAME, AROUND_FRAME = 28, 32  # bytes of a packet's block before its frame, and in all beside it
+MOST_FILLING = 3  # bytes after a frame, so that its block goes on at a multiple of 4
 NAME, RESOLUTION, SECONDS_LATER = 2, 9, 14  # options of an interface
 DROPPED = (5, 7)  # options of statistics: by the interface, and by the operating system
+DROPPED_BEFORE = 4  # option of a packet: since the one before it of its interface
 UNKNOWN = 0xFFFF  # how many were dropped before an old packet
 LAST_POWER_OF_TEN, LAST_POWER_OF_TWO = 19, 63  # of the resolutions whose seconds 64 bits hold
 
@@ -66,6 +68,8 @@ class Pcapng(Form):
         self.order = "<"
         self.section = 0  # the place of the section's first interface
         self.clocks: list[Clock] = []
+        self.dropped_in_all: dict[int, int] = {}  # frames by the last statistics, by the interface's place
+        self.dropped_before: dict[int, int] = {}  # the sums of what packets say, so too
         self.long = 0  # length of a long block that is being passed over
         self.passing = 0  # bytes of it until its length is there once more
 
@@ -73,6 +77,13 @@ class Pcapng(Form):
     def of(cls, begin: bytes, name: str) -> Self | None:
         """Answers the reader of a recording that begins so, if it is pcapng."""
         return cls(name) if begin[:4] == MAGIC else None
+
+    @property
+    def dropped(self) -> dict[int, int]:
+        """Answers how many frames the recording says were dropped, by the place of the interface: what statistics say
+        and what packets say are the same frames, so the greater of both."""
+        places = self.dropped_in_all.keys() | self.dropped_before.keys()
+        return {place: max(self.dropped_in_all.get(place, 0), self.dropped_before.get(place, 0)) for place in places}
 
     @property
     def ends_within(self) -> bool:
@@ -111,13 +122,19 @@ class Pcapng(Form):
         captured = fields[:, 5]
         self.refuse(captured > MOST_CAPTURED, where, origin, "{} bytes captured", captured)
         self.refuse(captured > size - AROUND_FRAME, where, origin, "{} bytes captured, past the block's end", captured)
-        short = fields[:, 2] & 0xFFFF if self.order == "<" else fields[:, 2] >> 16
+        short, dropped = halves(fields[:, 2], self.order)
         interface = self.section + np.where(kind == PACKET, fields[:, 2], short)
         self.refuse(interface >= len(self.interfaces), where, origin, "interface {} is not declared", interface)
         stamp = self.stamps(fields, interface)
         self.refuse_late(stamp, where, origin)
-        if (kind == OLD_PACKET).any():
-            self.count_dropped(fields[kind == OLD_PACKET, 2], interface[kind == OLD_PACKET])
+        old = (kind == OLD_PACKET) & (dropped != UNKNOWN)
+        if old.any():
+            self.count_dropped(dropped[old], interface[old])
+        more = size - captured > AROUND_FRAME + MOST_FILLING
+        if more.any():
+            its = np.flatnonzero(more & (kind == PACKET))
+            begin = (at + BEFORE_FRAME + captured + -captured % 4)[its]
+            self.count_by_options(data, begin, (at + size - 4)[its], interface[its])
         original = np.maximum(fields[:, 6], captured)
         sender = words(data, at + BEFORE_FRAME + SENDER, 1, "<")[:, 0]
         return Batch(data, origin, where, at + BEFORE_FRAME, captured, original, stamp, interface, sender)
@@ -184,14 +201,28 @@ class Pcapng(Form):
             return
         counts = [options[code] for code in DROPPED if len(options.get(code, b"")) == 8]
         if place < len(self.interfaces) and counts:
-            self.dropped[place] = sum(struct.unpack(f"{self.order}Q", count)[0] for count in counts)
+            self.dropped_in_all[place] = sum(struct.unpack(f"{self.order}Q", count)[0] for count in counts)
 
-    def count_dropped(self, old: Column, interface: Column) -> None:
-        """Adds what was dropped before old packets, by the words that say so and their interfaces."""
-        count = old >> 16 if self.order == "<" else old & 0xFFFF
+    def count_dropped(self, count: npt.NDArray[np.integer[Any]], interface: Column) -> None:
+        """Adds how many frames were dropped before packets, each of its interface."""
         for place in np.unique(interface).tolist():
-            known = count[(interface == place) & (count != UNKNOWN)]
-            self.dropped[place] = self.dropped.get(place, 0) + int(known.sum())
+            self.dropped_before[place] = self.dropped_before.get(place, 0) + sum(count[interface == place].tolist())
+
+    def count_by_options(self, data: bytes, at: Column, end: Column, interface: Column) -> None:
+        """Adds what packets have as options, which lie from these places on up to these ends, an option of each at a
+        time; what cannot be read is passed over."""
+        while len(at):
+            fields = words(data, at, 3, self.order)
+            code, length = halves(fields[:, 0].astype(np.int64), self.order)
+            after = at + 4 + length
+            counts = (code == DROPPED_BEFORE) & (length == 8) & (after <= end)
+            if counts.any():
+                low, high = (1, 2) if self.order == "<" else (2, 1)
+                count = fields[counts].astype(np.uint64)
+                self.count_dropped(count[:, low] | count[:, high] << np.uint64(32), interface[counts])
+            after += -length % 4
+            goes_on = (code != 0) & (code != DROPPED_BEFORE) & (after + 4 <= end)
+            at, end, interface = after[goes_on], end[goes_on], interface[goes_on]
 
     def add_interface(self, block: bytes) -> None:
         link_type, = struct.unpack_from(f"{self.order}H", block, 8)
@@ -249,6 +280,12 @@ class Pcapng(Form):
 
     def fault(self, what: str) -> RecordingFault:
         return RecordingFault(what, self.next_place())
+
+
+def halves(word: Column, order: str) -> tuple[Column, Column]:
+    """Answers the halves of words as they follow each other in the recording."""
+    low, high = word & 0xFFFF, word >> 16
+    return (low, high) if order == "<" else (high, low)
 
 
 def walk(data: bytes, at: int, order: str) -> tuple[list[int], int]:
