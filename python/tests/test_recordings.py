@@ -2,6 +2,7 @@
 import gzip
 import lzma
 import struct
+from collections.abc import Callable
 from pathlib import Path
 
 import pytest
@@ -100,7 +101,7 @@ LONG_OPTION = block("<", 1, bytes(8) + option("<", 2, b"x" * 9)[:8])
     (section() + LONG_OPTION, "option 2 of 9 bytes, past the block's end, a, block 2, offset 28"),
     (section() + interface(resolution=20), "an interface's clock of resolution 20, 0 s later, a, block 2, offset 28"),
     (gzip.compress(captures.pcap([]))[:-1] + b"x",
-     "damaged compressed bytes (Error -3 while decompressing data: incorrect length check), a, header, offset 0"),
+     "damaged compressed bytes (Error -3 while decompressing data: incorrect length check), a, unpacked, offset 0"),
 ])
 def test_faults_with_their_places(tmp_path: Path, text: bytes, said: str) -> None:
     assert fault(tmp_path / "a", text) == said
@@ -170,10 +171,25 @@ def test_a_long_skippable_frame(tmp_path: Path) -> None:
     assert read(tmp_path / "a", text)[0] == [Record(AT, FRAME, 60)]
 
 
-def test_bytes_after_compressed_ones(tmp_path: Path) -> None:
-    for packed in compressed(captures.pcap([Record(AT, FRAME)]))[:3]:
-        said = fault(tmp_path / "a", packed + b"more of it")
-        assert said.startswith("damaged compressed bytes (bytes after its end)")
+@pytest.mark.parametrize("count", [1, 2000])
+def test_bytes_after_compressed_ones(tmp_path: Path, count: int) -> None:
+    """The offset is how long the recording is when unpacked, whether or not some of it was read as records before."""
+    text = captures.pcap([Record(AT, FRAME)] * count)
+    for packed in compressed(text)[:3]:
+        assert fault(tmp_path / "a", packed + b"more of it") == (
+            f"damaged compressed bytes (bytes after its end), a, unpacked, offset {24 + 76 * count}")
+
+
+@pytest.mark.parametrize("pack, damaged", [
+    (gzip.compress, "1f8b 09"), (zstandard.compress, "28b52ffd 08"), (lzma.compress, "fd377a585a00 ffff")])
+@pytest.mark.parametrize("count", [1, 2000])
+def test_how_far_damaged_bytes_were_unpacked(tmp_path: Path, pack: Callable[[bytes], bytes], damaged: str,
+                                             count: int) -> None:
+    """The second member is of no kind that there is: the offset is how long the first one is when unpacked."""
+    packed = pack(captures.pcap([Record(AT, FRAME)] * count)) + bytes.fromhex(damaged) + bytes(100)
+    said = fault(tmp_path / "a", packed)
+    assert said.startswith("damaged compressed bytes (") and "bytes after" not in said
+    assert said.endswith(f"), a, unpacked, offset {24 + 76 * count}")
 
 
 def records_of(text: bytes, path: Path, piece: int) -> tuple[list[Record], bool] | None:

@@ -4,9 +4,10 @@ from dataclasses import dataclass
 
 @dataclass(frozen=True)
 class Place:
-    """A record, a block of pcapng, or a header, in a file; the offset is that in the recording when unpacked."""
+    """A record, a block of pcapng, a header, or how far a file was unpacked; the offset is that in the recording when
+    unpacked."""
     file: str
-    what: str  # "record 17", "block 3", "header"
+    what: str  # "record 17", "block 3", "header", "unpacked"
     offset: int
 
     def __str__(self) -> str:

@@ -62,7 +62,8 @@ class Recording:
         try:
             return unpacked.read(self.piece, rest)
         except Damaged as damaged:
-            raise RecordingFault(f"damaged compressed bytes ({damaged})", self.next_place()) from damaged
+            place = Place(self.name, "unpacked", unpacked.count)
+            raise RecordingFault(f"damaged compressed bytes ({damaged})", place) from damaged
 
     def place(self, number: int, offset: int) -> Place:
         """Answers the place of a record that was read."""

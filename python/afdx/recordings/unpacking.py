@@ -120,6 +120,7 @@ class Unpacked:
     def __init__(self, file: BinaryIO) -> None:
         self.file = file
         self.cut = False
+        self.count = 0  # bytes that were unpacked
         self.packed = file.read(MAGIC)
         self.format = next((one for one in FORMATS if member_of(one, self.packed)), None)
         self.member = member_of(self.format, self.packed) if self.format else None
@@ -149,6 +150,7 @@ class Unpacked:
             data, self.packed = self.member.unpack(self.packed, most)
         except (zlib.error, lzma.LZMAError, zstandard.ZstdError) as error:
             raise Damaged(str(error)) from error
+        self.count += len(data)
         if not data and not self.packed and not self.member.eof:
             self.packed = self.file.read(PIECE)
             if not self.packed:
