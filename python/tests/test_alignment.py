@@ -70,14 +70,19 @@ def test_one_mark(tmp_path: Path, capsys: pytest.CaptureFixture[str]) -> None:
 
 
 def test_where_the_drift_counts_from(tmp_path: Path, capsys: pytest.CaptureFixture[str]) -> None:
-    """It is said where there is a drift."""
+    """It is said where there is a drift, so that the rules hold for B wherever it stands among the source's recordings:
+    B's second mark comes to the first recording's stamp, beside an earlier recording of B's source too."""
     marks = [Record(AT + number * SECOND, frame(number, 1)) for number in (1, 2)]
     (tmp_path / "a").write_bytes(captures.pcap(marks))
     (tmp_path / "b").write_bytes(captures.pcap([marks[0], Record(marks[1].stamp + 20_000, marks[1].frame)]))
     assert main(["--align", str(tmp_path / "a"), str(tmp_path / "b")]) == 0
-    assert capsys.readouterr().out.splitlines()[2:] == [
-        "# the drift counts from its first record: it has to be the first recording of its source", "offset_ns = 0",
-        "drift_ppb = -20000"]
+    found = capsys.readouterr().out
+    assert found.splitlines()[2:] == ["offset_ns = 0", "drift_ppb = -20000", f"drift_from_ns = {marks[0].stamp}"]
+    (tmp_path / "b-earlier").write_bytes(captures.pcap([Record(AT - 3600 * SECOND, frame(3, 1))]))
+    (tmp_path / "rules.toml").write_text(f'[[source]]\nfile = "b*"\nto = "port-1"\n{found}')
+    assert main([str(tmp_path / "rules.toml"), str(tmp_path), str(tmp_path / "in")]) == 0
+    moved = captures.read((tmp_path / "in" / "port-1.pcap").read_bytes())[0]
+    assert [one.stamp for one in moved] == [AT - 3600 * SECOND + 3601 * 20_000, marks[0].stamp, marks[1].stamp - 1]
 
 
 def test_check_sequences_are_left_out(tmp_path: Path) -> None:

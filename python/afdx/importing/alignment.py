@@ -61,6 +61,11 @@ class Alignment:
     def drift_ppb(self) -> int:
         return -round(self.line.drift * SECOND)
 
+    @property
+    def drift_from_ns(self) -> int:
+        """Answers the stamp from which the drift counts, which is that of the second recording's first record."""
+        return self.line.anchor
+
 
 class Sampler:
     """Keeps the frames whose key is low enough for a list of bounded length."""

@@ -99,7 +99,7 @@ def port_notes(ports: dict[str, Port]) -> Iterator[str]:
 def alignment_text(first: Path, second: Path, found: Alignment) -> str:
     """Answers the rules for the second recording, to be pasted, with what they rest on."""
     least, low, high, greatest = (round(part) for part in np.percentile(found.residues, [0, 25, 75, 100]))
-    anchor = "# the drift counts from its first record: it has to be the first recording of its source\n"
+    anchor = f"drift_from_ns = {found.drift_from_ns}\n" if found.drift_ppb else ""
     return (f"# {second} by the clock of {first}: {found.pairs} frames in both, over {found.seconds:.3f} s\n"
             f"# beside this they differ by {least} to {greatest} ns, half of them by {low} to {high} ns\n"
-            f"{anchor if found.drift_ppb else ''}offset_ns = {found.offset_ns}\ndrift_ppb = {found.drift_ppb}\n")
+            f"offset_ns = {found.offset_ns}\ndrift_ppb = {found.drift_ppb}\n{anchor}")

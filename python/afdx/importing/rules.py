@@ -27,6 +27,7 @@ class Source:
     mbit: int | None = None
     offset_ns: int = 0
     drift_ppb: int = 0
+    drift_from_ns: int | None = None  # the stamp from which the drift counts
 
     @property
     def tick(self) -> int:
@@ -96,6 +97,7 @@ OF_SOURCES: dict[str, tuple[Callable[[Any], bool], str]] = {
     "mbit": (lambda value: type(value) is int and value in (10, 100, 1000), "10, 100 or 1000"),
     "offset_ns": (is_whole(-MOST_OFFSET, MOST_OFFSET), "a whole number, at most 136 years"),
     "drift_ppb": (is_whole(-MOST_DRIFT, MOST_DRIFT), "a whole number, at most 100000000"),
+    "drift_from_ns": (is_whole(0, MOST_OFFSET), "a stamp, in ns since 1970"),
 }
 OF_THE_TOP: dict[str, tuple[Callable[[Any], bool], str]] = {
     "source": (lambda value: isinstance(value, list) and all(isinstance(one, dict) for one in value),
@@ -123,6 +125,10 @@ def faults_of_source(table: dict[str, Any], place: str) -> list[str]:
         faults.append(f"{place}: needs either to or end_systems")
     if table.get("stamps") == "start" and "mbit" not in table:
         faults.append(f"{place}: mbit is missing, by which stamps of the frames' starts are moved")
+    if "mbit" in table and "stamps" not in table:
+        faults.append(f'{place}: mbit counts only with stamps of the frames\' starts: stamps = "start" is missing')
+    if "drift_from_ns" in table and "drift_ppb" not in table:
+        faults.append(f"{place}: drift_ppb is missing, which counts from drift_from_ns")
     return faults
 
 

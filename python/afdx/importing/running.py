@@ -74,7 +74,8 @@ class Import:
                          for path, begin in first.items()}
         self.takers: list[tuple[Reading, Taker]] = []
         for source, paths in zip(rules.sources, found):
-            anchor = min((begin for path in paths if (begin := first[path]) is not None), default=0)
+            begins = [begin for path in paths if (begin := first[path]) is not None]
+            anchor = min(begins, default=0) if source.drift_from_ns is None else source.drift_from_ns
             for path in paths:
                 self.add(self.readings[path], source, anchor)
 
