@@ -111,14 +111,45 @@ def test_formulas_without_a_saved_value(tmp_path: Path) -> None:
         [False, False, True], [False, False, False], [True, True, False]]
 
 
+@pytest.mark.parametrize("said, chain, is_computed", [
+    ('<calcPr calcId="124519" fullCalcOnLoad="1"/>', False, False),  # XlsxWriter
+    ('<calcPr fullCalcOnLoad="true"/>', False, False),
+    ('<calcPr calcId="191029"/>', True, True),  # Excel
+    ('<calcPr calcId="191029" fullCalcOnLoad="1"/>', True, True),
+    ('<calcPr iterateCount="100" refMode="A1" iterate="false" iterateDelta="0.001"/>', False, True),  # LibreOffice
+    ('<calcPr calcId="191029" fullCalcOnLoad="0"/>', False, True),
+    ("", False, True)])
+def test_formulas_that_no_program_has_computed(tmp_path: Path, said: str, chain: bool, is_computed: bool) -> None:
+    """XlsxWriter saves 0 with them, unless it is given another value; a 0 without a formula is one."""
+    text = workbook([["id", "jitter_us"], [0, "=A2+1"], [0, "=A3+2"], [0, '="0"']])
+    text = changed(text, "xl/worksheets/sheet1.xml", {
+        b"<f>A2+1</f>": b"<f>A2+1</f><v>0</v>", b"<f>A3+2</f>": b"<f>A3+2</f><v>2</v>",
+        b'<c r="B4"><f>"0"</f>': b'<c r="B4" t="str"><f>"0"</f><v>0</v>'})
+    text = changed(text, "xl/workbook.xml", {b'<calcPr calcId="124519" fullCalcOnLoad="1"/>': said.encode()})
+    made = io.BytesIO(text)
+    with zipfile.ZipFile(made, "a") as parts:
+        if chain:
+            parts.writestr("xl/calcChain.xml", "<calcChain/>")
+    rows = read(tmp_path / "list.xlsx", made.getvalue())
+    assert rows == [Row(1, ["id", "jitter_us"]), Row(2, ["0", "0" if is_computed else "=A2+1"]), Row(3, ["0", "2"]),
+                    Row(4, ["0", "0"])]
+    assert isinstance(rows[1].cells[1], Formula) == (not is_computed)
+
+
 def test_a_heading_of_merged_cells_is_above_each_of_their_columns(tmp_path: Path) -> None:
     text = workbook([["id", "to"], [], [1, "A", "B"]], "A1:A2", "B1:C2")
     assert read(tmp_path / "list.xlsx", text) == [Row(1, ["id", "to", "to"]), Row(3, ["1", "A", "B"])]
 
 
+UTF_16 = "zero bytes, as UTF-16 has them: it has to be UTF-8"
+
+
 @pytest.mark.parametrize("name, text, line", [
     ("list.csv", b"", "no heading, {}"),
     ("list.csv", b"id\n1\n\xff\n", "not UTF-8, {} line 3"),
+    ("list.csv", "id,to\n1,Ä\n".encode("utf-16-le"), f"{UTF_16}, {{}} line 1"),
+    ("list.csv", "id,to\n1,A\n".encode("utf-16-be"), f"{UTF_16}, {{}} line 1"),
+    ("list.csv", b"id,to\n1,A\0", f"{UTF_16}, {{}} line 2"),
     ("list.csv", b'id,"to"x\n', "not separated values: ',' expected after '\"', {}"),
     ("list.xlsx", b"id,to\n", "not a workbook that can be read, {}")])
 def test_files_that_are_no_lists(tmp_path: Path, name: str, text: bytes, line: str) -> None:

@@ -7,6 +7,7 @@ from dataclasses import dataclass
 from pathlib import Path
 from typing import Any
 from xml.etree import ElementTree
+from zipfile import ZipFile
 
 import openpyxl
 from openpyxl.utils import coordinate_to_tuple, range_boundaries
@@ -16,6 +17,8 @@ from afdx.failure import INPUT, Failure
 
 SEPARATORS = (",", "\t", ";")
 SAID = re.compile(r"sep=([,;\t])[,;\t]*\r?\n")
+WORKBOOK, CHAIN = "xl/workbook.xml", "xl/calcChain.xml"  # parts of an .xlsx: the second is Excel's, if it computed
+UNCOMPUTED = "0"  # the value of a formula that XlsxWriter did not compute
 PARTS = "{http://schemas.openxmlformats.org/spreadsheetml/2006/main}"  # before the tag of each part of a workbook
 
 
@@ -47,16 +50,26 @@ def text_of(value: object) -> str:
     return str(value).strip()
 
 
-def formula_of(cell: ElementTree.Element) -> Formula | None:
-    """Answers the formula of a cell if no value was saved with it; a text without characters is a value."""
+def is_uncomputed(parts: ZipFile) -> bool:
+    """Answers whether a workbook says that all its formulas have to be computed when it is opened, and no program has
+    left the order in which it computed them. XlsxWriter saves 0 with formulas, and such a workbook."""
+    if WORKBOOK not in parts.namelist() or CHAIN in parts.namelist():
+        return False
+    said = ElementTree.fromstring(parts.read(WORKBOOK)).find(f"{PARTS}calcPr")
+    return said is not None and said.get("fullCalcOnLoad") in ("1", "true")
+
+
+def formula_of(cell: ElementTree.Element, none: str) -> Formula | None:
+    """Answers the formula of a cell if no value was saved with it, or but this text, which is none; a text without
+    characters is a value."""
     formula, value = cell.findtext(f"{PARTS}f"), cell.find(f"{PARTS}v")
-    is_saved = value is not None and (value.text or cell.get("t") == "str")
+    is_saved = value is not None and (value.text not in (None, none) or cell.get("t") == "str")
     return None if formula is None or is_saved else Formula(f"={formula}")
 
 
-def put_formulas(rows: list[Row], sheet: Any) -> list[str]:
-    """Puts formulas without values where they stand. Answers the ranges of merged cells, A2:B5 for instance. Neither
-    is what openpyxl has of a sheet that it reads row by row."""
+def put_formulas(rows: list[Row], sheet: Any, none: str) -> list[str]:
+    """Puts formulas without values where they stand, also those whose value is this text, which is none. Answers the
+    ranges of merged cells, A2:B5 for instance. Neither is what openpyxl has of a sheet that it reads row by row."""
     ranges, line = [], 0
     with sheet._get_source() as source:
         for _, element in ElementTree.iterparse(source):
@@ -66,7 +79,7 @@ def put_formulas(rows: list[Row], sheet: Any) -> list[str]:
                 line, column = int(element.get("r", line + 1)), 0
                 for cell in element:
                     column = coordinate_to_tuple(cell.attrib["r"])[1] if "r" in cell.attrib else column + 1
-                    formula = formula_of(cell)
+                    formula = formula_of(cell, none)
                     if formula is not None:
                         rows[line - 1].cells[column - 1] = formula
                 element.clear()
@@ -97,7 +110,9 @@ def workbook_rows(text: bytes) -> list[Row]:
     sheet.reset_dimensions()
     values = sheet.iter_rows(values_only=True)
     rows = [Row(line, [text_of(value) for value in row]) for line, row in enumerate(values, 1)]
-    spread(rows, put_formulas(rows, sheet))
+    with ZipFile(io.BytesIO(text)) as parts:
+        none = UNCOMPUTED if is_uncomputed(parts) else ""
+    spread(rows, put_formulas(rows, sheet, none))
     return rows
 
 
@@ -129,6 +144,9 @@ def rows_of(command: str, path: Path) -> list[Row]:
             return workbook_rows(text)
         except Exception as error:  # what the readers of ZIP and XML below openpyxl raise is nowhere listed
             raise Failure(INPUT, f"{command}: not a workbook that can be read, {path}") from error
+    if b"\0" in text:
+        line = text.count(b"\n", 0, text.index(b"\0")) + 1
+        raise Failure(INPUT, f"{command}: zero bytes, as UTF-16 has them: it has to be UTF-8, {path} line {line}")
     try:
         return separated_rows(text.decode("utf-8-sig"))
     except UnicodeDecodeError as error:
