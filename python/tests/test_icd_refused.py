@@ -5,7 +5,7 @@ import openpyxl
 import pytest
 
 from afdx.failure import INPUT, Failure
-from afdx.icd import command, mapping
+from afdx.icd import command, mapping, network
 from afdx.icd.complaints import Complaints
 from afdx.icd.network import lists_of
 from tests import worked_lists
@@ -144,6 +144,35 @@ def test_switches_that_no_cable_reaches(tmp_path: Path) -> None:
         line("no cables lead from A to C", paths[0], 2, "to", "B1|C1"),
         line("no cables lead from B to C round the switches before it", paths[0], 3, "via", "B"),
         line("no cables lead from C to A", paths[0], 4, "to", "A2"))
+
+
+LONE = "switch Bx has this cable alone and no end system: is its name right?"
+
+
+def doubt(path: Path, number: int, column: str) -> str:
+    return f'afdx-icd: warning: {LONE}, {path} line {number}, column {column}, value "Bx"'
+
+
+ONCE, TWICE = "C,9,Bx,9,100,0\n", "Bx,10,A,9,100,0\n"
+
+
+@pytest.mark.parametrize("wires, ends, places", [
+    (ONCE, "", [("switch_b", 5)]), (TWICE, "", [("switch_a", 5)]), (ONCE + TWICE, "", []), (ONCE, "B2,Bx,1,100\n", [])])
+def test_a_switch_that_one_cable_alone_names(
+        tmp_path: Path, wires: str, ends: str, places: list[tuple[str, int]]) -> None:
+    """Each switch has a table, and no link can cross this one. With two cables, or an end system, it may be right."""
+    paths = worked_lists.write(tmp_path, ends=worked_lists.ENDS + ends, wires=worked_lists.WIRES + wires)
+    complaints = Complaints()
+    network.read(lists_of("afdx-icd", paths, mapping.read("afdx-icd", None), complaints))
+    warned = [doubt(paths[2], number, column) for column, number in places]
+    assert (complaints.warnings("afdx-icd"), complaints.found) == (warned, [])
+
+
+def test_it_is_said_beside_what_is_refused(tmp_path: Path) -> None:
+    wires = worked_lists.WIRES.replace("A,22,C,", "A,22,Bx,").replace("B,21,C,21,1000,", "A,19,B,19,1000,")
+    paths = worked_lists.write(tmp_path, ",".join(GOOD) + "\n" + row(GOOD | {"to": "C1"}), wires=wires)
+    assert refusal(paths).lines == (
+        doubt(paths[2], 4, "switch_b"), line("no cables lead from A to C", paths[0], 2, "to", "C1"))
 
 
 BAD_MAPPING = """\

@@ -110,6 +110,15 @@ def test_a_second_run_changes_nothing(tmp_path: Path, capfdbinary: pytest.Captur
     assert capfdbinary.readouterr().out.decode().startswith(SAID.format("unchanged"))
 
 
+def test_a_switch_that_one_cable_alone_names(tmp_path: Path, capsys: pytest.CaptureFixture[str]) -> None:
+    """It is made, with a warning."""
+    paths = worked_lists.write(tmp_path, wires=worked_lists.WIRES + "C,9,Bx,9,100,0\n")
+    assert list(made(paths, tmp_path / "net")) == ["A.toml", "B.toml", "Bx.toml", "C.toml", "network.toml"]
+    assert capsys.readouterr().err == (
+        "afdx-icd: warning: switch Bx has this cable alone and no end system: is its name right?, "
+        f'{paths[2]} line 5, column switch_b, value "Bx"\n')
+
+
 def test_the_order_of_the_lists_is_no_matter(tmp_path: Path) -> None:
     def backwards(text: str) -> str:
         heading, *rows = text.splitlines(keepends=True)

@@ -1,5 +1,6 @@
 """Runs the command afdx-icd."""
 import argparse
+import sys
 from collections.abc import Sequence
 from pathlib import Path
 
@@ -49,6 +50,8 @@ def read_all(options: argparse.Namespace, mapped: mapping.Mapping) -> tuple[Netw
     sound = all(order == lists[0].order for order, _ in complaints.rows)
     hops = hops_of(lists[0], read) if sound else {}
     complaints.refuse(COMMAND)
+    for line in complaints.warnings(COMMAND):
+        print(line, file=sys.stderr)
     return read, hops
 
 

@@ -25,12 +25,19 @@ class Complaints:
     """What is wrong, by place."""
     found: list[tuple[Place, str]] = field(default_factory=list)
     rows: set[tuple[int, int]] = field(default_factory=set)  # the order and line of each place
+    doubts: list[tuple[Place, str]] = field(default_factory=list)  # what may be wrong
 
     def note(self, place: Place, what: str) -> None:
         self.found.append((place, what))
         self.rows.add((place.order, place.line))
 
+    def warnings(self, command: str) -> list[str]:
+        """Answers a line for each doubt, in the order of the lists and lines."""
+        return [f"{command}: warning: {what}, {place.words()}" for place, what in sorted(self.doubts)]
+
     def refuse(self, command: str) -> None:
-        """Ends the command if anything is wrong, with a line for each, in the order of the lists and lines."""
+        """Ends the command if anything is wrong, with a line for each, in the order of the lists and lines, after the
+        warnings."""
         if self.found:
-            raise Failure(INPUT, *(f"{command}: {what}, {place.words()}" for place, what in sorted(self.found)))
+            lines = [f"{command}: {what}, {place.words()}" for place, what in sorted(self.found)]
+            raise Failure(INPUT, *self.warnings(command), *lines)

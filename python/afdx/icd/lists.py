@@ -93,10 +93,15 @@ class List:
         own = row.cells[at] if at < min(self.width, len(row.cells)) else ""
         return own or self.mapping.defaults.get(column.key, "")
 
-    def complain(self, row: Row, column: Column[Any], what: str) -> None:
+    def place(self, row: Row, column: Column[Any]) -> Place:
         rank = self.places.get(column.key, self.width)
-        place = Place(self.order, row.line, rank, str(self.path), self.heading(column), self.text(row, column))
-        self.complaints.note(place, what)
+        return Place(self.order, row.line, rank, str(self.path), self.heading(column), self.text(row, column))
+
+    def complain(self, row: Row, column: Column[Any], what: str) -> None:
+        self.complaints.note(self.place(row, column), what)
+
+    def warn(self, row: Row, column: Column[Any], what: str) -> None:
+        self.complaints.doubts.append((self.place(row, column), what))
 
     def cell(self, row: Row, column: Column[T]) -> T:
         """Reads a cell. If it is not what its column holds, there is a complaint, and the answer means nothing."""

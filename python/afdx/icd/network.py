@@ -72,6 +72,25 @@ class Once:
             self.rows[key] = f"{of.path} line {row.line}"
 
 
+class Named:
+    """Keeps which cells name each switch."""
+
+    def __init__(self) -> None:
+        self.cells: dict[str, list[tuple[Row, Column[str]]]] = {}
+
+    def add(self, row: Row, column: Column[str], switch: str | None) -> None:
+        if switch is not None:
+            self.cells.setdefault(switch, []).append((row, column))
+
+    def warn_of_lone(self, of: List, others: set[str]) -> None:
+        """Warns of a switch that but one of these cells names, and that is not among the others: no link can cross it,
+        so its name may be wrong."""
+        for switch, cells in self.cells.items():
+            if len(cells) == 1 and switch not in others:
+                row, column = cells[0]
+                of.warn(row, column, f"switch {switch} has this cable alone and no end system: is its name right?")
+
+
 def read_ends(of: List, network: Network, ports: Once) -> None:
     """Reads the end systems, each at a port of its own."""
     names = Once()
@@ -89,6 +108,7 @@ def read_ends(of: List, network: Network, ports: Once) -> None:
 
 def read_cables(of: List, network: Network, ports: Once) -> None:
     """Reads the cables, each between ports of its own at two switches."""
+    of_ends, of_cables = set(network.switches), Named()
     for row in of.rows():
         line = (of.cell(row, columns.MBIT), of.cell(row, columns.BUFFER), of.cell(row, columns.DELAY_LIMIT))
         a = Port(of.cell(row, columns.SWITCH_A), of.cell(row, columns.PORT_A), *line)
@@ -100,8 +120,11 @@ def read_cables(of: List, network: Network, ports: Once) -> None:
         else:
             ports.take(of, row, columns.PORT_B, b.switch, b.number)
         network.switches |= {a.switch, b.switch}
+        of_cables.add(row, columns.SWITCH_A, a.switch)
+        of_cables.add(row, columns.SWITCH_B, b.switch)
         if of.is_sound(row):
             network.cables.append(Cable(a, b, delay))
+    of_cables.warn_of_lone(of, of_ends)
 
 
 def size_of(of: List, row: Row) -> int:
