@@ -158,3 +158,10 @@ def test_an_error_stream_that_is_closed(tmp_path: Path, redirection: str) -> Non
     """The status is as with one."""
     assert ended(tmp_path, redirection) == (1, "")
     assert ended(tmp_path, redirection, "--no-such-option") == (2, "")
+
+
+@pytest.mark.parametrize("command", ["campaign", "diff", "icd", "import", "skew", "view"])
+def test_each_help_says_what_a_status_means(command: str) -> None:
+    path = Path(__file__).resolve().parents[1] / "bin" / f"afdx-{command}"
+    said = subprocess.run([sys.executable, str(path), "--help"], check=True, capture_output=True, text=True).stdout
+    assert "Exit status 0: " in " ".join(said.split())

@@ -210,10 +210,24 @@ def test_missing_columns_of_all_lists_at_once(tmp_path: Path) -> None:
     links = worked_lists.LINKS.replace("max_size", "size").replace("udp_payload", "payload").replace("police", "via")
     paths = worked_lists.write(tmp_path, links, worked_lists.ENDS.replace("mbit", "speed"),
                                worked_lists.WIRES.replace("port_a", "a").replace("port_b", "b"))
-    places = [("no such column, and no udp_payload either", 0, "max_size"), ("two columns of this name", 0, "via"),
-              ("no such column", 1, "mbit"), ("no such column", 2, "port_a"), ("no such column", 2, "port_b")]
+    lacking = "no such column: the mapping has to name it"
+    places = [("no such column, and no udp_payload either: the mapping has to name one", 0, "max_size"),
+              ("two columns of this name", 0, "via"), (lacking, 1, "mbit"), (lacking, 2, "port_a"), (lacking, 2, "port_b")]
     assert refusal(paths).lines == tuple(
         f"afdx-icd: {what}, {paths[order]} line 1, column {column}" for what, order, column in places)
+
+
+def test_other_headings_of_columns_that_have_to_be_there(tmp_path: Path) -> None:
+    """The heading that may be meant is named; a column that the mapping names wrongly is only said to be missing."""
+    links = worked_lists.LINKS.replace("bag_ms", "BAG [ms]").replace("jitter_us", "Jitter")
+    paths, path = worked_lists.write(tmp_path, links), tmp_path / "map.toml"
+    meant = "no such column, {} may be it: the mapping has to name it"
+    bag = f"afdx-icd: {meant.format(chr(34) + 'BAG [ms]' + chr(34))}, {paths[0]} line 1, column bag_ms"
+    jitter = f"afdx-icd: {meant.format(chr(34) + 'Jitter' + chr(34))}, {paths[0]} line 1, column jitter_us"
+    assert refusal(paths).lines == (bag, jitter)
+    path.write_text('[columns]\nbag_ms = "BAG"\n', encoding="utf-8")
+    assert set(refusal(paths, "--mapping", str(path)).lines) == {
+        jitter, f"afdx-icd: no such column, {paths[0]} line 1, column BAG"}
 
 
 @pytest.mark.parametrize("order, column, heading", [

@@ -28,7 +28,7 @@ class List:
         for column in known:
             self.find(column)
         for column in known:
-            self.complain_of_likely(column)
+            self.complain_of_missing(column)
         self.complain_beside(sheet.heading, UNSAVED, [
             at for at, heading in enumerate(sheet.heading.cells) if isinstance(heading, Formula)])
 
@@ -39,7 +39,7 @@ class List:
         return self.mapping.headings.get(column.key) or column.key
 
     def find(self, column: Column[Any]) -> None:
-        """Finds a column. It has to be there if the mapping names it, and if nothing stands for its empty cells."""
+        """Finds a column. It has to be there if the mapping names it."""
         if self.mapping.headings.get(column.key) == "":
             if not self.may_be_missing(column):
                 self.complain_of_heading(column, "no such column")
@@ -51,24 +51,32 @@ class List:
             self.places[column.key] = at[0]
         if len(at) > 1:
             self.complain_of_heading(column, "two columns of this name")
-        elif not at and (column.key in self.mapping.headings or not self.may_be_missing(column)):
+        elif not at and column.key in self.mapping.headings:
             self.complain_of_heading(column, "no such column")
 
     def may_be_missing(self, column: Column[Any]) -> bool:
         return column.default is not None or column.key in self.mapping.defaults
 
-    def complain_of_likely(self, column: Column[Any]) -> None:
-        """Complains if a column that may be missing seems to be there by another heading, `delay [ns]` for `delay_ns`:
-        its name, or that without its unit, with or without words behind it. A link's name is but a comment."""
-        if column is NAME or column.key in self.places or column.key in self.mapping.headings:
-            return
+    def likely(self, column: Column[Any]) -> str:
+        """Answers a heading by which a column seems to be there, quoted, or nothing: `delay [ns]` for `delay_ns`, its
+        name, or that without its unit, with or without words behind it. A link's name is but a comment."""
         own = words_of(column.key)
         names = [own[:-1] if own[-1] in UNITS else own, *map(words_of, column.also)]
         others = [heading for at, heading in enumerate(self.sheet.heading.cells) if at not in self.places.values()]
         likely = [heading for heading in others if any(words_of(heading)[:len(name)] == name for name in names)]
-        if likely and self.may_be_missing(column):
-            shown = json.dumps(one_line(likely[0]), ensure_ascii=False)
-            self.complain_of_heading(column, f'{shown} may be this column: the mapping has to name it, or "" for none')
+        return json.dumps(one_line(likely[0]), ensure_ascii=False) if likely and column is not NAME else ""
+
+    def complain_of_missing(self, column: Column[Any]) -> None:
+        """Complains of a column that neither the list nor the mapping has: if nothing stands for its empty cells, or if
+        it seems to be there by another heading."""
+        if column.key in self.places or column.key in self.mapping.headings:
+            return
+        likely = self.likely(column)
+        if not self.may_be_missing(column):
+            it = f", {likely} may be it" if likely else ""
+            self.complain_of_heading(column, f"no such column{it}: the mapping has to name it")
+        elif likely:
+            self.complain_of_heading(column, f'{likely} may be this column: the mapping has to name it, or "" for none')
 
     def complain_of_heading(self, column: Column[Any], what: str) -> None:
         place = Place(self.order, self.sheet.heading.line, 0, str(self.path), self.heading(column), None)

@@ -176,7 +176,8 @@ def lists_of(command: str, paths: list[Path], mapping: Mapping, complaints: Comp
     lists = [List(command, path, order, *known[order], complaints) for order, path in enumerate(paths)]
     given = lists[0].places.keys() | mapping.links.defaults.keys()
     if SIZE.key not in given and PAYLOAD.key not in given:
-        lists[0].complain_of_heading(SIZE, f"no such column, and no {lists[0].heading(PAYLOAD)} either")
+        what = f"no such column, and no {lists[0].heading(PAYLOAD)} either: the mapping has to name one"
+        lists[0].complain_of_heading(SIZE, what)
     complaints.refuse(command)
     return lists
 

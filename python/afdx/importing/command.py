@@ -21,7 +21,9 @@ COMMAND = "afdx-import"
 def options_of(arguments: Sequence[str]) -> argparse.Namespace:
     parser = argparse.ArgumentParser(
         prog=COMMAND, description="Makes the captures that afdx reads of recordings as they come.",
-        usage="%(prog)s [-h] RULES.toml RAW IN\n       %(prog)s --align A B")
+        usage="%(prog)s [-h] RULES.toml RAW IN\n       %(prog)s --align A B",
+        epilog="Exit status 0: the captures are in IN; 2: usage; 3: the rules or a recording are refused, and nothing "
+               "was put; 5: a file or folder fails; 70: a defect of this command.")
     parser.add_argument("rules", metavar="RULES.toml", type=Path, nargs="?",
                         help="which frames of which recordings come to which port")
     parser.add_argument("raw", metavar="RAW", type=Path, nargs="?", help="the folder of the recordings")
