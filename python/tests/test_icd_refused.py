@@ -212,7 +212,8 @@ def test_missing_columns_of_all_lists_at_once(tmp_path: Path) -> None:
                                worked_lists.WIRES.replace("port_a", "a").replace("port_b", "b"))
     lacking = "no such column: the mapping has to name it"
     places = [("no such column, and no udp_payload either: the mapping has to name one", 0, "max_size"),
-              ("two columns of this name", 0, "via"), (lacking, 1, "mbit"), (lacking, 2, "port_a"), (lacking, 2, "port_b")]
+              ("two columns of this name", 0, "via"), (lacking, 1, "mbit"), (lacking, 2, "port_a"),
+              (lacking, 2, "port_b")]
     assert refusal(paths).lines == tuple(
         f"afdx-icd: {what}, {paths[order]} line 1, column {column}" for what, order, column in places)
 
