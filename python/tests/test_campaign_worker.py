@@ -3,7 +3,7 @@ import os
 import signal
 import subprocess
 import sys
-import time
+import threading
 from dataclasses import replace
 from pathlib import Path
 
@@ -44,11 +44,13 @@ def test_faults_are_answers(tmp_path: Path, act: str, fault: str, status: int, l
 
 
 def test_a_child_may_end_as_its_time_does(monkeypatch: pytest.MonkeyPatch) -> None:
+    """Its time is over when it has ended and was not reaped yet."""
     waitid = os.waitid
 
     def wait_longer(*arguments: int) -> os.waitid_result | None:
         found = waitid(*arguments)
-        time.sleep(0.3)
+        for timer in filter(lambda thread: isinstance(thread, threading.Timer), threading.enumerate()):
+            timer.join(PATIENCE)
         return found
 
     monkeypatch.setattr(os, "waitid", wait_longer)
@@ -171,6 +173,16 @@ def test_a_killed_maker_leaves_no_scratch_folder_for_long(tmp_path: Path) -> Non
     with scratch_folder(str(tmp_path)):
         assert not left.exists()
     maker.stdout.close()
+
+
+def test_folders_of_others_beside_scratch_folders_stay(tmp_path: Path) -> None:
+    """Their names may begin with the command's."""
+    others = [tmp_path / name for name in ("afdx-campaign-results", "afdx-campaign-x1y2z3_4", "afdx-campaign")]
+    for other in others:
+        other.mkdir()
+        (other / "answers").write_text("text")
+    with scratch_folder(str(tmp_path)):
+        assert all((other / "answers").read_text() == "text" for other in others)
 
 
 def test_a_child_dies_with_its_worker(tmp_path: Path) -> None:

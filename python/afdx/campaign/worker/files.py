@@ -12,7 +12,7 @@ from typing import BinaryIO
 
 from afdx.files import put_by
 
-SCRATCH = "afdx-campaign-"
+SCRATCH = ".afdx-campaign-scratch-"  # no user's own folder begins so: what no maker holds is removed
 
 
 def put(path: Path, write: Callable[[BinaryIO], object]) -> None:
