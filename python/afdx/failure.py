@@ -29,6 +29,20 @@ def failing(command: str, what: str, error: OSError) -> Failure:
     return Failure(DEVICE, f"{command}: {what}: {error.strerror or error}")
 
 
+def failing_of(command: str, error: OSError) -> Failure:
+    """Answers the failure of a device call of which no more is known than the error has."""
+    return failing(command, "cannot go on" if error.filename is None else f"cannot read or write {error.filename}", error)
+
+
+def encoded(text: str) -> bytes:
+    """Answers a text as the locale has it, names of files by their own bytes; a text with signs that the locale lacks
+    has these by their numbers."""
+    try:
+        return os.fsencode(text)
+    except UnicodeEncodeError:
+        return text.encode(sys.getfilesystemencoding(), "backslashreplace")
+
+
 def take_streams() -> None:
     """Opens the standard streams that are closed, so that no file gets their numbers.
 
@@ -48,7 +62,7 @@ def take_streams() -> None:
 def say(command: str, text: str) -> None:
     """Writes a text on standard output, whole."""
     try:
-        sys.stdout.buffer.write(os.fsencode(text))
+        sys.stdout.buffer.write(encoded(text))
         sys.stdout.flush()
     except OSError as error:
         raise failing(command, "cannot write standard output", error) from error
@@ -64,13 +78,13 @@ def run(main: Callable[[Sequence[str]], int]) -> int:
     try:
         return written(main)
     except Failure as failure:
-        tell(failure)
-        with contextlib.suppress(OSError):
-            sys.stdout.flush()
-        sys.stdout = None  # type: ignore[assignment]  # its closing would fail once more
-        return failure.status
+        return ended(failure)
+    except OSError as error:
+        return ended(failing_of(Path(sys.argv[0]).name, error))
+    except MemoryError:
+        return ended(Failure(DEVICE, f"{Path(sys.argv[0]).name}: memory"))
     except Exception:
-        traceback.print_exc()
+        tell(traceback.format_exc().rstrip("\n"))
         return os.EX_SOFTWARE
 
 
@@ -85,8 +99,17 @@ def written(main: Callable[[Sequence[str]], int]) -> int:
     return status
 
 
-def tell(failure: Failure) -> None:
-    """Writes the lines of a failure on standard error."""
+def ended(failure: Failure) -> int:
+    """Tells of a failure; answers its status."""
+    tell(*failure.lines)
+    with contextlib.suppress(OSError):
+        sys.stdout.flush()
+    sys.stdout = None  # type: ignore[assignment]  # its closing would fail once more
+    return failure.status
+
+
+def tell(*lines: str) -> None:
+    """Writes lines on standard error."""
     with contextlib.suppress(OSError):  # nobody reads them any more
-        sys.stderr.buffer.write(os.fsencode("".join(f"{line}\n" for line in failure.lines)))
+        sys.stderr.buffer.write(encoded("".join(f"{line}\n" for line in lines)))
         sys.stderr.buffer.flush()

@@ -31,6 +31,17 @@ from afdx.failure import run
 sys.exit(run(lambda arguments: len(arguments) // 0))
 """
 
+# a command that something fails for which it does not look
+FAILING = """
+import sys
+from afdx.failure import run
+
+def fail(arguments):
+    {0}
+
+sys.exit(run(fail))
+"""
+
 # a command that runs a program, and takes long from the program's first word to its own next step
 RUNNING = """
 import subprocess, sys, time
@@ -86,6 +97,25 @@ def test_a_defect(tmp_path: Path) -> None:
     process = begun(tmp_path, DEFECT)
     assert "ZeroDivisionError" in process.communicate()[1]
     assert process.returncode == 70
+
+
+@pytest.mark.parametrize("what, said", [
+    ("open('none')", "cannot read or write none: No such file or directory"),
+    ("raise OSError(28, 'No space left on device')", "cannot go on: No space left on device"),
+    ("bytes(1 << 62)", "memory")])
+def test_a_device_that_fails_is_no_defect(tmp_path: Path, what: str, said: str) -> None:
+    process = begun(tmp_path, FAILING.format(what))
+    assert process.communicate() == ("", f"-c: {said}\n")
+    assert process.returncode == 5
+
+
+def test_words_that_the_locale_lacks(tmp_path: Path) -> None:
+    """They are told by their numbers; of a name of a file are its own bytes."""
+    for words, told in ((r"'K\u00fcche \u65e5'", rb"K\xfcche \u65e5"), ("os.fsdecode(bytes([255]))", b"\xff")):
+        code = f"import os, sys\nfrom afdx.failure import *\ndef main(_): raise Failure(3, {words})\nsys.exit(run(main))"
+        done = subprocess.run([sys.executable, "-c", code], cwd=tmp_path, capture_output=True, env={
+            "PYTHONPATH": str(Path(__file__).parents[1]), "LC_ALL": "C", "PYTHONUTF8": "0", "PYTHONCOERCECLOCALE": "0"})
+        assert (done.returncode, done.stdout, done.stderr) == (3, b"", told + b"\n")
 
 
 @pytest.mark.parametrize("number", [signal.SIGINT, signal.SIGTERM, signal.SIGHUP])

@@ -14,7 +14,7 @@ from afdx.campaign.plan import get_plan, put_plan, tasks_of
 from afdx.campaign.progress import Progress, speed
 from afdx.campaign.settings import Campaign, read_campaign
 from afdx.campaign.worker.task import Task
-from afdx.failure import Failure, failing, tell
+from afdx.failure import Failure, failing_of, tell
 
 DONE, FAULTS = 0, 1
 RECENT = 300  # seconds whose answers say how fast it is
@@ -27,15 +27,8 @@ def main(arguments: Sequence[str]) -> int:
     try:
         status: int = options.do(read_campaign(options.campaign), options)
         return status
-    except OSError as error:
-        raise failure_of(error) from error
     except SystemExit:  # by a signal
         end_at_once(gone("interrupted"))
-
-
-def failure_of(error: Failure | OSError) -> Failure:
-    """Answers the failure that an error is told as."""
-    return error if isinstance(error, Failure) else failing(COMMAND, f"cannot read or write {error.filename}", error)
 
 
 def end_at_once(failure: Failure) -> NoReturn:
@@ -43,7 +36,7 @@ def end_at_once(failure: Failure) -> NoReturn:
 
     An interpreter that ends in good order beside threads that work crashes now and then.
     """
-    tell(failure)
+    tell(*failure.lines)
     os._exit(failure.status)
 
 
@@ -98,7 +91,7 @@ def run(campaign: Campaign, options: argparse.Namespace) -> int:
             engine(tasks, left, Options(campaign.root, options.engine, options.jobs, campaign.limits.patience,
                                         progress.note))
     except (Failure, OSError) as error:  # an engine's threads may be at work
-        end_at_once(failure_of(error))
+        end_at_once(error if isinstance(error, Failure) else failing_of(COMMAND, error))
     return report(campaign, tasks)
 
 
