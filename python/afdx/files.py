@@ -1,8 +1,10 @@
-"""Puts whole files: under a name is what was there or the whole new text, never a part of it."""
+"""Puts whole files: under a name is what was there or the whole new text, never a part of it. Makes temporary folders."""
 from __future__ import annotations  # the workers of a campaign get `put_by` by value, without the names of types
 
+import contextlib
 import os
 import secrets
+import tempfile
 from collections.abc import Callable
 from pathlib import Path
 from typing import BinaryIO
@@ -10,9 +12,9 @@ from typing import BinaryIO
 from afdx.failure import failing
 
 
-def begin(path: Path) -> BinaryIO:
-    """Opens a new file beside a name, for what is moved onto the name once it is whole."""
-    return open(path.with_name(f".{path.name}.{secrets.token_hex(4)}"), "xb")
+def beside(path: Path) -> Path:
+    """Answers a name beside another one, for what is moved onto that once it is whole."""
+    return path.with_name(f".{path.name}.{secrets.token_hex(4)}")
 
 
 def put_by(path: Path, write: Callable[[BinaryIO], object]) -> None:
@@ -20,18 +22,19 @@ def put_by(path: Path, write: Callable[[BinaryIO], object]) -> None:
 
     What fails has the name in its OSError.
     """
+    new = beside(path)
     try:
-        with begin(path) as file:
-            try:
-                write(file)
-                file.flush()
-                os.fsync(file.fileno())
-                os.replace(file.name, path)
-            except BaseException:
-                os.unlink(file.name)
-                raise
-    except OSError as error:
-        raise OSError(error.errno, error.strerror, str(path)) from error
+        with open(new, "xb") as file:
+            write(file)
+            file.flush()
+            os.fsync(file.fileno())
+        os.replace(new, path)
+    except BaseException as error:  # a signal too
+        with contextlib.suppress(OSError):
+            new.unlink()
+        if isinstance(error, OSError):
+            raise OSError(error.errno, error.strerror, str(path)) from error
+        raise
 
 
 def put(command: str, path: Path, text: bytes) -> None:
@@ -40,6 +43,14 @@ def put(command: str, path: Path, text: bytes) -> None:
         put_by(path, lambda file: file.write(text))
     except OSError as error:
         raise failing(command, f"cannot write {path}", error) from error
+
+
+def temporary_folder(command: str) -> tempfile.TemporaryDirectory[str]:
+    """Makes a folder that goes with the block that it is made for."""
+    try:
+        return tempfile.TemporaryDirectory(prefix=f"{command}-")
+    except OSError as error:
+        raise failing(command, "cannot make a temporary folder", error) from error
 
 
 def get(command: str, path: Path) -> bytes:

@@ -85,6 +85,16 @@ def test_where_the_drift_counts_from(tmp_path: Path, capsys: pytest.CaptureFixtu
     assert [one.stamp for one in moved] == [AT - 3600 * SECOND + 3601 * 20_000, marks[0].stamp, marks[1].stamp - 1]
 
 
+def test_a_recording_that_breaks_off(tmp_path: Path, capsys: pytest.CaptureFixture[str]) -> None:
+    """It is said, and what was whole before is used."""
+    marks = [Record(AT + number, frame(number, 1)) for number in (1, 2)]
+    (tmp_path / "a").write_bytes(captures.pcap(marks)[:-1])
+    (tmp_path / "b").write_bytes(captures.pcap(marks))
+    assert main(["--align", str(tmp_path / "a"), str(tmp_path / "b")]) == 0
+    assert capsys.readouterr().err == (
+        "afdx-import: warning: breaks off; what was whole before is used, a, record 2, offset 100\n")
+
+
 def test_check_sequences_are_left_out(tmp_path: Path) -> None:
     sent = traffic(1, random.Random(1))
     checked = [Record(one.stamp, captures.checked(one.frame)) for one in sent]

@@ -1,7 +1,10 @@
 """What the command afdx-import makes of recordings: numbers by hand, and a plain model of random ones."""
 import gzip
+import os
 import shutil
+import signal
 import struct
+import sys
 from dataclasses import dataclass, replace
 from pathlib import Path
 from unittest.mock import patch
@@ -11,6 +14,7 @@ from hypothesis import HealthCheck, given, settings
 from hypothesis import strategies as some
 
 import captures
+from afdx import signals
 from afdx.failure import Failure
 from afdx.importing import ordering
 from afdx.importing.command import main
@@ -357,6 +361,43 @@ def test_a_recording_is_not_replaced(folder: Folder) -> None:
     assert folder.run('[[source]]\nfile = "*.pcap"\nto = "port-1"\n', **{"port-1_pcap": text}) == (
         5, [], [f"afdx-import: a recording would be replaced, {folder.path}/in/port-1.pcap"])
     assert folder.captures() == {"port-1.pcap": text}
+
+
+def test_a_link_in_the_place_of_a_capture(folder: Folder) -> None:
+    """It is replaced, also if it leads to itself; what it led to stays."""
+    (folder.path / "in").mkdir()
+    (folder.path / "kept").write_text("text")
+    for name in ("port-1.pcap", str(folder.path / "kept")):
+        (folder.path / "in/port-1.pcap").unlink(missing_ok=True)
+        (folder.path / "in/port-1.pcap").symlink_to(name)
+        assert folder.run(ONE, a_pcap=captures.pcap(A))[0] == 0
+        assert not (folder.path / "in/port-1.pcap").is_symlink()
+    assert (folder.path / "kept").read_text() == "text"
+
+
+def test_a_signal_while_captures_are_put(folder: Folder, monkeypatch: pytest.MonkeyPatch) -> None:
+    """It waits until all are: none is of another import than the others."""
+    replace_file, handlers = os.replace, {number: signal.signal(number, signals.end) for number in signals.ENDING}
+
+    def replace_slowly(old: str, new: Path) -> None:
+        os.kill(os.getpid(), signal.SIGTERM)
+        replace_file(old, new)
+
+    monkeypatch.setattr(os, "replace", replace_slowly)
+    try:
+        with pytest.raises(SystemExit) as ended:
+            folder.run(ONE + TWO, a_pcap=captures.pcap(A), b_pcap=captures.pcap(A))
+    finally:
+        for number, handler in handlers.items():
+            signal.signal(number, handler)
+    assert ended.value.code == 128 + signal.SIGTERM
+    assert folder.captures() == dict.fromkeys(("port-1.pcap", "port-2.pcap"), captures.pcap(A))
+
+
+def test_warnings_that_nobody_takes(folder: Folder, monkeypatch: pytest.MonkeyPatch) -> None:
+    with open("/dev/full", "w") as full:
+        monkeypatch.setattr(sys, "stderr", full)
+        assert folder.run(ONE, a_pcap=captures.pcap(A)[:-1])[0] == 0
 
 
 def test_link_types(folder: Folder) -> None:

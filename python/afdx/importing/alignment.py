@@ -8,6 +8,7 @@ import numpy.typing as npt
 
 from afdx.importing.frames import CHECK_SEQUENCE, CheckSequences
 from afdx.recordings.columns import SECOND, Batch, Column
+from afdx.recordings.faults import Place
 from afdx.recordings.reading import Recording
 
 Floats = npt.NDArray[np.float64]
@@ -30,6 +31,7 @@ class Sightings:
     first: int  # the stamp of the first record
     key: npt.NDArray[np.uint64]
     stamp: Column
+    broken: Place | None = None  # where the recording breaks off, if it does
 
 
 @dataclass(frozen=True)
@@ -98,7 +100,7 @@ def sightings(path: Path) -> Sightings:
         sampler.add(*keyed(batch, checks))
     if first is None:
         raise Unaligned(f"no frames, {path}")
-    return Sightings(first, np.concatenate(sampler.keys), np.concatenate(sampler.stamps))
+    return Sightings(first, np.concatenate(sampler.keys), np.concatenate(sampler.stamps), recording.broken)
 
 
 def keyed(batch: Batch, checks: dict[int, CheckSequences]) -> tuple[npt.NDArray[np.uint64], Column]:

@@ -7,7 +7,7 @@ from pathlib import Path
 from types import TracebackType
 from typing import BinaryIO, Self
 
-from afdx import files
+from afdx import files, signals
 from afdx.failure import failing
 from afdx.recordings.pcap import WRITTEN
 
@@ -39,10 +39,11 @@ class Captures:
         with self.writing(port):
             if path.is_dir():
                 raise IsADirectoryError(errno.EISDIR, os.strerror(errno.EISDIR))
-            for folder in [one for one in [*reversed(path.parent.parents), path.parent] if not one.exists()]:
-                folder.mkdir()
-                self.folders.append(folder)
-            self.files[port] = files.begin(path)
+            with signals.held():  # so that what is made is known, and removed
+                for folder in [one for one in [*reversed(path.parent.parents), path.parent] if not one.exists()]:
+                    folder.mkdir()
+                    self.folders.append(folder)
+                self.files[port] = open(files.beside(path), "xb")
         self.write(port, WRITTEN)
 
     @contextmanager
@@ -58,14 +59,16 @@ class Captures:
             self.files[port].write(text)
 
     def put(self) -> None:
-        """Has the device take all files, then moves each onto its name, in order of the ports."""
+        """Has the device take all files, then moves each onto its name, in order of the ports; a signal waits for that,
+        so that no capture is of another import than the others."""
         for port, file in self.files.items():
             with self.writing(port):
                 file.flush()
                 os.fsync(file.fileno())
-        for port, file in self.files.items():
-            with self.writing(port):
-                os.replace(file.name, self.paths[port])
+        with signals.held():
+            for port, file in self.files.items():
+                with self.writing(port):
+                    os.replace(file.name, self.paths[port])
 
     def close(self) -> None:
         """Closes the new files, and removes those that have not been moved, and the folders that are empty then."""

@@ -1,16 +1,16 @@
 """Runs the command afdx-import."""
 import argparse
-import sys
+import os
 from collections.abc import Sequence
 from glob import glob
 from pathlib import Path
 
 from tqdm import tqdm  # type: ignore[import]
 
-from afdx.failure import DEVICE, INPUT, Failure, failing, say
+from afdx.failure import DEVICE, INPUT, Failure, failing, say, tell
 from afdx.importing.alignment import Alignment, Unaligned, aligned, sightings
 from afdx.importing.captures import Captures
-from afdx.importing.report import alignment_text, notes, port_line
+from afdx.importing.report import alignment_text, broken_note, notes, port_line
 from afdx.importing.rules import Rules, RulesFault, rules_of
 from afdx.importing.running import Import
 from afdx.recordings.faults import RecordingFault
@@ -61,9 +61,9 @@ def recordings_of(rules: Rules, raw: Path) -> list[list[Path]]:
 
 def refuse_replacing(captures: Captures, found: list[list[Path]]) -> None:
     """Refuses to put a capture in the place of a recording."""
-    read = {path.resolve() for paths in found for path in paths}
+    read = {os.path.realpath(path) for paths in found for path in paths}
     for path in captures.paths.values():
-        if path.resolve() in read:
+        if os.path.realpath(path) in read:
             raise Failure(DEVICE, f"{COMMAND}: a recording would be replaced, {path}")
 
 
@@ -89,7 +89,9 @@ def import_all(rules: Rules, raw: Path, folder: Path) -> Import:
 def align(paths: list[Path]) -> Alignment:
     """Answers how the second recording comes to the clock of the first one."""
     try:
-        return aligned(sightings(paths[0]), sightings(paths[1]))
+        first, second = map(sightings, paths)
+        tell(*(f"{COMMAND}: {broken_note(seen.broken)}" for seen in (first, second) if seen.broken))
+        return aligned(first, second)
     except OSError as error:
         raise failing(COMMAND, f"cannot read {error.filename}", error) from error
     except RecordingFault as fault:
@@ -105,7 +107,6 @@ def main(arguments: Sequence[str]) -> int:
         say(COMMAND, alignment_text(options.align[0], options.align[1], align(options.align)))
         return 0
     done = import_all(rules_in(options.rules), options.raw, options.folder)
-    for note in notes(done):
-        print(f"{COMMAND}: {note}", file=sys.stderr)
+    tell(*(f"{COMMAND}: {note}" for note in notes(done)))
     say(COMMAND, "".join(f"{port_line(name, port)}\n" for name, port in done.ports.items()))
     return 0

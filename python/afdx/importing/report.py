@@ -10,6 +10,7 @@ from afdx.importing.instants import instant
 from afdx.importing.running import Import, Reading
 from afdx.importing.taking import Port, Taker
 from afdx.recordings.columns import SECOND
+from afdx.recordings.faults import Place
 
 MOST_NAMED = 8  # end systems that are named in a warning
 
@@ -27,7 +28,7 @@ def notes(done: Import) -> Iterator[str]:
     """Answers what was found out of the recordings, and what may be wrong with them."""
     for reading in done.readings.values():
         if reading.recording.broken:
-            yield f"warning: breaks off; what was whole before is used, {reading.recording.broken}"
+            yield broken_note(reading.recording.broken)
         yield from dropped_notes(reading)
         yield from check_sequence_notes(reading)
         if reading.left.any():
@@ -36,6 +37,11 @@ def notes(done: Import) -> Iterator[str]:
         if taker.source.interface is not None and not any(map(taker.is_asked, taker.recording.interfaces)):
             yield interface_note(taker)
     yield from port_notes(done.ports)
+
+
+def broken_note(place: Place) -> str:
+    """Answers that a recording breaks off here."""
+    return f"warning: breaks off; what was whole before is used, {place}"
 
 
 def dropped_notes(reading: Reading) -> Iterator[str]:
