@@ -63,6 +63,15 @@ def test_how_far_copies_may_be_apart(tmp_path: Path, capsys: pytest.CaptureFixtu
         "port-1 link 1 pairs 0 least - greatest - only-a 1 run-a 1 only-b 1 run-b 1"]
 
 
+def test_folders_to_which_links_lead(tmp_path: Path, capsys: pytest.CaptureFixture[str]) -> None:
+    for network, folder in ((0x20, "a"), (0x40, "b")):
+        put(tmp_path / "runs", f"{folder}/port-1.pcap", network, [(0, 1, 1)])
+        (tmp_path / folder).mkdir()
+        (tmp_path / folder / "SW1").symlink_to(tmp_path / "runs" / folder)
+    assert run(tmp_path) == 0
+    assert capsys.readouterr().out == "SW1/port-1 link 1 pairs 1 least 0 greatest 0 only-a 0 run-a 0 only-b 0 run-b 0\n"
+
+
 def test_a_port_of_one_network(tmp_path: Path, capsys: pytest.CaptureFixture[str]) -> None:
     put(tmp_path / "a", "port-10.pcap", 0x20, [(0, 1, 1)])
     put(tmp_path / "a", "port-9.pcap", 0x20, [])

@@ -1,14 +1,15 @@
 """Runs the command afdx-skew."""
 import argparse
 import heapq
-import sys
 from collections.abc import Iterator, Sequence
+from glob import glob
 from pathlib import Path
 
 import numpy as np
 
-from afdx.failure import INPUT, Failure, failing, say
+from afdx.failure import INPUT, Failure, failing, say, tell
 from afdx.importing.instants import instant
+from afdx.importing.report import broken_note
 from afdx.recordings.columns import Batch
 from afdx.recordings.faults import RecordingFault
 from afdx.recordings.reading import Recording
@@ -40,10 +41,10 @@ def options_of(arguments: Sequence[str]) -> argparse.Namespace:
 
 
 def ports_of(folder: Path) -> set[str]:
-    """Answers the captures that lie in a folder and in those below it."""
+    """Answers the captures that lie in a folder and in those below it, also where a link leads to one."""
     if not folder.is_dir():
         raise Failure(INPUT, f"{COMMAND}: no folder {folder}")
-    return {str(path.relative_to(folder).with_suffix("")) for path in folder.rglob("port-*.pcap")}
+    return {name.removesuffix(".pcap") for name in glob("**/port-*.pcap", root_dir=folder, recursive=True)}
 
 
 def in_order(port: str) -> tuple[str, int, str]:
@@ -72,7 +73,7 @@ def copies_of(network: int, path: Path) -> Iterator[Copy]:
             if copy := copy_of(stamp, network, batch.data[begin:after]):
                 yield copy
     if recording.broken:
-        print(f"{COMMAND}: warning: breaks off; what was whole before is used, {recording.broken}", file=sys.stderr)
+        tell(f"{COMMAND}: {broken_note(recording.broken)}")
 
 
 def paired(port: str, folders: Sequence[Path], options: argparse.Namespace) -> Pairing:
@@ -107,7 +108,7 @@ def line(port: str, number: int, link: Link) -> str:
 def warn_of(missing: set[str], folder: Path) -> None:
     """Says which captures a folder lacks that the other one has."""
     for port in sorted(missing, key=in_order):
-        print(f"{COMMAND}: warning: no capture {port}.pcap, {folder}", file=sys.stderr)
+        tell(f"{COMMAND}: warning: no capture {port}.pcap, {folder}")
 
 
 def compared(port: str, folders: Sequence[Path], options: argparse.Namespace) -> list[str]:
