@@ -87,6 +87,20 @@ def test_tasks_share_the_memory_there_is(tmp_path: Path, monkeypatch: pytest.Mon
     assert max(seen) == most
 
 
+def test_no_more_threads_than_tasks(tmp_path: Path, monkeypatch: pytest.MonkeyPatch) -> None:
+    """Though there may be a million jobs at once."""
+    before, most = threading.active_count(), 0
+
+    def work(_: Task) -> Outcome:
+        nonlocal most
+        most = max(most, threading.active_count())
+        return Outcome(0, True)
+
+    monkeypatch.setattr(local, "work_hard", work)
+    local.run([task(tmp_path)], [0], Options(tmp_path, "local", 10**6, 1.0, lambda *_: None))
+    assert most <= before + 1
+
+
 def test_an_interrupt_ends_the_driver_and_its_children_at_once(tmp_path: Path) -> None:
     file = campaign(tmp_path)
     for name in ("monday", "tuesday"):

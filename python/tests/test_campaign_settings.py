@@ -24,6 +24,7 @@ REFUSED = [
     (GOOD.replace("[[table]]", "[[network]]") + "unchecked = 1\n", "unchecked is no bool, [[network]] 1"),
     (GOOD + "[limits]\ntries = 0\n", "tries is no number above 0 and at most 1000000000, [limits]"),
     (GOOD + "[limits]\ntimeout_s = inf\n", "timeout_s is no number above 0 and at most 1000000000, [limits]"),
+    (GOOD + f"[limits]\ntimeout_s = 1{'0' * 400}\n", "timeout_s is no float, [limits]"),
     (GOOD + "[limits]\nmemory = -1.5\n", "memory is no number above 0 and at most 1000000000, [limits]"),
     (GOOD.replace('["flights/*/run*"]', "[]"), "recordings is no list of patterns, top")]
 
@@ -42,6 +43,25 @@ def test_recordings_are_named_below_the_first_wildcard(tmp_path: Path) -> None:
     assert [task.recording.name for task in tasks] == ["monday/run1", "tuesday/run1"]
     assert tasks[0].recording.files == ("port-1.pcap", "port-7.pcap")
     assert tasks[0].memory == 4 * 48 + (64 << 20)
+
+
+def test_a_table_without_ports(tmp_path: Path) -> None:
+    """afdx accepts it, and reads no capture."""
+    file = campaign(tmp_path)
+    (tmp_path / "one.toml").write_text("version = 3\n")
+    assert [task.recording.files for task in tasks_of(read_campaign(file))] == [(), ()]
+
+
+@pytest.mark.parametrize("text", ["{", "[]", '{"root": 1}', '{"recording": [], "table": {}}'])
+def test_a_damaged_list_of_tasks(tmp_path: Path, text: str) -> None:
+    file = campaign(tmp_path)
+    (tmp_path / "campaign").mkdir()
+    (tmp_path / "campaign/tasks.jsonl").write_text(f"{text}\n")
+    with pytest.raises(Failure) as failure:
+        main(["status", str(file)])
+    assert (failure.value.status, failure.value.lines) == (5, (
+        f"afdx-campaign: no list of tasks, or one of another version: {tmp_path}/campaign/tasks.jsonl: "
+        "`afdx-campaign run` lists them",))
 
 
 def test_a_campaign_lies_in_any_folder(tmp_path: Path) -> None:

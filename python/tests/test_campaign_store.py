@@ -15,6 +15,8 @@ from afdx.campaign.findings import LOST_NAMES, QUESTIONS
 from afdx.campaign.rows import rows_of
 from afdx.campaign.store import collected, store_file
 from afdx.campaign.worker.task import Table, Task
+from afdx.campaign.worker.work import work_hard
+from afdx.failure import Failure
 from tests.campaign_samples import HEADING, row, task
 
 Rows = list[dict[str, Any]]
@@ -214,6 +216,33 @@ def test_answers_follow_their_tables_to_other_names(tmp_path: Path) -> None:
     for before, after in ((41, 42), (42, 43), (43, 42), (42, 42), (41, 42)):
         tasks = [of_table(asked, "before", str(before)), of_table(asked, "after", str(after))]
         assert worst_bounds(root, tasks) == {("before", before), ("after", after)}
+
+
+def test_a_fault_of_a_file_whose_name_is_no_utf_8(tmp_path: Path) -> None:
+    room = tmp_path / "a\udcff"
+    room.mkdir()
+    asked = task(room, "echo \"afdx: device get $folder/port-1.pcap\" >&2; exit 3", tries=1)
+    work_hard(asked)
+    with collected(Path(asked.root), [asked]) as base:
+        assert base.execute("select line from faults").fetchall() == [
+            (f"afdx: device get {tmp_path}/a\ufffd/recordings/r1/port-1.pcap",)]
+
+
+def test_a_damaged_store_is_named(tmp_path: Path) -> None:
+    asked = task(tmp_path)
+    put(asked, 0, "", 0)
+    root = Path(asked.root)
+    with collected(root, [asked]):
+        pass
+    size = store_file(root).stat().st_size
+    with open(store_file(root), "r+b") as file:
+        file.seek(4096)  # after its first page
+        file.write(b"\xff" * (size - 4096))
+    with pytest.raises(Failure) as failure:
+        with collected(root, [asked]):
+            pass
+    said = f"afdx-campaign: {store_file(root)} is damaged: remove it, and `page` makes it again"
+    assert (failure.value.status, failure.value.lines) == (5, (said,))
 
 
 @pytest.mark.parametrize("text", [b"", b"no gzip", gzip.compress(b"{}" * 99)[:-9], gzip.compress(b"{")])

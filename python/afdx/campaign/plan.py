@@ -57,11 +57,11 @@ def captures_of(configured: Configured) -> tuple[str, ...]:
     """Answers the captures that a table or a network reads, below the folder of a recording."""
     top = toml.read(COMMAND, configured.file)
     if not configured.network:
-        return tuple(f"port-{port['id']}.pcap" for port in top["port"])
+        return tuple(f"port-{port['id']}.pcap" for port in top.get("port", []))
     wired = {wire["to"] for wire in top.get("wire", [])}
     return tuple(
         f"{switch['name']}/port-{port['id']}.pcap" for switch in top.get("switch", [])
-        for port in toml.read(COMMAND, configured.file.parent / switch["table"])["port"]
+        for port in toml.read(COMMAND, configured.file.parent / switch["table"]).get("port", [])
         if f"{switch['name']}.{port['id']}" not in wired)
 
 
@@ -123,3 +123,6 @@ def get_plan(root: Path) -> list[Task]:
         raise failure(DEVICE, f"no tasks in {root}: `afdx-campaign run` lists them") from error
     except OSError as error:
         raise file_failure(f"read {plan_file(root)}", error) from error
+    except (AttributeError, LookupError, TypeError, ValueError) as error:
+        raise failure(DEVICE, f"no list of tasks, or one of another version: {plan_file(root)}: "
+                              "`afdx-campaign run` lists them") from error

@@ -71,7 +71,7 @@ class Section:
         value = self.values.pop(key, default)
         if value is REQUIRED:
             raise self.fail(f"no key {key}")
-        if kind is float and type(value) is int:
+        if kind is float and type(value) is int and abs(value) <= MOST:
             value = float(value)
         if type(value) is not kind:
             raise self.fail(f"{key} is no {kind.__name__}")

@@ -54,12 +54,15 @@ def collected(root: Path, tasks: list[Task]) -> Iterator[sqlite3.Connection]:
     """Opens the store with all answers to these tasks, and no others. One writer at a time."""
     with locked(root):
         try:
-            base = opened(store_file(root))
-            collect(base, root, tasks)
+            with contextlib.closing(opened(store_file(root))) as base:
+                collect(base, root, tasks)
+                yield base
+        except (sqlite3.IntegrityError, sqlite3.ProgrammingError):  # defects of this command
+            raise
         except sqlite3.OperationalError as error:
             raise failure(DEVICE, f"cannot write {store_file(root)}: {error}") from error
-        with contextlib.closing(base):
-            yield base
+        except sqlite3.DatabaseError as error:
+            raise failure(DEVICE, f"{store_file(root)} is damaged: remove it, and `page` makes it again") from error
 
 
 def opened(path: Path) -> sqlite3.Connection:
@@ -128,7 +131,8 @@ def add(base: sqlite3.Connection, task: Task, table: int, answer: dict[str, Any]
         (task.key, task.recording.name, table, answer["begin"], task.recording.size, answer["status"], how["seconds"],
          how["processor"], how["memory"], how["tries"], how["host"], how["at"])).lastrowid
     if answer["status"]:
-        base.execute("insert into faults values (?, ?, ?, ?)", (run, answer["status"], answer["fault"], answer["line"]))
+        line = answer["line"].encode("utf-8", "surrogateescape").decode("utf-8", "replace")  # as a file may be called
+        base.execute("insert into faults values (?, ?, ?, ?)", (run, answer["status"], answer["fault"], line))
     rows = rows_of(answer["text"])
     ports = [(*place, *values) for place, values in rows.ports.items()]
     insert(base, "links", run, rows.links)

@@ -50,7 +50,7 @@ def run(tasks: Sequence[Task], left: Sequence[int], options: Options) -> None:
                 return
             done.put((number, outcome_of(tasks[number], memory)))
 
-    for _ in range(options.jobs):
+    for _ in range(min(options.jobs, len(left))):
         threading.Thread(target=work, daemon=True).start()
     for _ in left:
         number, outcome = next_of(done, options)
