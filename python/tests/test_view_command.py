@@ -3,6 +3,7 @@ import hashlib
 import logging
 import os
 import re
+import tempfile
 from pathlib import Path
 
 import pytest
@@ -86,12 +87,33 @@ def test_a_pipe(folder: Path) -> None:
     assert caught.value.lines == ("afdx-view: pipe is not a file, and the program reads it more than once",)
 
 
+def test_no_temporary_folder(tmp_path: Path, monkeypatch: pytest.MonkeyPatch) -> None:
+    monkeypatch.setattr(tempfile, "tempdir", str(tmp_path / "none"))
+    with pytest.raises(Failure) as caught:
+        with answers.asked(program.Program("afdx-view", "/bin/true"), "", "table.toml", "in"):
+            pass
+    assert (caught.value.status, caught.value.lines) == (
+        DEVICE, ("afdx-view: cannot make a temporary folder: No such file or directory",))
+
+
 def test_answers_of_another_table(folder: Path) -> None:
     (folder / "table.toml").write_text(TABLE.replace("id = 11", "id = 12"))
     failure = refused("table.toml", ".", "page.html", "--answers", ".")
     assert failure.status == DEVICE
     assert failure.lines == (
         "afdx-view: the files in . are not what size, measure and trace answer of table.toml",)
+
+
+@pytest.mark.parametrize("name, old, new", [
+    ("arrivals.csv", "1768471200000000000", "99999999999999999999"), ("measure.csv", ",250,10,40,", ",0,10,40,"),
+    ("size.csv", "2,20,2048000000", "2,20,"), ("departures.csv", "2,1,0,10,", "2,1,0,-1,")])
+def test_answers_whose_numbers_are_none(folder: Path, name: str, old: str, new: str) -> None:
+    text = (folder / name).read_text()
+    assert old in text
+    (folder / name).write_text(text.replace(old, new))
+    failure = refused("table.toml", ".", "page.html", "--answers", ".")
+    assert (failure.status, failure.lines) == (
+        DEVICE, ("afdx-view: the files in . are not what size, measure and trace answer of table.toml",))
 
 
 def test_a_page_of_answers(folder: Path) -> None:

@@ -1,10 +1,8 @@
 """Gives each row the jitter that it needs, and has the program judge the network."""
-import tempfile
 from dataclasses import dataclass
 from pathlib import Path
 
 from afdx import files, printed
-from afdx.failure import failing
 from afdx.icd.network import Network
 from afdx.icd.tables import Table, texts_of
 from afdx.program import Answer, Program
@@ -18,14 +16,6 @@ class Verdict:
     texts: dict[str, bytes]
     answer: Answer  # of `afdx network check`, or of `afdx network jitter` if that refuses the network
     broken: list[str]  # if the network is refused, its rows that need too much jitter and its ports that break rules
-
-
-def temporary_folder(command: str) -> tempfile.TemporaryDirectory[str]:
-    """Makes a folder that goes with the block that it is made for."""
-    try:
-        return tempfile.TemporaryDirectory(prefix=f"{command}-")
-    except OSError as error:
-        raise failing(command, "cannot make a temporary folder", error) from error
 
 
 def put_all(command: str, folder: Path, texts: dict[str, bytes]) -> None:
@@ -60,7 +50,7 @@ def broken_ports(program: Program, folder: Path, tables: dict[str, Table]) -> li
 def settle(program: Program, tables: dict[str, Table], network: Network) -> Verdict:
     """Gives the rows their jitters and checks the network. One turn is enough: from the jitters at the links' first
     switches on, `afdx network jitter` itself goes on until none changes."""
-    with temporary_folder(program.progress.command) as room:
+    with files.temporary_folder(program.progress.command) as room:
         folder = Path(room)
         put_all(program.progress.command, folder, texts_of(tables, network))
         needs = program.ask("network", "jitter", folder / "network.toml", printed.CSV)

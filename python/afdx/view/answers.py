@@ -1,7 +1,6 @@
 """Asks the program of a run, or takes what it answered before."""
 import os
 import stat
-import tempfile
 from collections.abc import Iterator, Sequence
 from contextlib import contextmanager
 from dataclasses import dataclass
@@ -87,7 +86,7 @@ def asked(program: Program, size: str, table: str, folder: str, unchecked: bool 
     """Runs the program over a table, of which it has said the size, a folder of captures, and recordings if there are
     some; the answers are there for the time of the context."""
     options = ["--unchecked"] if unchecked else []
-    with tempfile.TemporaryDirectory(prefix=f"{program.progress.command}-") as name:
+    with files.temporary_folder(program.progress.command) as name:
         room = Path(name)
         compared = compare(program, table, folder, recordings, room) if recordings else None
         program.answer("trace", table, folder, room, *options)

@@ -164,7 +164,7 @@ def make_by_answers(command: str, options: argparse.Namespace) -> None:
         progress = Progress(command)
         run = read(kept, table, options.unchecked, progress)
         text = drawn(options, run, origin_of(command, None, options, run, inputs), progress)
-    except (LookupError, TypeError, ValueError) as error:
+    except (ArithmeticError, LookupError, TypeError, ValueError) as error:
         asked = "size, measure, trace and compare" if options.recordings else "size, measure and trace"
         raise Failure(DEVICE, f"{command}: the files in {options.answers} are not what {asked} answer "
                               f"of {options.table}") from error

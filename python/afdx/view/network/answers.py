@@ -4,13 +4,12 @@ What came in over a wire is what left at its start, the wire's delay later: so o
 captures of all ports of each switch, and of these `trace` and `measure` tell what became of each frame there.
 """
 import os
-import tempfile
 from collections.abc import Iterator
 from contextlib import contextmanager
 from dataclasses import dataclass
 from pathlib import Path
 
-from afdx import toml
+from afdx import files, toml
 from afdx.failure import INPUT, Failure, failing
 from afdx.printed import CSV
 from afdx.program import Program
@@ -81,8 +80,8 @@ def given(asked: Asked, folder: str) -> list[str]:
 def delay(command: str, start: Path, end: Path, nanoseconds: int) -> None:
     """Writes a capture that the program has put once more, so much later."""
     try:
-        with end.open("xb") as file:
-            file.write(start.open("rb").read(HEADER))
+        with end.open("xb") as file, start.open("rb") as put:
+            file.write(put.read(HEADER))
             for batch in Recording(start, start.name).batches():
                 if not len(batch.stamp):
                     continue
@@ -138,7 +137,7 @@ def ask_switch(program: Program, asked: Asked, switch: str, folder: str, room: P
 def answered(program: Program, asked: Asked, folder: str) -> Iterator[NetworkAnswers]:
     """Runs the program over a network and a folder of captures; the answers are there for the time of the context."""
     options = [] if asked.checked else ["--unchecked"]
-    with tempfile.TemporaryDirectory(prefix=f"{program.progress.command}-") as name:
+    with files.temporary_folder(program.progress.command) as name:
         room = Path(name)
         for switch in asked.tables:
             (room / "out" / switch).mkdir(parents=True)
