@@ -12,6 +12,8 @@ import argparse
 import os
 import sys
 import tempfile
+from collections.abc import Sequence
+from pathlib import Path
 
 from measure import AFDX, measured, write_capture
 
@@ -131,14 +133,36 @@ def peak_of_network(afdx: str, room: str, count: int, size: int) -> float:
     return megabytes
 
 
+def judge(what: str, counts: Sequence[int], peaks: Sequence[float], most: float) -> None:
+    """Prints the megabytes that each count of frames takes at its peak, and ends with a line if these grow with it."""
+    print(f"{what}: " + ", ".join(f"{count} take {peak:.1f} MB" for count, peak in zip(counts, peaks)))
+    if max(peaks) > most or peaks[1] - peaks[0] > GROWTH:
+        sys.exit(f"memory grows with the count: {what}")
+
+
+def try_commands(afdx: str, room: str) -> None:
+    """Ends with a line if the memory of a command grows."""
+    for size, counts in COUNTS.items():
+        found = [peaks_of(afdx, room, count, size) for count in counts]
+        for command in COMMANDS:
+            judge(f"{command}, frames of {size} bytes", counts, [peaks[command] for peaks in found], MOST)
+
+
 def try_networks(afdx: str, room: str) -> None:
     """Ends with a line if the memory of a network's run grows."""
     make_network(room)
     for size, counts in COUNTS_OF_NETWORKS.items():
-        peak, more = (peak_of_network(afdx, room, count, size) for count in counts)
-        print(f"network run over two switches, {counts[0]} and {counts[1]} frames of {size} bytes: {peak:.1f} and {more:.1f} MB")
-        if more > MOST or more - peak > GROWTH:
-            sys.exit("the memory of network run grows with the frames")
+        peaks = [peak_of_network(afdx, room, count, size) for count in counts]
+        judge(f"network run over two switches, frames of {size} bytes", counts, peaks, MOST)
+
+
+def make_room(room: str) -> None:
+    """Makes the folders, the table, and the captures of ports at which nothing comes in or was recorded."""
+    for side in ("in", "out", "silent", "traced"):
+        os.mkdir(f"{room}/{side}")
+    texts = dict.fromkeys(("in/port-2.pcap", "silent/port-1.pcap", "silent/port-2.pcap"), HEADER)
+    for name, text in {"table.toml": TABLE.encode(), **texts}.items():
+        Path(room, name).write_bytes(text)
 
 
 def main() -> None:
@@ -146,25 +170,9 @@ def main() -> None:
     parser.add_argument("afdx", nargs="?", default=AFDX, help="the program; the one that ./test builds if none is named")
     afdx = os.path.abspath(parser.parse_args().afdx)
     with tempfile.TemporaryDirectory() as room:
-        for side in ("in", "out", "silent", "traced"):
-            os.mkdir(f"{room}/{side}")
-        with open(f"{room}/table.toml", "w", encoding="utf-8") as file:
-            file.write(TABLE)
-        for silent in ("in/port-2.pcap", "silent/port-1.pcap", "silent/port-2.pcap"):
-            with open(f"{room}/{silent}", "wb") as file:
-                file.write(HEADER)
-        for size, counts in COUNTS.items():
-            found = [peaks_of(afdx, room, count, size) for count in counts]
-            for command in COMMANDS:
-                peaks = [of_count[command] for of_count in found]
-                said = ", ".join(f"{count} take {peak:.1f} MB" for count, peak in zip(counts, peaks))
-                print(f"{command}, frames of {size} bytes: {said}")
-                if max(peaks) > MOST or peaks[1] - peaks[0] > GROWTH:
-                    sys.exit(f"the memory of {command} grows with the frames")
-        peaks = [peak_of_bursts(afdx, room, bursts) for bursts in BURSTS]
-        print("bursts to 23 ports: " + ", ".join(f"{count} take {peak:.1f} MB" for count, peak in zip(BURSTS, peaks)))
-        if max(peaks) > MOST_OF_BURSTS or peaks[1] - peaks[0] > GROWTH:
-            sys.exit("memory grows with the bursts")
+        make_room(room)
+        try_commands(afdx, room)
+        judge("bursts to 23 ports", BURSTS, [peak_of_bursts(afdx, room, bursts) for bursts in BURSTS], MOST_OF_BURSTS)
         try_networks(afdx, room)
 
 

@@ -5,12 +5,11 @@ which differ from them in the last bytes alone.
 usage: strangers.py FOLDER COUNT [--at-once]    afterwards: afdx compare FOLDER/table.toml FOLDER/in FOLDER/out
 """
 import argparse
-import struct
 import sys
 from pathlib import Path
 
 sys.path.insert(0, str(Path(__file__).resolve().parent.parent / "end_to_end"))
-import model  # noqa: E402
+from captures import HEADER, SECOND, record  # noqa: E402
 
 TABLE = """version = 3
 latency_us = 16
@@ -34,7 +33,7 @@ max_size = 1518
 priority = "low"
 """
 HEAD = bytes.fromhex("03000000000702000000000108004500")
-BEGIN = model.SECOND
+BEGIN = SECOND
 
 
 def arguments() -> argparse.Namespace:
@@ -47,13 +46,10 @@ def arguments() -> argparse.Namespace:
 
 def write(path: Path, first: int, count: int, step: int, begin: int = BEGIN) -> None:
     """A capture of frames of 64 bytes that end with their numbers, from a number and an instant on."""
-    header = bytes.fromhex("4d3cb2a1 02000400 00000000 00000000 00000400 01000000")
     with path.open("wb") as file:
-        file.write(header)
+        file.write(HEADER)
         for number in range(first, first + count):
-            seconds, nanos = divmod(begin + (number - first) * step, model.SECOND)
-            data = HEAD.ljust(52, b"\0") + number.to_bytes(8, "big")
-            file.write(struct.pack("<4I", seconds, nanos, len(data), len(data)) + data)
+            file.write(record(begin + (number - first) * step, HEAD.ljust(52, b"\0") + number.to_bytes(8, "big")))
 
 
 def main() -> None:
