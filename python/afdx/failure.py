@@ -31,7 +31,8 @@ def failing(command: str, what: str, error: OSError) -> Failure:
 
 def failing_of(command: str, error: OSError) -> Failure:
     """Answers the failure of a device call of which no more is known than the error has."""
-    return failing(command, "cannot go on" if error.filename is None else f"cannot read or write {error.filename}", error)
+    what = "cannot go on" if error.filename is None else f"cannot read or write {error.filename}"
+    return failing(command, what, error)
 
 
 def encoded(text: str) -> bytes:
@@ -109,7 +110,9 @@ def ended(failure: Failure) -> int:
 
 
 def tell(*lines: str) -> None:
-    """Writes lines on standard error."""
-    with contextlib.suppress(OSError):  # nobody reads them any more
+    """Writes lines on standard error. Once that takes none, what is kept there would fail again at the end."""
+    try:
         sys.stderr.buffer.write(encoded("".join(f"{line}\n" for line in lines)))
         sys.stderr.buffer.flush()
+    except OSError:
+        sys.stderr = open(os.devnull, "w", encoding="utf-8")

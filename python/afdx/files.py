@@ -1,4 +1,4 @@
-"""Puts whole files: under a name is what was there or the whole new text, never a part of it. Makes temporary folders."""
+"""Puts and reads whole files: under a name is what was there or the whole new text, never a part of it."""
 from __future__ import annotations  # the workers of a campaign get `put_by` by value, without the names of types
 
 import contextlib

@@ -33,8 +33,8 @@ sys.exit(run(lambda arguments: len(arguments) // 0))
 
 # a command that something fails for which it does not look
 FAILING = """
-import sys
-from afdx.failure import run
+import os, sys
+from afdx.failure import Failure, run
 
 def fail(arguments):
     {0}
@@ -112,9 +112,9 @@ def test_a_device_that_fails_is_no_defect(tmp_path: Path, what: str, said: str) 
 def test_words_that_the_locale_lacks(tmp_path: Path) -> None:
     """They are told by their numbers; of a name of a file are its own bytes."""
     for words, told in ((r"'K\u00fcche \u65e5'", rb"K\xfcche \u65e5"), ("os.fsdecode(bytes([255]))", b"\xff")):
-        code = f"import os, sys\nfrom afdx.failure import *\ndef main(_): raise Failure(3, {words})\nsys.exit(run(main))"
-        done = subprocess.run([sys.executable, "-c", code], cwd=tmp_path, capture_output=True, env={
-            "PYTHONPATH": str(Path(__file__).parents[1]), "LC_ALL": "C", "PYTHONUTF8": "0", "PYTHONCOERCECLOCALE": "0"})
+        environment = {"LC_ALL": "C", "PYTHONUTF8": "0", "PYTHONCOERCECLOCALE": "0"}
+        done = subprocess.run([sys.executable, "-c", FAILING.format(f"raise Failure(3, {words})")], cwd=tmp_path,
+                              capture_output=True, env=environment | {"PYTHONPATH": str(Path(__file__).parents[1])})
         assert (done.returncode, done.stdout, done.stderr) == (3, b"", told + b"\n")
 
 
@@ -181,6 +181,15 @@ def test_an_output_that_takes_nothing(tmp_path: Path, redirection: str, why: str
     """It is a device that failed, whether the command printed its answer or its help."""
     status, said = ended(tmp_path, redirection, *arguments, unbuffered=unbuffered)
     assert (status, said) == (5, f"-c: cannot write standard output: {why}\n")
+
+
+def test_an_error_stream_that_takes_nothing(tmp_path: Path) -> None:
+    """The status is as with one."""
+    code = FAILING.format("raise Failure(3, 'command: one')")
+    with open("/dev/full", "wb") as full:
+        done = subprocess.run([sys.executable, "-c", code], cwd=tmp_path, stderr=full,
+                              env={"PYTHONPATH": str(Path(__file__).parents[1])})
+    assert done.returncode == 3
 
 
 @pytest.mark.parametrize("redirection", ["2>&-", "<&- 2>&-"])

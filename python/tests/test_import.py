@@ -1,5 +1,6 @@
 """What the command afdx-import makes of recordings: numbers by hand, and a plain model of random ones."""
 import gzip
+import io
 import os
 import shutil
 import signal
@@ -384,6 +385,7 @@ def test_a_signal_while_captures_are_put(folder: Folder, monkeypatch: pytest.Mon
         replace_file(old, new)
 
     monkeypatch.setattr(os, "replace", replace_slowly)
+    monkeypatch.setattr(signals, "waiting", signals.Waiting())
     try:
         with pytest.raises(SystemExit) as ended:
             folder.run(ONE + TWO, a_pcap=captures.pcap(A), b_pcap=captures.pcap(A))
@@ -395,7 +397,7 @@ def test_a_signal_while_captures_are_put(folder: Folder, monkeypatch: pytest.Mon
 
 
 def test_warnings_that_nobody_takes(folder: Folder, monkeypatch: pytest.MonkeyPatch) -> None:
-    with open("/dev/full", "w") as full:
+    with io.TextIOWrapper(open("/dev/full", "wb", buffering=0)) as full:
         monkeypatch.setattr(sys, "stderr", full)
         assert folder.run(ONE, a_pcap=captures.pcap(A)[:-1])[0] == 0
 

@@ -38,10 +38,6 @@ class Course:
     faults: list[int]  # the places of those that are faults
     shares: Floats  # of a bound, the most of a recording; NaN if there is none
 
-    def place(self, recording: str) -> int:
-        """Answers the place of a recording."""
-        return self.recordings.index(recording)
-
 
 def course_of(base: sqlite3.Connection, table: str) -> Course:
     """Answers the recordings of a table."""

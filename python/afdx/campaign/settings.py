@@ -1,4 +1,5 @@
 """Reads the campaign file, CAMPAIGN.toml."""
+import string
 import tempfile
 from collections.abc import Mapping
 from dataclasses import dataclass
@@ -14,7 +15,7 @@ from afdx.program import find_program
 IDENTITIES = ("stat", "content")
 REQUIRED = object()
 MOST = 10**9  # of a limit: more seconds than a timer takes, or no number, would end a worker
-NAME = set("ABCDEFGHIJKLMNOPQRSTUVWXYZabcdefghijklmnopqrstuvwxyz0123456789-_.")
+NAME = set(f"{string.ascii_letters}{string.digits}-_.")  # what the name of a table may have
 
 Kind = TypeVar("Kind")
 

@@ -24,11 +24,6 @@ def table_facts(table: dict[str, Any], switch: str = "") -> Facts:
     return facts
 
 
-def down_of(row: dict[str, Any]) -> str:
-    """Answers whether a switch or a wire is down."""
-    return truth_of(row, "down")
-
-
 def truth_of(row: dict[str, Any], key: str) -> str:
     """Writes an optional truth value."""
     return "true" if row.get(key) else "false"
@@ -39,8 +34,8 @@ def network_facts(network: dict[str, Any]) -> Facts:
     facts: Facts = {Place("", "network", ""): {"one_line": truth_of(network, "one_line")}}
     for switch in network.get("switch", []):
         facts[Place("", "switch", switch["name"])] = {"least_latency_us": str(switch.get("least_latency_us", 0)),
-                                                      "down": down_of(switch)}
+                                                      "down": truth_of(switch, "down")}
     for wire in network.get("wire", []):
         facts[Place("", "wire", wire["from"])] = {"to": wire["to"], "delay_ns": str(wire.get("delay_ns", 0)),
-                                                  "down": down_of(wire)}
+                                                  "down": truth_of(wire, "down")}
     return facts

@@ -1,10 +1,7 @@
 """Shows stamps as dates."""
-from datetime import datetime, timezone
-
-from afdx.recordings.columns import SECOND
+from afdx.pages.words import utc
 
 
 def instant(stamp: int) -> str:
-    """Answers a stamp as ISO 8601 has it, in UTC to the nanosecond."""
-    seconds, nanos = divmod(stamp, SECOND)
-    return f"{datetime.fromtimestamp(seconds, timezone.utc):%Y-%m-%dT%H:%M:%S}.{nanos:09}Z"
+    """Answers a stamp, which is ns after 1970, as ISO 8601 has it, in UTC to the nanosecond."""
+    return f"{utc(stamp).replace(' ', 'T')}Z"

@@ -13,7 +13,7 @@ from afdx import files, toml
 from afdx.failure import INPUT, Failure, failing
 from afdx.printed import CSV
 from afdx.program import Program
-from afdx.recordings.columns import SECOND, are_stamps, at_any
+from afdx.recordings.columns import SECOND, Batch, are_stamps, at_any
 from afdx.recordings.pcap import HEADER
 from afdx.recordings.reading import Recording
 from afdx.recordings.walking import RECORD
@@ -77,21 +77,24 @@ def given(asked: Asked, folder: str) -> list[str]:
     return [capture(folder, port) for port in ports if port not in wired]
 
 
+def later(command: str, batch: Batch, nanoseconds: int) -> memoryview:
+    """Answers the records of a batch that the program has written, one at least, so much later."""
+    stamps, at = batch.stamp + nanoseconds, batch.start - RECORD
+    if not are_stamps(stamps):
+        raise Failure(INPUT, f"{command}: a frame goes over a wire in the last second that stamps have")
+    text = memoryview(bytearray(batch.data))
+    words = at_any(text, "<u4")
+    words[at], words[at + 4] = stamps // SECOND, stamps % SECOND
+    return text[int(at[0]):int(batch.start[-1] + batch.captured[-1])]
+
+
 def delay(command: str, start: Path, end: Path, nanoseconds: int) -> None:
     """Writes a capture that the program has put once more, so much later."""
     try:
         with end.open("xb") as file, start.open("rb") as put:
             file.write(put.read(HEADER))
-            for batch in Recording(start, start.name).batches():
-                if not len(batch.stamp):
-                    continue
-                stamps, at = batch.stamp + nanoseconds, batch.start - RECORD
-                if not are_stamps(stamps):
-                    raise Failure(INPUT, f"{command}: a frame goes over a wire in the last second that stamps have")
-                text = bytearray(batch.data)
-                words = at_any(memoryview(text), "<u4")
-                words[at], words[at + 4] = stamps // SECOND, stamps % SECOND
-                file.write(memoryview(text)[int(at[0]):int(batch.start[-1] + batch.captured[-1])])
+            file.writelines(later(command, batch, nanoseconds)
+                            for batch in Recording(start, start.name).batches() if len(batch.stamp))
     except OSError as error:
         raise failing(command, f"cannot write {end.name}", error) from error
 
