@@ -88,7 +88,7 @@ def read(answers: Answers, table: Table, checked: bool, progress: Progress) -> R
 def run_of(answers: Answers, table: Table, checked: bool, fates: Fates, runs: int = 1) -> Run:
     """Reads the rest of a run, one of so many on a page."""
     pairs = pairs_of(answers.measured, table, fates)
-    if checked and any(pair.bound is None for pair in pairs):
+    if checked and not all(pair.bound for pair in pairs):
         raise ValueError("no bound in the answers of a checked run")
     shown = shown_of(pairs, checked, runs)
     parts = parts_of(len(shown) + len(fates.policed_links()), runs)
