@@ -11,7 +11,7 @@ from pathlib import Path
 from unittest.mock import patch
 
 import pytest
-from hypothesis import HealthCheck, given, settings
+from hypothesis import given
 from hypothesis import strategies as some
 
 import captures
@@ -516,7 +516,6 @@ def imported_plainly(text: bytes) -> dict[str, bytes] | None:
     return {port: captures.pcap(sorted(got, key=lambda one: one.stamp)) for port, got in ports.items()}
 
 
-@settings(suppress_health_check=[HealthCheck.function_scoped_fixture])
 @given(text=some.sampled_from(SAMPLES), changes=CHANGES, cut=some.integers(0, 10**6))
 def test_mutated_recordings(folder: Folder, text: bytes, changes: list[tuple[int, bytes]], cut: int) -> None:
     """A mutated recording is refused and nothing is put, or what is put is what a plain model makes of it."""
@@ -531,7 +530,6 @@ def test_mutated_recordings(folder: Folder, text: bytes, changes: list[tuple[int
     assert all(line.startswith("afdx-import: ") for line in said)
 
 
-@settings(suppress_health_check=[HealthCheck.function_scoped_fixture])
 @given(at=some.integers(0, 10**6), by=some.binary(min_size=1, max_size=2))
 def test_mutated_compressed_recordings(folder: Folder, at: int, by: bytes) -> None:
     """The check of gzip finds what was changed: it is refused, or the bytes are those of the recording."""
