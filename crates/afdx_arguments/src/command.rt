@@ -212,6 +212,7 @@ pub(crate) fn with_command<'a>(
     program.subcommand(command?)
 }
 
+/// Makes the command `alone`.
 fn alone<'a>(alloc: Global) -> Result<Command<'a>, AllocError>
     ensures app { IfOk result (λ c. app_of c ≡ alone_app) }
     ensures local { IfOk result (λ c. (out-Command c).has_globals ≡ false) }
@@ -232,6 +233,7 @@ fn alone<'a>(alloc: Global) -> Result<Command<'a>, AllocError>
     with_argument(with_argument(with_argument(command, bag), jitter), size)
 }
 
+/// Makes the command `check`.
 fn check<'a>(alloc: Global) -> Result<Command<'a>, AllocError>
     ensures app { IfOk result (λ c. app_of c ≡ check_app) }
     ensures local { IfOk result (λ c. (out-Command c).has_globals ≡ false) }
@@ -242,6 +244,7 @@ fn check<'a>(alloc: Global) -> Result<Command<'a>, AllocError>
     with_argument(command, csv(alloc))
 }
 
+/// Makes the command `size`.
 fn size<'a>(alloc: Global) -> Result<Command<'a>, AllocError>
     ensures app { IfOk result (λ c. app_of c ≡ size_app) }
     ensures local { IfOk result (λ c. (out-Command c).has_globals ≡ false) }
@@ -285,6 +288,7 @@ fn with_paths<'a>(
     with_argument(with_files(alloc, name, about, more, output), unchecked)
 }
 
+/// Makes the command `run`.
 fn run<'a>(alloc: Global) -> Result<Command<'a>, AllocError>
     ensures app { IfOk result (λ c. app_of c ≡ run_app) }
     ensures local { IfOk result (λ c. (out-Command c).has_globals ≡ false) }
@@ -319,6 +323,7 @@ fn with_inputs<'a>(
     with_argument(command, csv(alloc))
 }
 
+/// Makes the command `measure`.
 fn measure<'a>(alloc: Global) -> Result<Command<'a>, AllocError>
     ensures app { IfOk result (λ c. app_of c ≡ inputs_app (codes "measure")) }
     ensures local { IfOk result (λ c. (out-Command c).has_globals ≡ false) }
@@ -327,6 +332,7 @@ fn measure<'a>(alloc: Global) -> Result<Command<'a>, AllocError>
     with_inputs(alloc, "measure", about, MEASURE)
 }
 
+/// Makes the command `survey`.
 fn survey<'a>(alloc: Global) -> Result<Command<'a>, AllocError>
     ensures app { IfOk result (λ c. app_of c ≡ inputs_app (codes "survey")) }
     ensures local { IfOk result (λ c. (out-Command c).has_globals ≡ false) }
@@ -335,6 +341,7 @@ fn survey<'a>(alloc: Global) -> Result<Command<'a>, AllocError>
     with_inputs(alloc, "survey", about, SURVEY)
 }
 
+/// Makes the command `trace`.
 fn trace<'a>(alloc: Global) -> Result<Command<'a>, AllocError>
     ensures app { IfOk result (λ c. app_of c ≡ trace_app) }
     ensures local { IfOk result (λ c. (out-Command c).has_globals ≡ false) }

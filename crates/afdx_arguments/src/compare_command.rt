@@ -86,6 +86,7 @@ fn with_span<'a>(
     with_argument(with_argument(with_argument(command, rest), from), until)
 }
 
+/// Makes the command `compare`.
 pub(crate) fn compare<'a>(alloc: Global) -> Result<Command<'a>, AllocError>
     ensures app { IfOk result (λ c. app_of c ≡ compare_app) }
     ensures local { IfOk result (λ c. (out-Command c).has_globals ≡ false) }

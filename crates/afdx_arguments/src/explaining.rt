@@ -22,6 +22,7 @@ Status: 0 done, 2 arguments or no such code, 5 memory or a device.
 
 Example: afdx explain C6";
 
+/// Makes the command `explain`.
 #[tactic(auto, unfolding(crate::specs::Commands::explain_app))]
 pub(crate) fn explain<'a>(alloc: Global) -> Result<Command<'a>, AllocError>
     ensures app { IfOk result (λ c. app_of c ≡ explain_app) }

@@ -109,6 +109,7 @@ fn with_path<'a>(
     with_argument(command, csv(alloc))
 }
 
+/// Makes the command `network check`.
 fn check<'a>(alloc: Global) -> Result<Command<'a>, AllocError>
     ensures app { IfOk result (λ c. app_of c ≡ network_path_app (codes "check")) }
     ensures local { IfOk result (λ c. (out-Command c).has_globals ≡ false) }
@@ -117,6 +118,7 @@ fn check<'a>(alloc: Global) -> Result<Command<'a>, AllocError>
     with_path(alloc, "check", about, CHECK)
 }
 
+/// Makes the command `network size`.
 fn size<'a>(alloc: Global) -> Result<Command<'a>, AllocError>
     ensures app { IfOk result (λ c. app_of c ≡ network_path_app (codes "size")) }
     ensures local { IfOk result (λ c. (out-Command c).has_globals ≡ false) }
@@ -125,6 +127,7 @@ fn size<'a>(alloc: Global) -> Result<Command<'a>, AllocError>
     with_path(alloc, "size", about, SIZE)
 }
 
+/// Makes the command `network jitter`.
 fn jitter<'a>(alloc: Global) -> Result<Command<'a>, AllocError>
     ensures app { IfOk result (λ c. app_of c ≡ network_path_app (codes "jitter")) }
     ensures local { IfOk result (λ c. (out-Command c).has_globals ≡ false) }
@@ -157,6 +160,7 @@ fn with_paths<'a>(
     )
 }
 
+/// Makes the command `network run`.
 fn run<'a>(alloc: Global) -> Result<Command<'a>, AllocError>
     ensures app { IfOk result (λ c. app_of c ≡ network_run_app) }
     ensures local { IfOk result (λ c. (out-Command c).has_globals ≡ false) }
@@ -167,6 +171,7 @@ fn run<'a>(alloc: Global) -> Result<Command<'a>, AllocError>
     with_argument(command, csv(alloc))
 }
 
+/// Makes the command `network trace`.
 fn trace<'a>(alloc: Global) -> Result<Command<'a>, AllocError>
     ensures app { IfOk result (λ c. app_of c ≡ network_paths_app (codes "trace")) }
     ensures local { IfOk result (λ c. (out-Command c).has_globals ≡ false) }
@@ -196,6 +201,7 @@ fn with_inputs<'a>(
     with_argument(command, csv(alloc))
 }
 
+/// Makes the command `network measure`.
 fn measure<'a>(alloc: Global) -> Result<Command<'a>, AllocError>
     ensures app { IfOk result (λ c. app_of c ≡ network_inputs_app (codes "measure")) }
     ensures local { IfOk result (λ c. (out-Command c).has_globals ≡ false) }
@@ -204,6 +210,7 @@ fn measure<'a>(alloc: Global) -> Result<Command<'a>, AllocError>
     with_inputs(alloc, "measure", about, MEASURE)
 }
 
+/// Makes the command `network survey`.
 fn survey<'a>(alloc: Global) -> Result<Command<'a>, AllocError>
     ensures app { IfOk result (λ c. app_of c ≡ network_inputs_app (codes "survey")) }
     ensures local { IfOk result (λ c. (out-Command c).has_globals ≡ false) }

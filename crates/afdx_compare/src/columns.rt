@@ -17,6 +17,7 @@ use std::alloc::{AllocError, Allocator};
 /// The names of the columns.
 const HEADING: &str = "port,link,kind,record_in,stamp_in,record_out,stamp_out,delay,bound\n";
 
+/// Returns the word of a kind.
 fn kind_text(kind: Kind) -> &'static str
     ensures { result.now ≡ kind_text kind }
 {
@@ -197,7 +198,7 @@ fn put_ports<A: Allocator + Copy>(
 /// the records that left, and of missing frames. Numbers are decimal, of records in their captures from 1 on; times are nanoseconds, and stamps as
 /// recorded; what there is not is empty. The row of an extra record names the policed frame whose bytes it has, if there is one.
 ///
-/// An error is out of memory. O(for each port the ports of all links; rows and their logarithm).
+/// An error is out of memory. O(p m + r log r) for p ports, links that together lead to m of them, and r rows.
 pub fn differences<A: Allocator + Copy>(
     alloc: A,
     findings: &Findings<'_, A>,

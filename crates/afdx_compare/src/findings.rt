@@ -223,8 +223,8 @@ fn is_formed(table: &Table)
 ///
 /// `Read` at the first place at which a reader fails; else `Came` or `Left` of the first one that is no capture; `Memory` if memory ran out.
 ///
-/// O(bytes, and for each record the captures and the logarithm of what is held). Each capture is read once; it holds records of twice the
-/// ports' bounds and of the tolerance.
+/// O(b p log h + r c) for b bytes in r records of c captures, links that lead to p ports at most, and h frames and records that are held. Each
+/// capture is read once; it holds records of twice the ports' bounds and of the tolerance.
 pub fn compare<'t, R: Read, A: Allocator + Copy>(
     alloc: A,
     table: &'t Table,

@@ -55,6 +55,7 @@ pub(crate) fn up(count: u64) -> u64
 }
 
 impl InCount {
+    /// Counts what the filter says of an arrival.
     fn note_verdict(&mut self, verdict: Verdict)
         ensures { self.new ≡ with_verdict verdict self.old }
     {

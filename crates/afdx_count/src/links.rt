@@ -23,6 +23,7 @@ pub struct LinkTally {
 }
 
 impl LinkTally {
+    /// Makes the counters of a link, at 0.
     fn new(row: &LinkRow) -> LinkTally
         ensures { result ≡ new_link row.now }
     {
@@ -33,6 +34,7 @@ impl LinkTally {
         }
     }
 
+    /// Returns the counters with one passed frame more.
     fn with_passed(self) -> LinkTally
         ensures { result ≡ one_passed self }
     {
@@ -41,6 +43,7 @@ impl LinkTally {
         tally
     }
 
+    /// Returns the counters with one policed frame more.
     fn with_policed(self) -> LinkTally
         ensures { result ≡ one_policed self }
     {
@@ -98,6 +101,7 @@ impl<A: Allocator + Copy> Links<A> {
         Ok(Links { tallies })
     }
 
+    /// Returns the counters of all links, in order. O(1).
     pub(crate) fn as_slice(&self) -> &[LinkTally]
         ensures { result.now ≡ self.now }
     {
@@ -165,6 +169,7 @@ impl<A: Allocator + Copy> Links<A> {
         }
     }
 
+    /// Counts a policed frame at the link with a number, which may be at the place that is given.
     #[inline(always)]
     fn note_policed(&mut self, id: u16, reported: Option<usize>)
         ensures { self.new ≡ changed_at (λ l. l.id) id one_policed self.old }

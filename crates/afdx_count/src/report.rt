@@ -33,6 +33,7 @@ fn put_line<A: Allocator + Copy>(
     text.push_str("\n")
 }
 
+/// Appends the line of the arrivals at a port.
 fn put_input<A: Allocator + Copy>(text: &mut String<A>, port: &PortTally) -> Result<(), AllocError>
     ensures { OnOk result (string_bytes text.new ≡ string_bytes text.old ++ in_line port.now) }
 {
@@ -54,6 +55,7 @@ fn put_input<A: Allocator + Copy>(text: &mut String<A>, port: &PortTally) -> Res
     )
 }
 
+/// Appends the line of the clean frames of a link.
 fn put_link<A: Allocator + Copy>(text: &mut String<A>, link: &LinkTally) -> Result<(), AllocError>
     ensures { OnOk result (string_bytes text.new ≡ string_bytes text.old ++ link_line link.now) }
 {
@@ -67,6 +69,7 @@ fn put_link<A: Allocator + Copy>(text: &mut String<A>, link: &LinkTally) -> Resu
     )
 }
 
+/// Appends the line of the copies of a priority at a port.
 #[tactic(auto, unfolding(crate::specs::Report::class_line))]
 fn put_class<A: Allocator + Copy>(
     text: &mut String<A>,
@@ -88,6 +91,7 @@ fn put_class<A: Allocator + Copy>(
     )
 }
 
+/// Appends the lines of the copies at a port: of the high ones, then of the low ones.
 fn put_output<A: Allocator + Copy>(text: &mut String<A>, port: &PortTally) -> Result<(), AllocError>
     ensures { OnOk result (string_bytes text.new ≡ string_bytes text.old ++ out_lines port.now) }
 {
@@ -96,6 +100,7 @@ fn put_output<A: Allocator + Copy>(text: &mut String<A>, port: &PortTally) -> Re
     Ok(())
 }
 
+/// Appends the line of the arrivals at each port.
 pub(crate) fn put_inputs<A: Allocator + Copy>(
     text: &mut String<A>,
     ports: &[PortTally],
@@ -108,6 +113,7 @@ pub(crate) fn put_inputs<A: Allocator + Copy>(
     Ok(())
 }
 
+/// Appends the line of the clean frames of each link.
 pub(crate) fn put_links<A: Allocator + Copy>(
     text: &mut String<A>,
     links: &[LinkTally],
@@ -120,6 +126,7 @@ pub(crate) fn put_links<A: Allocator + Copy>(
     Ok(())
 }
 
+/// Appends the lines of the copies at each port.
 pub(crate) fn put_outputs<A: Allocator + Copy>(
     text: &mut String<A>,
     ports: &[PortTally],

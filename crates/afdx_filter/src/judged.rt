@@ -28,6 +28,7 @@ pub struct Judged {
 }
 
 impl Judged {
+    /// Returns what is said of a frame that is no link's and names none.
     fn refused(verdict: Verdict) -> Judged
         ensures { result ≡ record { verdict = verdict; place = None; link = None } }
     {

@@ -13,6 +13,7 @@ pub(crate) struct FileId {
 }
 
 impl FileId {
+    /// Returns the identity that the system tells of a file.
     pub(crate) fn of(metadata: &Metadata) -> FileId {
         FileId {
             device: metadata.dev(),

@@ -32,6 +32,7 @@ impl From<AllocError> for InputFault {
     }
 }
 
+/// Makes so many zeros. An error says that memory ran out.
 fn zeros<A: Allocator + Copy>(alloc: A, count: usize) -> Result<Vec<u8, A>, AllocError>
     ensures { IfOk result (λ v. length v.items ≡ count) }
 {

@@ -14,7 +14,7 @@ pub struct WriteFault;
 ///
 /// # Errors
 ///
-/// A write that fails, is interrupted or takes nothing, which isn't tried again; a prefix of the bytes was written then.
+/// A write that fails, is interrupted or takes nothing, which is not tried again; a prefix of the bytes was written then.
 ///
 /// O(bytes), no memory.
 pub fn write_bytes<W: Write>(out: &mut W, bytes: &[u8]) -> Result<(), WriteFault>

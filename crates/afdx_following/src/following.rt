@@ -43,7 +43,7 @@ impl<'a, A: Allocator> Model for Following<'a, A> {
 
 impl<'a, A: Allocator + Copy> Following<'a, A> {
     /// Makes a link at these ports, of which nothing came or left, policed as this account polices. The account was full or, if there is an instant,
-    /// nothing is known of it then. Stamps may be off by the tolerance in nanoseconds. It takes no memory.
+    /// nothing is known of it then. Stamps may be off by the tolerance in nanoseconds, at most a second. It takes no memory. O(1).
     pub fn new(
         alloc: A,
         account: Account,
@@ -107,8 +107,8 @@ impl<'a, A: Allocator + Copy> Following<'a, A> {
             .all(|output| output.tally().conforms())
     }
 
-    /// Takes a frame that came, and that the link may send. O(bytes, log of what is held), beside what it decides of frames and records before it,
-    /// each once.
+    /// Takes a frame that came, and that the link may send. O(bytes * log of what is held) for each port of the link, beside what it decides of
+    /// frames and records before it, each once.
     pub fn came(&mut self, frame: Numbered<'a, A>) -> Result<(), AllocError>
         requires in_order { self.old.latest ≤ frame.frame.stamp }
         requires fits { Fits self.old.account frame }
@@ -132,8 +132,8 @@ impl<'a, A: Allocator + Copy> Following<'a, A> {
         self.link.left_by(place, left)
     }
 
-    /// Takes a record that left at the port at a place. O(bytes, log of what is held), beside what it decides of frames and records before it, each
-    /// once.
+    /// Takes a record that left at the port at a place. O(bytes * log of what is held), and O(log of what is held) for each port of the link, beside
+    /// what it decides of frames and records before it, each once.
     pub fn left(&mut self, place: usize, left: Numbered<'a, A>) -> Result<(), AllocError>
         requires place { place < length self.old.outputs }
         requires in_order { self.old.latest ≤ left_by_at place left self.old }
@@ -148,7 +148,7 @@ impl<'a, A: Allocator + Copy> Following<'a, A> {
     }
 
     /// Ends the link once all frames and records were taken. Records were recorded up to an instant in nanoseconds or, if there is none, all had
-    /// left. O(bytes, log of what is held) for each frame and each record that is held.
+    /// left. O(bytes * log of what is held) for each record that is held, and for each frame at each port.
     pub fn end(&mut self, last: Option<u64>) -> Result<(), AllocError>
         ensures going { OnOk result (self.old.failed ≡ false) }
         ensures ok { OnOk result (self.new ≡ with_ends last self.old) }

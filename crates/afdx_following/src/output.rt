@@ -37,7 +37,7 @@ impl<'a, A: Allocator> Model for Output<'a, A> {
 
 impl<'a, A: Allocator + Copy> Output<'a, A> {
     /// Makes the port of this number, at which nothing has left. If it `keeps`, each event that speaks against the switch is listed. It takes no
-    /// memory.
+    /// memory. O(1).
     pub fn new(alloc: A, port: u8, limits: Limits, keeps: bool) -> Output<'a, A>
         ensures { result ≡ output_at port limits keeps }
     {
@@ -79,7 +79,7 @@ impl<'a, A: Allocator + Copy> Output<'a, A> {
         self.found.differences()
     }
 
-    /// Returns whether a record that waits may be of a frame. O(bytes, log of the records).
+    /// Returns whether a record that waits may be of a frame. O(bytes * log of the records).
     pub(crate) fn has(&self, frame: &Numbered<'a, A>) -> bool
         ensures { result ≡ has frame.now self.now }
     {

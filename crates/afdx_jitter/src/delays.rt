@@ -36,8 +36,8 @@ impl Delays {
     }
 }
 
-/// Returns what a frame takes from its arrival at a switch to its arrival at the next one, over a port of this speed and bound:
-/// all in nanoseconds. The latency is at most 1 ms, the cable's delay less than 2^32 ns. The bound has the latency in it, and
+/// Returns what a frame of 64 bytes or more takes from its arrival at a switch to its arrival at the next one, over a port of
+/// this speed and bound: all in nanoseconds. The latency is at most 1 ms, the cable's delay less than 2^32 ns. The bound has the latency in it, and
 /// is at most 2^59 ns.
 pub fn hop(speed: Speed, latency: u64, bound: u64, cable: u64) -> Delays
     requires latency_limit { latency ≤ 1000000 }

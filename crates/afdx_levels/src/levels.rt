@@ -15,6 +15,7 @@ pub const MAX_TOLERANCE: u64 = 1_000_000_000;
 ///
 /// Both are in units of the account, and higher by what is credited within the tolerance of the stamps, so that no level lies
 /// below 0. A level is at most `2^64` units, and at most `2^94` are credited within a second, so that they fit 128 bits.
+/// Each call is given the tolerance, by how many nanoseconds stamps may be off: at most [`MAX_TOLERANCE`].
 #[derive(Clone, Copy, Debug, PartialEq, Eq)]
 pub struct Levels {
     least: u128,
@@ -80,7 +81,9 @@ impl Levels {
         Outlook::Must
     }
 
-    /// Learns that the account passed a frame of this size in bytes, or that it policed it, as it may have done.
+    /// Learns that the account passed a frame of this size in bytes that came at an instant, or that it policed it, as by
+    /// `outlook` it may have done. A full account passes the frame, and what is known of the level dates from an instant that is
+    /// not later.
     pub fn learn<M: Meter>(&mut self, meter: &M, tolerance: u64, at: Stamp, size: u32, passes: bool)
         requires tolerance { tolerance ≤ MAX_TOLERANCE }
         requires in_order { self.old.since ≤ at }

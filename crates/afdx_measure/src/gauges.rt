@@ -160,7 +160,7 @@ fn note_fillings<A: Allocator + Copy>(
 impl<A: Allocator + Copy> Gauges<A> {
     /// Makes what is noted of a run that has taken nothing.
     ///
-    /// An error says that memory ran out. O(links + ports), and 32 bytes for each link and port.
+    /// An error says that memory ran out. O(links * ports): 32 bytes for each link at each port.
     pub(crate) fn new(alloc: A, table: &Table) -> Result<Gauges<A>, AllocError>
         ensures { IfOk result (λ g. AreGauged (fresh_run table.now) g) }
     {

@@ -255,7 +255,8 @@ fn note_sent<A: Allocator + Copy>(
 impl<'a, A: Allocator + Copy> Measuring<'a, A> {
     /// Makes a switch that has taken nothing, over a table that was not checked.
     ///
-    /// An error says that memory ran out; the table is dropped then. O(links + ports), and 32 bytes for each link and port that is noted.
+    /// An error says that memory ran out; the table is dropped then. O(links + ports); if delays and buffers are wanted, O(links * ports): 32 bytes
+    /// for each link at each port.
     pub fn new(alloc: A, table: Table, wanted: Wanted) -> Result<Self, AllocError>
         ensures { IfOk result (λ s. s ≡ fresh_state false (keeps_lists wanted) table) }
     {

@@ -164,7 +164,8 @@ fn least_of<A: Allocator + Copy>(lanes: &[Lane<A>]) -> Option<Stamp>
 }
 
 impl<A: Allocator + Copy> Merging<A> {
-    /// Opens the captures that these readers give, by these clocks, and reads their first records.
+    /// Opens the captures that these readers give, one by each of these clocks, and reads their first records. O(captures), beside what is
+    /// read.
     ///
     /// # Errors
     ///
@@ -196,8 +197,9 @@ impl<A: Allocator + Copy> Merging<A> {
     ///
     /// # Errors
     ///
-    /// `Memory` if memory ran out. Else all readers are read to their ends, and it is `Read` with the place of the first one that fails; else
-    /// `Capture` with the first one that gives no capture, and its first fault.
+    /// `Memory` if memory ran out. Else the readers are read to their ends, by rising place, up to the first one that fails: `Read` with its
+    /// place. If none fails, `Capture` with the place of the first one that gives no capture, and its first fault. It is of no use after an
+    /// error.
     pub fn next<R: Read>(&mut self, readers: &mut [R]) -> Result<Option<Arrival<A>>, MergeFault>
         requires { (clocks : List By) × (first : List R) × (came : List Came) × HasMerged R.remaining clocks first readers.old self.old came }
         ensures some { IfOk result (λ found. IfSome found (λ a. (clocks : List By) (first : List R) (came : List Came)

@@ -39,7 +39,8 @@ fn push_open(
     Ok(())
 }
 
-/// Lists the ports to which no wire goes, by switch and then by rising number: what comes in there is given for a run. O(ports * wires).
+/// Lists the ports to which no wire goes, by switch and then by rising number: what comes in there is given for a run. An error says that
+/// memory ran out. O(ports * wires).
 pub fn open_ends(alloc: Global, network: &Network) -> Result<Vec<End>, AllocError>
     ensures { IfOk result (λ ends. ends.items ≡ open_ends network.now) }
 {
@@ -63,7 +64,8 @@ fn push_all(ends: &mut Vec<End>, switch: usize, table: &Table) -> Result<(), All
     Ok(())
 }
 
-/// Lists the ports of all switches, by switch and then by rising number: what leaves there is the outcome of a run. O(ports).
+/// Lists the ports of all switches, by switch and then by rising number: what leaves there is the outcome of a run. An error says that memory
+/// ran out. O(ports).
 pub fn all_ends(alloc: Global, network: &Network) -> Result<Vec<End>, AllocError>
     ensures { IfOk result (λ ends. ends.items ≡ all_ends network.now) }
 {

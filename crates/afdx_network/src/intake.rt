@@ -97,8 +97,9 @@ impl Intake {
     ///
     /// # Errors
     ///
-    /// `Memory` if memory ran out. Else all readers are read to their ends, and it is `Read` with the place of the first one that fails; else
-    /// `Capture` with the port of the first one that gives no capture, and its first fault.
+    /// `Memory` if memory ran out. Else the readers are read to their ends, by rising place, up to the first one that fails: `Read` with its
+    /// place. If none fails, `Capture` with the port of the first one that gives no capture, and its first fault. It is of no use after an
+    /// error.
     pub(crate) fn next<R: Read>(
         &mut self,
         alloc: Global,

@@ -70,7 +70,7 @@ fn heard<R: Read + Drop>(alloc: Global, reader: R, is_down: bool) -> Result<Inco
     })
 }
 
-/// Makes what comes in at these ports, of which these readers give the captures. O(ports).
+/// Makes what comes in at these ports, of which these readers give the captures, one for each. An error says that memory ran out. O(ports).
 pub fn incoming_at<R: Read + Drop>(
     alloc: Global,
     network: &Network,

@@ -126,7 +126,8 @@ impl ClearedNetwork {
     /// is none, the jitters are enough. It is asked of a network that fits: it refuses another one with `NoSource` if a row has
     /// no way back. The other refusal is `Memory`.
     ///
-    /// O(r s w) for r rows, at most s switches on a way, and w wires; O(s) memory, and what the rows take.
+    /// O(r s w) for r rows, at most s switches on a way, and w wires, beside the bounds of each switch's ports, as
+    /// [`lesser_bounds`](afdx_grouping::lesser_bounds) finds them; O(s) memory, and what the bounds and the rows take.
     #[tactic(auto, unfolding(crate::specs::Order::shortages))]
     pub fn shortages(&self, alloc: Global) -> Result<Vec<Short>, NetworkFault>
         ensures rows { Gives (λ shorts. shorts.items) result (shortages self.now) }

@@ -24,7 +24,7 @@ impl Network {
     /// 5. By switch and row: `NoSource`.
     /// 6. By switch and row: `TwiceSource`.
     ///
-    /// O(r s w) for r rows, at most s switches on a way, and w wires.
+    /// O(r s w) for r rows, at most s switches on a way, and w wires; O(r) memory.
     #[tactic(auto, unfolding(crate::specs::Order::misfit))]
     pub fn fit(&self, alloc: Global) -> Result<(), NetworkFault>
         ensures first { Gives (λ u. u) result (misfit self.now) }

@@ -98,7 +98,8 @@ fn switch_bounds(
 }
 
 impl<'a> Hops<'a> {
-    /// Finds the bounds of each switch's ports.
+    /// Finds the bounds of each switch's ports, as [`lesser_bounds`](afdx_grouping::lesser_bounds) does. An error says that
+    /// memory ran out.
     pub(crate) fn new(alloc: Global, network: &'a Network) -> Result<Hops<'a>, AllocError>
         ensures network { IfOk result (λ h. h ≡ network.now) }
         ensures well_formed { IfOk result (λ _. All IsWellFormed network.now.tables) }
@@ -113,6 +114,7 @@ impl<'a> Hops<'a> {
         })
     }
 
+    /// Returns the network. O(1).
     pub(crate) fn network(&self) -> &'a Network
         ensures { result.now ≡ self.now }
     {

@@ -155,7 +155,8 @@ impl Network {
     /// another one nothing is said of least jitters, and a row needs a thousand seconds if no way with bounds of at most a
     /// thousand seconds leads to it. `Memory` is the one refusal.
     ///
-    /// O(r s w) for each turn, for r rows, at most s switches on a way, and w wires.
+    /// O(r s w) for each turn, for r rows, at most s switches on a way, and w wires, beside the bounds of each switch's ports,
+    /// as [`lesser_bounds`](afdx_grouping::lesser_bounds) finds them in each turn.
     pub fn jitters(self, alloc: Global) -> Result<Needs, NetworkFault>
         ensures { MatchResult result (λ needs. AreNeeds self needs.rows.items needs.past) (λ fault. fault ≡ NetworkFault.Memory) }
     {

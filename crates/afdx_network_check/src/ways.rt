@@ -141,7 +141,8 @@ impl ClearedNetwork {
     /// at which it ends. It is asked of a network that fits, whose one refusal is `Memory`; another one may be refused with
     /// `NoSource` of a row that has no way back to a source.
     ///
-    /// O(r w + e s w) for r rows, e ends, at most s switches on a way and w wires, beside their sorting.
+    /// O(r w + e s w) for r rows, e ends, at most s switches on a way and w wires, beside their sorting and the bounds of each
+    /// switch's ports, as [`lesser_bounds`](afdx_grouping::lesser_bounds) finds them.
     pub fn ways(&self, alloc: Global) -> Result<Vec<Way>, NetworkFault>
         ensures ways { IfOk result (λ ways. AreWaysOf self.now ways.items) }
         ensures err { IfErr result (IsWayFault self.now) }

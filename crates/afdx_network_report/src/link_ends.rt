@@ -19,6 +19,7 @@ pub struct LinkEnd {
     pub link: u16,
     /// The port at which its frames come in to the network; none if there is no such port.
     pub from: Option<End>,
+    /// The port at which it leads out.
     pub to: End,
     /// What a frame may take from the one to the other, in nanoseconds, if that is promised.
     pub bounds: Option<Bounds>,

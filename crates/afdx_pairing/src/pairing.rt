@@ -20,7 +20,7 @@ use std::marker::Model;
 ///
 /// Frames and records come in the order of stamps, each record after all frames that came up to the instant at which it left. It
 /// holds only frames that came within twice the bound before the last record or the instant that it was last told of. A frame is
-/// found, taken and let go in O(bytes, log of the frames that are held), whatever these are.
+/// found, taken and let go in O(bytes * log of the frames that are held), whatever these are.
 #[derive(Drop)]
 pub struct Pairing<'a, A: Allocator> {
     limits: Limits,
@@ -38,7 +38,7 @@ impl<'a, A: Allocator> Model for Pairing<'a, A> {
 }
 
 impl<'a, A: Allocator + Copy> Pairing<'a, A> {
-    /// Makes a port at which nothing has come or left. It takes no memory.
+    /// Makes a port at which nothing has come or left. It takes no memory. O(1).
     pub fn new(alloc: A, limits: Limits) -> Pairing<'a, A>
         ensures { result ≡ at_first limits }
     {
@@ -50,8 +50,8 @@ impl<'a, A: Allocator + Copy> Pairing<'a, A> {
         }
     }
 
-    /// Takes a frame and whether the account passed it. Fails if memory runs out, and then has not taken it. O(bytes, log of the frames that are
-    /// held).
+    /// Takes a frame and whether the account passed it. Fails if memory runs out, and then has not taken it. O(bytes * log of the frames that
+    /// are held).
     ///
     /// It came no sooner than those that are held, since these are found by their instants. A link's frames are taken as its capture has them, in
     /// the order of stamps: an account's credit is told in no other order.
@@ -71,7 +71,7 @@ impl<'a, A: Allocator + Copy> Pairing<'a, A> {
 
     /// Takes a record that left, and adds what it tells: which frames are missing before it, and what it is.
     ///
-    /// Fails if memory runs out, and then has not taken it. O(bytes, log of the frames that are held) for the record and for each frame that is
+    /// Fails if memory runs out, and then has not taken it. O(bytes * log of the frames that are held) for the record and for each frame that is
     /// let go, beside what the list takes to grow: it gets room for all frames that wait.
     pub fn left(
         &mut self,
@@ -92,8 +92,8 @@ impl<'a, A: Allocator + Copy> Pairing<'a, A> {
 
     /// Notes that nothing leaves before an instant in nanoseconds any more, and adds which frames are missing by that.
     ///
-    /// Fails if memory runs out, and then has changed nothing. O(log of the frames that are held), and O(bytes, log of the frames that are held)
-    /// for each frame that is let go, beside what the list takes to grow: it gets room for all frames that wait.
+    /// Fails if memory runs out, and then has changed nothing. O(log of the frames that are held), and O(bytes * log of the frames that are
+    /// held) for each frame that is let go, beside what the list takes to grow: it gets room for all frames that wait.
     pub fn go_on(&mut self, at: u128, events: &mut Vec<Event, A>) -> Result<(), AllocError>
         ensures ok { OnOk result (self.new ≡ kept_at at self.old) }
         ensures told { OnOk result (events.new.items ≡ events.old.items ++ gone_told at self.old) }

@@ -44,7 +44,7 @@ impl<'a, A: Allocator> Model for Queue<'a, A> {
 }
 
 impl<'a, A: Allocator + Copy> Queue<'a, A> {
-    /// Makes a queue of no records. It takes no memory.
+    /// Makes a queue of no records. It takes no memory. O(1).
     pub fn new(alloc: A) -> Queue<'a, A>
         ensures { result ≡ [] }
     {
@@ -79,7 +79,7 @@ impl<'a, A: Allocator + Copy> Queue<'a, A> {
     }
 
     /// Adds a record whose instant is no sooner than that of any other. An error is out of memory, also if the record would be the `2^64`th that
-    /// ever was in the queue: nothing was added then. O(bytes, log of the records).
+    /// ever was in the queue: nothing was added then. O(bytes * log of the records).
     pub fn push(&mut self, item: Numbered<'a, A>) -> Result<(), AllocError>
         requires { AllByRecursion (λ n. n.frame.stamp ≤ item.frame.stamp) self.old }
         ensures ok { OnOk result (self.new ≡ self.old ++ item.entry ∷ []) }
@@ -96,7 +96,7 @@ impl<'a, A: Allocator + Copy> Queue<'a, A> {
         Ok(())
     }
 
-    /// Takes the first record away, if there is one. O(bytes, log of the records).
+    /// Takes the first record away, if there is one. O(bytes * log of the records).
     pub fn pop(&mut self) -> Option<Numbered<'a, A>>
         ensures some { result ≡ slice_get self.old 0 }
         ensures rest { self.new ≡ drop 1 self.old }
@@ -116,7 +116,7 @@ impl<'a, A: Allocator + Copy> Queue<'a, A> {
             .partition_point(|item| u128::from(item.stamp().ns()) < at)
     }
 
-    /// Returns the place of the first record that has these bytes and comes no sooner than an instant in nanoseconds. O(bytes, log of the records).
+    /// Returns the place of the first record that has these bytes and comes no sooner than an instant in nanoseconds. O(bytes * log of the records).
     pub fn first_from(&self, bytes: &[u8], from: u128) -> Option<usize>
         ensures place { result ≡ position (is_from bytes.now from) self.now }
         ensures some { IfSome result (λ place. place < length self.now) }
@@ -126,8 +126,8 @@ impl<'a, A: Allocator + Copy> Queue<'a, A> {
         Some((spot.place - self.gone) as usize)
     }
 
-    /// Returns whether a record has these bytes, and comes no sooner than one instant and no later than another, both in nanoseconds. O(bytes, log
-    /// of the records).
+    /// Returns whether a record has these bytes, and comes no sooner than one instant and no later than another, both in nanoseconds. O(bytes *
+    /// log of the records).
     pub fn has_within(&self, bytes: &[u8], from: u128, last: u128) -> bool
         ensures { result ≡ list_any (is_within bytes.now from last) self.now }
     {

@@ -20,7 +20,7 @@ pub(crate) struct Spot {
 /// The spots of the records that have the same bytes, by these.
 pub(crate) type Spots<A> = BTreeMap<Vec<u8, A>, VecDeque<Spot, A>, A>;
 
-/// Adds the spot of a record of these bytes after those of others. O(bytes, log of the map).
+/// Adds the spot of a record of these bytes after those of others. O(bytes * log of the map).
 pub(crate) fn add<A: Allocator + Copy>(
     alloc: A,
     spots: &mut Spots<A>,
@@ -55,7 +55,7 @@ fn take_first<A: Allocator + Copy>(spots: &mut Spots<A>, bytes: &[u8]) -> bool
     }
 }
 
-/// Takes the first spot of these bytes away. O(bytes, log of the map).
+/// Takes the first spot of these bytes away. O(bytes * log of the map).
 pub(crate) fn forget<A: Allocator + Copy>(spots: &mut Spots<A>, bytes: &[u8])
     ensures { (b : List ℕ) → spots_at spots.new b ≡ (if bytes_eq bytes.now b then drop 1 (spots_at spots.old b) else spots_at spots.old b) }
 {
@@ -65,7 +65,7 @@ pub(crate) fn forget<A: Allocator + Copy>(spots: &mut Spots<A>, bytes: &[u8])
     }
 }
 
-/// Returns the first spot of these bytes whose instant, in nanoseconds, is no sooner than this. O(bytes, log of the map).
+/// Returns the first spot of these bytes whose instant, in nanoseconds, is no sooner than this. O(bytes * log of the map).
 pub(crate) fn first_from<A: Allocator + Copy>(
     spots: &Spots<A>,
     bytes: &[u8],

@@ -53,8 +53,8 @@ impl<'a, A: Allocator + Copy> Bytes<'a, A> {
     }
 
     /// Returns the bytes from `start` to `end`: lent if these are; shared with these if these are shared already, or if no more than
-    /// `most` lie after them, since to append to shared bytes takes a copy of them; else a copy. O(1), and O(bytes of the part) if it
-    /// is a copy.
+    /// `most` lie after them, since to append to shared bytes takes a copy of them; else a copy. An error says that memory ran out, or
+    /// that these are shared too often; never if they are lent. O(1), and O(bytes of the part) if it is a copy.
     pub fn part(
         &mut self,
         alloc: A,
@@ -87,7 +87,8 @@ impl<'a, A: Allocator + Copy> Bytes<'a, A> {
         }
     }
 
-    /// Appends more bytes to those that are not lent; to a copy of them if they are shared. O(more), and O(bytes) then.
+    /// Appends more bytes to those that are not lent; to a copy of them if they are shared. An error says that memory ran out; they are as
+    /// before then. O(more) amortized, and O(bytes) if they are shared.
     pub fn extend(&mut self, alloc: A, more: &[u8]) -> Result<(), AllocError>
         requires { is_lent self.old ≡ false }
         ensures bytes { plain_bytes self.new ≡ (if is_ok result then plain_bytes self.old ++ more.now else plain_bytes self.old) }

@@ -96,6 +96,7 @@ impl Endian {
         }
     }
 
+    /// Reads these numbers in this order, which the compiler knows where it is called.
     #[tactic(auto, unfolding(crate::specs::Capture::head_of))]
     #[inline(always)]
     fn words_at_start(self, bytes: &[u8]) -> Head

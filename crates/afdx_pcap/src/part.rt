@@ -50,7 +50,7 @@ impl<A: Allocator + Copy> Part<A> {
         }
     }
 
-    /// Returns the bytes of this from `start` to `end`, which both share. O(1).
+    /// Returns the bytes of this from `start` to `end`, which both share. An error says that they are shared too often. O(1).
     pub fn part(&self, start: usize, end: usize) -> Result<Part<A>, AllocError>
         requires order { start ≤ end }
         requires within { end ≤ length self.now }
@@ -72,7 +72,7 @@ impl<A: Allocator + Copy> Part<A> {
         self.start += count;
     }
 
-    /// Returns a copy of these bytes with more after them. O(bytes).
+    /// Returns a copy of these bytes with more after them. An error says that memory ran out. O(bytes).
     pub fn and(&self, alloc: A, more: &[u8]) -> Result<Vec<u8, A>, AllocError>
         ensures { IfOk result (λ all. all.items ≡ self.now ++ more.now) }
     {

@@ -19,6 +19,7 @@ const HEADER: [u8; HEADER_LENGTH] = [
     0x4d, 0x3c, 0xb2, 0xa1, 2, 0, 4, 0, 0, 0, 0, 0, 0, 0, 0, 0, 0, 0, 4, 0, 1, 0, 0, 0,
 ];
 
+/// Returns the header of the record of a frame that is whole.
 #[tactic(auto, unfolding(crate::specs::Text::head_text))]
 fn head_bytes(stamp: Stamp, bytes: &[u8]) -> [u8; HEAD_LENGTH]
     requires { length bytes.now ≤ captured_limit }
@@ -77,7 +78,7 @@ pub fn write_record<A: Allocator, B: Allocator>(
     write_frame(out, source.stamp(), source.bytes())
 }
 
-/// Appends the text of a record of these bytes, of a frame that is whole.
+/// Appends the text of a record of these bytes, at most 262,144, of a frame that is whole.
 ///
 /// # Errors
 ///

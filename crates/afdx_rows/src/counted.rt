@@ -65,6 +65,7 @@ fn count(number: u64) -> Field<'static>
     Field::Number(Some(u128::from(number)))
 }
 
+/// Appends the row of the arrivals at a port.
 fn put_input<A: Allocator + Copy>(
     text: &mut String<A>,
     columns: &[&str],
@@ -94,6 +95,7 @@ fn put_input<A: Allocator + Copy>(
     )
 }
 
+/// Appends the row of the clean frames of a link.
 fn put_link<A: Allocator + Copy>(
     text: &mut String<A>,
     columns: &[&str],
@@ -115,6 +117,7 @@ fn put_link<A: Allocator + Copy>(
     )
 }
 
+/// Appends the row of the copies of a priority at a port.
 fn put_class<'x, A: Allocator + Copy>(
     text: &mut String<A>,
     columns: &[&str],
@@ -142,6 +145,7 @@ fn put_class<'x, A: Allocator + Copy>(
     )
 }
 
+/// Appends the rows of the copies at a port: of the high ones, then of the low ones.
 fn put_output<A: Allocator + Copy>(
     text: &mut String<A>,
     columns: &[&str],
@@ -154,6 +158,7 @@ fn put_output<A: Allocator + Copy>(
     put_class(text, columns, switch, "low", port.id, port.low)
 }
 
+/// Appends the row of the arrivals at each port.
 fn put_inputs<A: Allocator + Copy>(
     text: &mut String<A>,
     columns: &[&str],
@@ -169,6 +174,7 @@ fn put_inputs<A: Allocator + Copy>(
     Ok(())
 }
 
+/// Appends the row of the clean frames of each link.
 fn put_links<A: Allocator + Copy>(
     text: &mut String<A>,
     columns: &[&str],
@@ -184,6 +190,7 @@ fn put_links<A: Allocator + Copy>(
     Ok(())
 }
 
+/// Appends the rows of the copies at each port.
 fn put_outputs<A: Allocator + Copy>(
     text: &mut String<A>,
     columns: &[&str],

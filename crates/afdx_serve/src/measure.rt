@@ -51,7 +51,7 @@ fn measures_text(
 /// What is met first: `Get` of the table, `Table`, `Load`, `Get` of a capture, `PortCapture`, `Write`; `Memory` if memory
 /// ran out.
 ///
-/// O(files), beside the switch's own work, and 32 bytes for each port and link. Each capture is read once.
+/// O(files), beside the switch's own work, and 32 bytes for each link at each port. Each capture is read once.
 pub(crate) fn measure<O: Write, F: Folder>(
     alloc: Global,
     inputs: &Inputs<'_>,

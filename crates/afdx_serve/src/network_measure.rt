@@ -115,7 +115,8 @@ fn measured_text<F: Folder>(
 ///
 /// What is met first: as `network run`, of which nothing is put.
 ///
-/// O(files), beside the runs of the switches, and 32 bytes for each link and each of its ports at each switch.
+/// O(files), beside the runs of the switches; and at each switch 32 bytes for each link at each port, and as many for each link at each port
+/// that it leads to.
 pub(crate) fn network_measure<O: Write, F: Folder>(
     alloc: Global,
     inputs: &NetworkInputs<'_>,

@@ -153,7 +153,8 @@ fn survey_text<F: Folder>(
 ///
 /// What is met first: as `network run`, of which nothing is put.
 ///
-/// O(files), beside the runs of the switches, 32 bytes for each link and each of its ports at each switch, and 48 bytes for each spell.
+/// O(files), beside the runs of the switches; and at each switch 32 bytes for each link at each port, as many for each link at each port that
+/// it leads to, and 48 bytes for each spell.
 pub(crate) fn network_survey<O: Write, F: Folder>(
     alloc: Global,
     inputs: &NetworkInputs<'_>,

@@ -72,7 +72,7 @@ fn text_of(
 /// What is met first: `Get` of the table, `Table`, `Load`, `Get` of a capture, `PortCapture`, `Write`; `Memory` if memory
 /// ran out.
 ///
-/// O(files), beside the switch's own work, 32 bytes for each port and link, and 48 bytes for each spell. Each capture is read once.
+/// O(files), beside the switch's own work, 32 bytes for each link at each port, and 48 bytes for each spell. Each capture is read once.
 pub(crate) fn survey<O: Write, F: Folder>(
     alloc: Global,
     inputs: &Inputs<'_>,

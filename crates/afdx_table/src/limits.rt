@@ -6,11 +6,13 @@ pub(crate) const MAX_VERSION: u64 = 3;
 /// The first version that has a latency and lines of 1000 Mbit/s.
 pub(crate) const LATENCY_VERSION: u64 = 3;
 
+/// The most ports of a table.
 pub(crate) const MAX_PORTS: usize = 24;
 
 /// Ports are numbered from 1 to this.
 pub(crate) const MAX_PORT_ID: u8 = 24;
 
+/// The most links of a table.
 pub(crate) const MAX_LINKS: usize = 4096;
 
 /// In bytes.

@@ -32,6 +32,7 @@ impl Model for LinkMap {
 }
 
 impl LinkMap {
+    /// Makes a map of no links. It takes no memory.
     pub(crate) fn new(alloc: Global) -> LinkMap
         ensures { result ≡ [] }
     {
@@ -40,7 +41,7 @@ impl LinkMap {
         }
     }
 
-    /// Returns a copy of these links. O(n) for n links.
+    /// Returns a copy of these links. An error says that memory ran out. O(n) for n links.
     pub(crate) fn copy(&self) -> Result<LinkMap, AllocError>
         ensures { IfOk result (λ l. l ≡ self.now) }
     {
@@ -57,6 +58,7 @@ impl LinkMap {
         self.rows[index].jitter = jitter;
     }
 
+    /// Counts the links.
     pub(crate) fn len(&self) -> usize
         ensures { result ≡ length self.now }
     {
@@ -95,7 +97,7 @@ impl LinkMap {
         self.rows.get_index_of(&id)
     }
 
-    /// Adds a link of a new number at the end.
+    /// Adds a link of a new number at the end. An error says that memory ran out; nothing was added then.
     pub(crate) fn push(&mut self, row: LinkRow) -> Result<(), AllocError>
         requires { has_link self.old row.id ≡ false }
         ensures ok { OnOk result (self.new ≡ self.old ++ row ∷ []) }

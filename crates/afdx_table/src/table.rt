@@ -51,7 +51,7 @@ impl Model for Table {
 }
 
 impl Table {
-    /// Returns a copy of the table. O(p + n) for p ports and n links.
+    /// Returns a copy of the table. An error says that memory ran out. O(p + n) for p ports and n links.
     pub fn copy(&self, alloc: Global) -> Result<Table, AllocError>
         ensures { IfOk result (λ t. t ≡ self.now) }
     {
@@ -65,7 +65,8 @@ impl Table {
         })
     }
 
-    /// Gives the link at a place in file order, from 0, a jitter of so many nanoseconds. O(1).
+    /// Gives the link at a place in file order, from 0, a jitter of so many nanoseconds, at most 10,000,000. There is a link at the
+    /// place. O(1).
     pub fn set_jitter(&mut self, index: usize, jitter: u64)
         requires place { index < length self.old.links }
         requires limit { jitter ≤ 10000000 }

@@ -39,6 +39,7 @@ pub(crate) fn settings_of(latency: u64, port: &PortRow) -> Settings
     }
 }
 
+/// Returns the word of a priority.
 fn priority_text(priority: Priority) -> &'static str
     ensures { result.now ≡ priority_text priority }
 {

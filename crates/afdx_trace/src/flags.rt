@@ -34,6 +34,7 @@ fn mark(flags: &mut [bool], number: usize)
     }
 }
 
+/// Sets the flags of the copies that a port sent. O(copies).
 fn mark_sent(flags: &mut [bool], sent: &[Sent])
     ensures len { length flags.new ≡ length flags.old }
     ensures marked { (number : ℕ) → number < length flags.old
@@ -44,6 +45,7 @@ fn mark_sent(flags: &mut [bool], sent: &[Sent])
     }
 }
 
+/// Sets the flags of the copies that a port discarded. O(copies).
 fn mark_aged(flags: &mut [bool], aged: &[Aged])
     ensures len { length flags.new ≡ length flags.old }
     ensures marked { (number : ℕ) → number < length flags.old

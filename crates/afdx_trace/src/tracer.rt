@@ -20,6 +20,7 @@ use afdx_table::Table;
 use afdx_table::laws::{links_are_at_their_places, links_are_found};
 use std::alloc::{AllocError, Allocator};
 
+/// Returns the word of a verdict.
 pub(crate) fn verdict_word(verdict: Verdict) -> &'static str
     ensures { result.now ≡ verdict_word verdict }
 {

@@ -446,7 +446,8 @@ impl<'s, A: Allocator + Copy> Tracing<'s, A> {
     /// Carries out and tells all that is left, and appends all lines to their files: to that of the arrivals, and to those of the ports, one for
     /// each port of the table in its order. No earlier call failed.
     ///
-    /// An error says that memory ran out. O(ports), and O(1) for each copy that is sent or discarded.
+    /// An error says that memory ran out. O(ports), O(1) for each copy that is sent or discarded, and O(bytes) of the lines; each line takes as many
+    /// steps as links are selected.
     pub fn end<F: NewFile>(self, arrivals: &mut F, departures: &mut [F]) -> Result<(), AllocError>
         requires tells { (s : Selected) × (r : Run) × Tells s r self }
         requires files { length departures.old ≡ length self.ports.items }
