@@ -36,4 +36,4 @@ pub use delays::{Delays, Range};
 pub use filling::Filling;
 pub use lines::{put_link_line, put_peak_line};
 pub use measuring::{Measured, Measures, Measuring, Survey, Wanted};
-pub use reporting::{peak_lines, policing_lines, report, survey};
+pub use reporting::{bound_at, peak_lines, policing_lines, report, survey};

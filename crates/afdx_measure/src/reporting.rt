@@ -14,8 +14,9 @@ use afdx_table::{LinkRow, PortRow};
 use afdx_units::Priority;
 use std::alloc::{AllocError, Allocator};
 
-/// Returns the port's bound for a priority, if bounds are promised.
-fn bound_at(promised: bool, loads: &Loads<'_>, port: u8, priority: Priority) -> Option<u128>
+/// Returns the bound of the port of a number for a priority, in nanoseconds from a frame's arrival to its end on the line, if bounds are
+/// promised; none if there is no such port, or no bound for that priority there. O(ports).
+pub fn bound_at(promised: bool, loads: &Loads<'_>, port: u8, priority: Priority) -> Option<u128>
     ensures { result ≡ bound_at promised loads.now port priority }
 {
     if !promised {

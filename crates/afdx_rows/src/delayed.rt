@@ -2,15 +2,13 @@
 
 ghost use Rattle.std.specs.Prelude.{◌≡◌, ◌++◌, map, flat_map, slice_get, Some, string_bytes, OnOk};
 ghost use Rattle.afdx_table.specs.Content.{port_row};
-ghost use Rattle.afdx_measure.specs.Report.{bound_at};
 ghost use Rattle.afdx_rows.specs.Delays.{delays_row, buffer_row, link_rows, port_row_of, buffers_rows, measures_rows};
 
 use afdx_csv::{Field, put_row, slack, slack_per_mille};
-use afdx_load::{Loads, bounds, loads};
-use afdx_measure::{Delays, Filling, Measures};
+use afdx_load::{Loads, loads};
+use afdx_measure::{Delays, Filling, Measures, bound_at};
 use afdx_table::laws::ports_are_found;
 use afdx_table::{LinkRow, PortRow};
-use afdx_units::Priority;
 use std::alloc::{AllocError, Allocator};
 
 /// The columns of `measure`.
@@ -107,21 +105,6 @@ fn put_buffer<A: Allocator + Copy>(
             ("at", Field::of(at)),
         ],
     )
-}
-
-/// Returns the port's bound for a priority, if bounds are promised.
-fn bound_at(promised: bool, loads: &Loads<'_>, port: u8, priority: Priority) -> Option<u128>
-    ensures { result ≡ bound_at promised loads.now port priority }
-{
-    if !promised {
-        return None;
-    }
-    let load = loads.at(port)?;
-    let bounds = bounds(&load);
-    match priority {
-        Priority::High => bounds.high,
-        Priority::Low => bounds.low,
-    }
 }
 
 /// Appends the rows of a link, by its ports.
