@@ -9,12 +9,12 @@ use thiserror::Error;
 /// Why there is no answer. Each message is its variant's name.
 #[derive(Clone, Copy, Debug, PartialEq, Eq, Error)]
 pub enum AloneFault {
-    /// Out of memory.
-    #[error("Memory")]
-    Memory,
     /// The input is no capture, and this is its first fault.
     #[error("Capture")]
     Capture(PcapFault),
+    /// Out of memory.
+    #[error("Memory")]
+    Memory,
 }
 
 impl From<AllocError> for AloneFault {

@@ -14,14 +14,14 @@ use std::marker::Model;
 /// Why captures are not compared.
 #[derive(Clone, Copy, Debug, PartialEq, Eq)]
 pub enum CompareFault {
-    /// Out of memory.
-    Memory,
     /// The reader at this place failed; those before it were read to their ends.
     Read(usize),
     /// What came at this port is no capture, and this is its first fault. All were read, and those of what came at lower ports are captures.
     Came(u8, PcapFault),
     /// The same of what left at this port; all of what came are captures.
     Left(u8, PcapFault),
+    /// Out of memory.
+    Memory,
 }
 
 impl From<AllocError> for CompareFault {

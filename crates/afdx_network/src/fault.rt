@@ -8,8 +8,6 @@ use std::alloc::{AllocError, AllocFailed};
 /// Why there is no run of a network. A switch is named by its place in the network file, from 0.
 #[derive(Clone, Copy, Debug, PartialEq, Eq)]
 pub enum NetworkRunFault {
-    /// Out of memory.
-    Memory,
     /// The reader at this place failed; those before it were read to their ends.
     Read(usize),
     /// What comes in at this port of a switch is no capture, and this is its first fault. All that was given was read.
@@ -19,6 +17,8 @@ pub enum NetworkRunFault {
     Line(usize, u8, u64),
     /// Two wires go to one port, as no two of a file do.
     WrongWires,
+    /// Out of memory.
+    Memory,
 }
 
 impl From<AllocError> for NetworkRunFault {

@@ -27,15 +27,15 @@ use thiserror::Error;
 /// Why a record was not taken in. Each message is its variant's name.
 #[derive(Clone, Copy, Debug, PartialEq, Eq, Error)]
 pub enum PacedFault {
-    /// Out of memory.
-    #[error("Memory")]
-    Memory,
     /// The table has no port of this number.
     #[error("NoSuchPort")]
     NoSuchPort,
     /// The stamp is below the instant that the switch has come to, or below that of the port's last record.
     #[error("Early")]
     Early,
+    /// Out of memory.
+    #[error("Memory")]
+    Memory,
 }
 
 impl From<AllocError> for PacedFault {
