@@ -87,14 +87,15 @@ fn links_option<'a>(alloc: Global, name: &'a str, value: &'a str, about: &'a str
 const ALONE: &str = "Reads a capture on standard input and writes the capture of the frames that the
 link's account passes on standard output.
 
-Status: 0 done, 2 arguments, 3 no capture, 5 memory or a device.
+Status: 0 done, 2 arguments, 3 the capture is refused, 5 a stream or memory
+fails.
 
 Example: afdx alone --id 10 --bag 1 --jitter 0 --size 1000 < in.pcap > out.pcap";
 
 /// What the help of `check` says at its end.
-const CHECK: &str =
-    "Status: 0 accepted, 2 arguments, 3 no table, 4 a port cannot give what its links
-ask for, 5 memory or a device.
+const CHECK: &str = "Status: 0 accepted, 2 arguments, 3 the table is refused, 4 a port cannot give
+what its links ask for, 5 a file is missing, or a file, a stream or memory
+fails.
 
 Example: afdx check table.toml";
 
@@ -103,8 +104,8 @@ const SIZE: &str = "For each port with links: what they need and what the port h
 line's rate in parts, the buffer in bytes, the delays in ns), and the rules that
 it breaks.
 
-Status: 0 done, whether each port fits or not, 2 arguments, 3 no table, 5 memory
-or a device.
+Status: 0 done, whether each port fits or not, 2 arguments, 3 the table is
+refused, 5 a file is missing, or a file, a stream or memory fails.
 
 Example: afdx size table.toml";
 
@@ -123,8 +124,9 @@ copies were lost, refused by a full buffer or discarded for age. WORDS are polic
 filtered, lost or several of these with commas between them, as policed,lost: the
 run ends with status 1 if there was one. All is put and written as without it.
 
-Status: 0 done, 1 done with one of WORDS, 2 arguments, 3 no table or capture, 4 a
-port cannot give what its links ask for, 5 memory or a device.
+Status: 0 done, 1 done with one of WORDS, 2 arguments, 3 the table or a capture
+is refused, 4 a port cannot give what its links ask for, 5 a file is missing, or
+a file, a stream or memory fails.
 
 Example: mkdir out && afdx run table.toml in out";
 
@@ -135,8 +137,9 @@ the stamp to the end on the line, beside the port's bound. For each port: the mo
 bytes that its buffer held, and the stamp in ns of the first frame that filled it
 so.
 
-Status: 0 done, 2 arguments, 3 no table or capture, 4 a port cannot give what its
-links ask for, 5 memory or a device.
+Status: 0 done, 2 arguments, 3 the table or a capture is refused, 4 a port
+cannot give what its links ask for, 5 a file is missing, or a file, a stream or
+memory fails.
 
 Example: afdx measure table.toml in";
 
@@ -148,8 +151,9 @@ policed, the stamps in ns of the first and of the last, and by how many ns they
 came too early, the least and the greatest; then the stamps of the first and of
 the last frame that came, and how many came.
 
-Status: 0 done, 2 arguments, 3 no table or capture, 4 a port cannot give what its
-links ask for, 5 memory or a device.
+Status: 0 done, 2 arguments, 3 the table or a capture is refused, 4 a port
+cannot give what its links ask for, 5 a file is missing, or a file, a stream or
+memory fails.
 
 Example: afdx survey table.toml in";
 
@@ -164,14 +168,15 @@ port sent or discarded. A file is written beside its name and then moved onto it
 With --link both files have the lines of the links that are named alone, those of
 the whole files. A link that the table lacks has none.
 
-Status: 0 done, 2 arguments, 3 no table or capture, 4 a port cannot give what its
-links ask for, 5 memory or a device.
+Status: 0 done, 2 arguments, 3 the table or a capture is refused, 4 a port
+cannot give what its links ask for, 5 a file is missing, or a file or memory
+fails.
 
 Example: mkdir rows && afdx trace table.toml in rows";
 
 /// What the help of `network` says at its end. Its own commands are read by a program of their own.
 const NETWORK: &str = "Its commands are check, size, jitter, run, measure, survey and trace: see
-afdx network --help.";
+afdx network --help, and of each of them afdx network COMMAND --help.";
 
 /// Makes a command without its arguments.
 pub(crate) fn with_no_arguments<'a>(

@@ -23,8 +23,9 @@ its records, and those of no link that leads there. Last conforms or differs.
 
 --rows FOLDER puts FOLDER/differences.csv, which has a line for each difference.
 
-Status: 0 conforms, 1 differs, 2 arguments, 3 no table or capture, 4 a port cannot
-give what its links ask for, 5 memory or a device.
+Status: 0 conforms, 1 differs, 2 arguments, 3 the table or a capture is refused,
+4 a port cannot give what its links ask for, 5 a file is missing, or a file, a
+stream or memory fails.
 
 Example: afdx compare table.toml in recorded --tolerance 200";
 

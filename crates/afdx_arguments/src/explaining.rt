@@ -18,7 +18,7 @@ const EXPLAIN: &str =
 C6 Range, link 1, bag_ms\", likewise P3, L2, G4 or J1; or usage, get, put, read,
 write or memory. Prints what is wrong then, and what to do.
 
-Status: 0 done, 2 arguments or no such code, 5 memory or a device.
+Status: 0 done, 2 arguments or no such code, 5 a stream or memory fails.
 
 Example: afdx explain C6";
 

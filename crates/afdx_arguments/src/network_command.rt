@@ -17,8 +17,9 @@ whether each jitter is enough for the whole way to its switch. For each link and
 each of its ends: its way, the least and the greatest delay in ns, and the jitter
 in us that it needs at each switch.
 
-Status: 0 accepted, 2 arguments, 3 no network or no table, 4 a port cannot give
-what its links ask for or a jitter is not enough, 5 memory or a device.
+Status: 0 accepted, 2 arguments, 3 the network file or a table is refused, or
+the tables do not fit together, 4 a port cannot give what its links ask for or a
+jitter is not enough, 5 a file is missing, or a file, a stream or memory fails.
 
 Example: afdx network check network.toml";
 
@@ -27,8 +28,8 @@ const SIZE: &str =
     "For each port with links of each switch: what they need and what the port has, as
 size says of one table, with the name of the switch at the end of the line.
 
-Status: 0 done, whether each port fits or not, 2 arguments, 3 no network or no
-table, 5 memory or a device.
+Status: 0 done, whether each port fits or not, 2 arguments, 3 the network file
+or a table is refused, 5 a file is missing, or a file, a stream or memory fails.
 
 Example: afdx network size network.toml";
 
@@ -38,8 +39,10 @@ const JITTER: &str =
 the first switches on. Whoever writes the tables takes them from here; check says
 then whether they are enough.
 
-Status: 0 done, 2 arguments, 3 no network or no table, 4 the links ask for more
-than a line, or a jitter past 10000 us is needed, 5 memory or a device.
+Status: 0 done, 2 arguments, 3 the network file or a table is refused, or the
+tables do not fit together, 4 the links ask for more than a line, or a jitter
+past 10000 us is needed, 5 a file is missing, or a file, a stream or memory
+fails.
 
 Example: afdx network jitter network.toml";
 
@@ -54,8 +57,10 @@ and nothing is promised: frames may be policed, lost or late at any switch.
 If the network file has one_line = true, a capture that did not come over one line
 is refused, also with --unchecked.
 
-Status: 0 done, 2 arguments, 3 no network, table or capture, 4 a network that
-check refuses or a capture that is not of one line, 5 memory or a device.
+Status: 0 done, 2 arguments, 3 the network file, a table or a capture is
+refused, or the tables do not fit together, 4 a port cannot give what its links
+ask for, a jitter is not enough, or a capture is not of one line, 5 a file is
+missing, or a file, a stream or memory fails.
 
 Example: mkdir -p out/A out/B && afdx network run network.toml in out";
 
@@ -67,8 +72,10 @@ greatest delay in ns from the stamp at the first switch to the end on the last l
 and the bounds that check prints, - with --unchecked. Then for each port of each
 switch how full its buffer was.
 
-Status: 0 done, 2 arguments, 3 no network, table or capture, 4 a network that
-check refuses or a capture that is not of one line, 5 memory or a device.
+Status: 0 done, 2 arguments, 3 the network file, a table or a capture is
+refused, or the tables do not fit together, 4 a port cannot give what its links
+ask for, a jitter is not enough, or a capture is not of one line, 5 a file is
+missing, or a file, a stream or memory fails.
 
 Example: afdx network measure network.toml in";
 
@@ -79,8 +86,10 @@ and OUT/A/departures.csv, as trace does for one switch; OUT/A must be there. The
 arrivals have one more column, origin: the number that the frame had among the
 arrivals at its first switch, empty where this is that one.
 
-Status: 0 done, 2 arguments, 3 no network, table or capture, 4 a network that
-check refuses or a capture that is not of one line, 5 memory or a device.
+Status: 0 done, 2 arguments, 3 the network file, a table or a capture is
+refused, or the tables do not fit together, 4 a port cannot give what its links
+ask for, a jitter is not enough, or a capture is not of one line, 5 a file is
+missing, or a file or memory fails.
 
 Example: mkdir -p out/A out/B && afdx network trace network.toml in out";
 
@@ -89,8 +98,10 @@ const SURVEY: &str =
     "Runs the network as run does, and puts nothing. Writes the report of run, the lines of
 measure, and of each switch when its links were policed and when frames came.
 
-Status: 0 done, 2 arguments, 3 no network, table or capture, 4 a network that
-check refuses or a capture that is not of one line, 5 memory or a device.
+Status: 0 done, 2 arguments, 3 the network file, a table or a capture is
+refused, or the tables do not fit together, 4 a port cannot give what its links
+ask for, a jitter is not enough, or a capture is not of one line, 5 a file is
+missing, or a file, a stream or memory fails.
 
 Example: afdx network survey network.toml in";
 
@@ -148,7 +159,7 @@ fn with_paths<'a>(
     ensures local { IfOk result (λ c. (out-Command c).has_globals ≡ false) }
 {
     let network = path(alloc, "NET", "The network file");
-    let folder = "The folder of a folder of captures for each switch";
+    let folder = "The folder that has a folder of captures for each switch";
     let input = path(alloc, "IN", folder);
     let output = path(alloc, "OUT", output);
     let whatever = "Runs a network that check refuses, too";
@@ -166,7 +177,7 @@ fn run<'a>(alloc: Global) -> Result<Command<'a>, AllocError>
     ensures local { IfOk result (λ c. (out-Command c).has_globals ≡ false) }
 {
     let about = "Runs the switches of a network over one capture for each port without a wire";
-    let outputs = "The folder of a folder for each switch's captures";
+    let outputs = "The folder that has a folder for each switch's captures";
     let command = with_paths(alloc, "run", about, RUN, outputs);
     with_argument(command, csv(alloc))
 }
@@ -177,7 +188,7 @@ fn trace<'a>(alloc: Global) -> Result<Command<'a>, AllocError>
     ensures local { IfOk result (λ c. (out-Command c).has_globals ≡ false) }
 {
     let about = "Writes what became of each frame and of each copy at each switch";
-    let outputs = "The folder of a folder for each switch's arrivals.csv and departures.csv";
+    let outputs = "The folder that has a folder for each switch's arrivals.csv and departures.csv";
     with_paths(alloc, "trace", about, TRACE, outputs)
 }
 
@@ -192,7 +203,7 @@ fn with_inputs<'a>(
     ensures local { IfOk result (λ c. (out-Command c).has_globals ≡ false) }
 {
     let network = path(alloc, "NET", "The network file");
-    let folder = "The folder of a folder of captures for each switch";
+    let folder = "The folder that has a folder of captures for each switch";
     let input = path(alloc, "IN", folder);
     let whatever = "Runs a network that check refuses, too";
     let unchecked = flag(alloc, "unchecked", whatever);
