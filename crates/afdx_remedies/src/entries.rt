@@ -4,11 +4,13 @@
 pub(crate) const ENTRIES: [(&str, &str); 48] = [
     (
         "usage",
-        "usage: no command, an argument or option that is missing, unknown or given twice
+        "usage: the arguments are not what the command takes, which `afdx COMMAND --help`
+shows: no command, an argument or option that is missing, unknown or given twice
 (`--link` alone may be), an empty IN or OUT, an argument that is not UTF-8, a
 value out of range, a list of `--fail-on` with another word than `policed`,
 `filtered` and `lost` or with one twice, or a code that `explain` does not know
-Remedy: `afdx --help`, `afdx run --help`; `docs/use/FORMATS.md` has the ranges
+Remedy: `afdx --help` has the commands, `afdx network --help` those of networks;
+`docs/use/FORMATS.md` has the ranges
 ",
     ),
     (
@@ -46,7 +48,10 @@ as `1e999`, more than 80 brackets in one another, or a key of more than 80 parts
         "C3",
         "C3 UnknownKey: a key that does not belong here; often a misspelling, `police` in
 a table without `version`, or `latency_us` (`top`) in one without `version = 3`
-Remedy: compare with `docs/use/FORMATS.md`
+Remedy: a port has `id`, `mbit`, `buffer`, `max_delay_us`; a link `id`, `from`,
+`to`, `bag_ms`, `jitter_us`, `max_size`, `priority`, `police`; the top
+`version`, `constant`, `latency_us`, `port`, `link`; a network file goes to
+`afdx network check`
 ",
     ),
     (
@@ -59,7 +64,7 @@ Remedy: write it
     (
         "C5",
         "C5 Kind: a text for a number, a number for a list, `[port]` for `[[port]]`
-Remedy: `to = [2]`; numbers without quotes
+Remedy: `to = [2]`; numbers without quotes; they are whole, without a point
 ",
     ),
     (
@@ -183,7 +188,7 @@ Remedy: `afdx-import` sorts
     (
         "P11",
         "P11 CutData: the file ends within a record's bytes
-Remedy: as `P6`
+Remedy: the recording was cut off: `afdx-import` keeps the whole records
 ",
     ),
     (
@@ -195,28 +200,33 @@ Remedy: fewer links, smaller frames, longer gaps, a faster line
     (
         "L2",
         "L2 Buffer: the buffer cannot hold what may wait
-Remedy: a larger buffer, less jitter; it needs `need` divided by
-`2,048,000,000 * 80` bytes at 100 Mbit/s, by `* 800` at 10 Mbit/s, by `* 8` at
-1000 Mbit/s
+Remedy: `afdx size` prints the bytes that the table alone needs; a larger
+buffer, less jitter; here the bytes are `need` divided by `2,048,000,000 * 80`
+at 100 Mbit/s, by `* 800` at 10 Mbit/s, by `* 8` at 1000 Mbit/s, rounded up
 ",
     ),
     (
         "L3",
-        "L3 HighDelay: a frame of high priority may leave later than `max_delay_us`; in
-ns
+        "L3 HighDelay: a frame of high priority may leave later than `max_delay_us`
+(`need` and `limit` are in ns)
 Remedy: a larger max_delay_us, smaller low frames
 ",
     ),
     (
         "L4",
-        "L4 LowDelay: a frame of low priority may leave later than `max_delay_us`; in ns
+        "L4 LowDelay: a frame of low priority may leave later than `max_delay_us` (`need`
+and `limit` are in ns)
 Remedy: a larger max_delay_us, fewer high links
 ",
     ),
     (
         "G1",
-        "G1 Toml: the network file is not TOML
-Remedy: as `C2`
+        "G1 Toml: the network file is not TOML: a quote or bracket is missing, a key is
+given twice, bytes are not UTF-8, or it is the wrong file
+Remedy: Python finds the line:
+`python3 -c 'import tomllib; tomllib.load(open(\"network.toml\", \"rb\"))'`; if it
+finds none, the file has what Python alone takes: a number past 64 bits, a float
+as `1e999`, more than 80 brackets in one another, or a key of more than 80 parts
 ",
     ),
     (
@@ -224,13 +234,13 @@ Remedy: as `C2`
         "G2 UnknownKey: a key that does not belong here
 Remedy: a wire has `from`, `to`, `delay_ns`, `down`; a switch has `name`,
 `table`, `least_latency_us`, `down`; the top has `version`, `one_line`,
-`switch`, `wire`
+`switch`, `wire`; a table goes to `afdx check`
 G2 MissingKey: a key of a switch or of a wire is missing; only `delay_ns`,
 `least_latency_us` and `down` may be left out
 Remedy: write it
 G2 Kind: a number for a text, or the other way round; `[wire]` for `[[wire]]`; a
 `down` or `one_line` that is neither `true` nor `false`
-Remedy: `from = \"A.3\"`
+Remedy: `from = \"A.3\"`; numbers are whole, without a point
 G2 Range: a name that is empty, of more than 16 letters, digits, `-` and `_`, or
 with other characters; an empty `table`; an end that is not NAME, a dot and a
 number from 1 to 24; a delay below 0 or above 1,000,000 ns; a least latency
@@ -305,7 +315,7 @@ Remedy: another number for one of the two
     (
         "J1",
         "J1 Jitter: delays on the link's way may differ by more than its jitter at this
-switch allows, so frames may be policed there; in µs
+switch allows, so frames may be policed there (`need` and `has` are in µs)
 Remedy: set `jitter_us` of the link in this switch's table to at least `need`;
 `afdx network jitter` prints the least of all rows; no table can have more than
 10,000: then smaller frames, longer gaps, fewer links on one cable, faster lines

@@ -9,7 +9,7 @@
 //! ```
 //! let entry = entry_of("usage").ok_or("an entry")?;
 //! let other = entry_of("C0");
-//! assert!(rt; entry.starts_with("usage: no command") && other.is_none());
+//! assert!(rt; entry.starts_with("usage: the arguments") && other.is_none());
 //! ```
 #![tactic(auto)]
 
