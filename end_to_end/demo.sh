@@ -1,6 +1,6 @@
 #!/usr/bin/env bash
-# ./demo in both ways, each in a copy of the repository: by the proved program, and by the one that `rt try` builds. They show the same,
-# and the second says that nothing was proved.
+# ./demo in its three ways, each in a copy of the repository: by a program that says that it is proved, by one that does not say so, and
+# by the one that `rt try` builds. They show the same, and say in their first line how the program was built.
 . "$(dirname "$0")/common.sh"
 install tcpdump=tcpdump
 install_python matplotlib pandas
@@ -10,6 +10,15 @@ cd "$room" || exit 1
 # copied FOLDER: a copy of what the demo reads, without what was built.
 copied() {
     mkdir "$1" && tar -c -C "$top" --exclude=out crates crates.txt HANDLES demo end_to_end examples python release | tar -x -C "$1"
+}
+
+# stands_in FILE LINE: the program, but for the third line of its --version.
+stands_in() {
+    mkdir -p "$(dirname "$1")" && cat >"$1" <<END && chmod +x "$1"
+#!/bin/sh
+[ "\$*" != --version ] || exec printf 'afdx 1.0.0\nkit\n%s\n' "$2"
+exec "$afdx" "\$@"
+END
 }
 
 # shown NAME: the demo of this copy, as if all were made at one time, and what it prints in NAME.txt.
@@ -31,22 +40,36 @@ shows_counters() {
     done
 }
 
-# shows_the_same: but for its first two lines and the last one, the unproved way shows what the proved one does; so are the files.
+# shows_the_same: but for its first two lines and the last one, the way of `rt try` shows what the proved one does but for its first
+# line; so are the files.
 shows_the_same() {
-    sed '1,2d; $d' unproved.txt | diff proved.txt - && diff -r proved/out/network unproved/out/network &&
+    diff <(sed 1d proved.txt) <(sed '1,2d; $d' unproved.txt) && diff -r proved/out/network unproved/out/network &&
         cmp proved/out/network.html unproved/out/network.html && cmp proved/out/link10.pcap unproved/out/link10.pcap
 }
 
-# says_so FILE: its first and its last line say that the program is not proved, and how to prove it.
+# says_so FILE WORDS: its first and its last line have these words of the program, and how to prove it.
 says_so() {
-    head -n 1 "$1" && diff <(head -n 1 "$1") <(tail -n 1 "$1") && head -n 1 "$1" | grep -q 'is not proved: ./demo --proved .*./test'
+    head -n 1 "$1" && diff <(head -n 1 "$1") <(tail -n 1 "$1") && head -n 1 "$1" | grep -q "^The program of this run.* $2: ./demo --proved .*./test"
+}
+
+# is_told LINE: of the proved program the first line has what it says of itself, and no line says that it is not proved.
+is_told() {
+    head -n 1 proved.txt && [ "$(head -n 1 proved.txt)" = "The program of this run, crates/afdx/out/afdx, says of itself: $1" ] &&
+        ! grep -e 'not proved' -e 'does not say' proved.txt
+}
+
+# uses_it: a program that does not say that it is proved is used, and nothing is built; but for the first line and the last one it shows
+# what the proved one does.
+uses_it() {
+    rm -f calls.txt && by_rt asked && mv said.txt built.txt && [ ! -e calls.txt ] && says_so built.txt 'does not say that it is proved' &&
+        diff <(sed 1d proved.txt) <(sed '1d; $d' built.txt)
 }
 
 # proves_first: --proved has `rt run` prove and build the program, which is to say that it is proved, shows how far it is, and runs it;
 # nothing speaks of an unproved one.
 proves_first() {
     by_rt asked --proved && grep -qx 'run -- --help' calls.txt && grep -qE '^ +[0-9]+ of [0-9]+ libraries, 0 min so far$' said.txt &&
-        shows_counters said.txt && ! grep 'not proved' said.txt && grep -x 'proved of no commit";' version.txt &&
+        shows_counters said.txt && ! grep -e 'not proved' -e 'does not say' said.txt && grep -x 'proved of no commit";' version.txt &&
         cmp asked/crates/afdx/src/version.rt "$top/crates/afdx/src/version.rt"
 }
 
@@ -66,21 +89,24 @@ cat >bin/rt <<END
 echo "\$*" >>"$room/calls.txt"
 [ ! -e "$room/fails" ] || { echo "no kit here" >&2; exit 2; }
 sleep 2
-cp src/version.rt "$room/version.txt" && mkdir -p out && cp "$afdx" out/afdx
+cp src/version.rt "$room/version.txt" && mkdir -p out && cp "$room/proved/crates/afdx/out/afdx" out/afdx
 END
 chmod +x bin/rt
 copied proved && copied unproved && copied asked || exit 1
-mkdir proved/crates/afdx/out && cp "$afdx" proved/crates/afdx/out/afdx || exit 1
+stands_in proved/crates/afdx/out/afdx 'proved of no commit' || exit 1
 
 check "the proved program, if it is built" shown proved
 check "shows what came in and what went out" shows_counters proved.txt
+check "and what the program says of itself" is_told 'proved of no commit'
 check "an unproved one otherwise" shown unproved
 check "shows the same" shows_the_same
-check "and says in its first and last line that it is not proved" says_so unproved.txt
+check "and says in its first and last line that it is not proved" says_so unproved.txt 'is not proved'
 touch fails
 check "a build that fails" stops asked
 check "a proof that fails" stops asked --proved
 rm fails
+stands_in asked/crates/afdx/out/afdx 'not proved' || exit 1
+check "a program that does not say that it is proved" uses_it
 check "--proved proves it first" proves_first
 check "another argument" refuses --prove
 finish
