@@ -386,7 +386,7 @@ check "standard input and error are closed" leaves 0 "" 2 redirected "<&- 2>&-"
 check "all three are closed" leaves 5 "" 2 redirected "<&- >&- 2>&-"
 
 check "each open fails in turn" each_fails open 6
-check "each write fails in turn" each_fails write 4
+check "each write fails in turn" each_fails write 5
 check "each sync fails in turn" each_fails fsync 2
 check "each rename fails in turn" each_fails rename 2
 check "each close fails in turn, after the sync" each_fails close 0

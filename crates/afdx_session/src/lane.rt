@@ -31,7 +31,7 @@ use std::mem;
 
 /// The least number of bytes of an output that go to its file while a run goes on: so many that the calls of the system are
 /// few, and so few that the parts of 24 ports stay at hand, or nearly so.
-const PART: usize = 32_768;
+const PART: usize = 16_384;
 
 /// How many bytes of each capture are looked at before the next few hundred records go to the switch: of 24 captures about
 /// what these take.
