@@ -3,29 +3,15 @@ use Rattle.std.proofs.Common.{◌≡◌, ℕ, ◌<◌, ◌≤◌, false, List, l
 use Rattle.std.proofs.lemmas.List.{get_or_default}
 use Rattle.std.proofs.lemmas.Bool.{le-ltb}
 use Rattle.afdx_port.specs.Course.{starts_before}
-use Rattle.afdx_earliest.specs.Instants.{IsFirstUpTo, IsFirstIn}
-use Rattle.afdx_core.specs.Inner.Dues.{IsFirstBefore}
+use Rattle.afdx_earliest.specs.Instants.{IsFirstUpTo}
 
 -- one that is due no earlier than an instant
 no_earlier : (instant : ℕ) (due : Option ℕ) → ((u : ℕ) → due ≡ Some u → instant ≤ u) → starts_before instant due ≡ false
 no_earlier instant None le = refl
 no_earlier instant (Some u) le = le-ltb u instant (le u refl)
 
--- nothing is due at all
-pub none_is_due : (instant : ℕ) (dues : List (Option ℕ)) → IsFirstIn dues (length dues) None → All (λ (due : Option ℕ). starts_before instant due ≡ false) dues
-none_is_due instant dues none k d within = rw (get_or_default dues k d None within, none k within) refl
-
--- or nothing before the first
+-- nothing is due before the first
 pub none_before : (instant : ℕ) (dues : List (Option ℕ)) (place at : ℕ) → IsFirstUpTo dues (length dues) place at → instant ≤ at
     → All (λ (due : Option ℕ). starts_before instant due ≡ false) dues
 none_before instant dues place at first le k d within =
     rw (get_or_default dues k d None within) (no_earlier instant (get_or dues k None) (λ u is. let sooner = first.sooner k u within is in omega (arith, sooner, le)))
-
-pub first_is_before : (instant : ℕ) (dues : List (Option ℕ)) (place at : ℕ) → IsFirstUpTo dues (length dues) place at → at < instant → IsFirstBefore instant dues place
-first_is_before instant dues place at first before = record {
-  at = at;
-  within = first.within;
-  due = first.here;
-  before = before;
-  first = none_before at dues place at first (omega arith);
-}

@@ -15,19 +15,19 @@ pub length-instants_in : (places : ℕ) (numbers : List ℕ) → length numbers 
 length-instants_in places numbers long few = length-map (take places numbers) instant_in ∙ length-take-le places numbers (omega (arith, long, few))
 
 -- a place of the list is one of the places
-pub place_within : (places : ℕ) (numbers leasts firsts : List ℕ) (instants : List (Option ℕ)) (place : ℕ) → AreGrouped places numbers leasts firsts → instants_in places numbers ≡ instants
+pub place_within : (places : ℕ) (numbers : List ℕ) (instants : List (Option ℕ)) (place : ℕ) → length numbers ≡ 24 → places ≤ 24 → instants_in places numbers ≡ instants
     → place < length instants → place < places
-place_within places numbers leasts firsts instants place ok is within = let n = length-instants_in places numbers ok.long ok.few in let m = ap length is in omega (arith, within, n, m)
+place_within places numbers instants place long few is within = let n = length-instants_in places numbers long few in let m = ap length is in omega (arith, within, n, m)
 
-instant_read : (places : ℕ) (numbers : List ℕ) (j : ℕ) → length numbers ≡ 24 → places ≤ 24 → j < places → instant_at (instants_in places numbers) j ≡ instant_in (get_or numbers j 0)
+pub instant_read : (places : ℕ) (numbers : List ℕ) (j : ℕ) → length numbers ≡ 24 → places ≤ 24 → j < places → instant_at (instants_in places numbers) j ≡ instant_in (get_or numbers j 0)
 instant_read places numbers j long few lt =
     let taken : j < length (take places numbers) = let n = length-take-le places numbers (omega (arith, long, few)) in omega (arith, lt, n) in
     get_or-map instant_in (take places numbers) j 0 None taken ∙ ap instant_in (get_or-take places numbers j 0 lt)
 
-late : (n : ℕ) → stamp_end ≤ n → instant_in n ≡ None
+pub late : (n : ℕ) → stamp_end ≤ n → instant_in n ≡ None
 late n le = rw (le-leb stamp_end n le) refl
 
-early : (n : ℕ) → n < stamp_end → instant_in n ≡ Some n
+pub early : (n : ℕ) → n < stamp_end → instant_in n ≡ Some n
 early n lt = rw (lt-leb stamp_end n lt) refl
 
 -- a number that is kept for an instant is that
@@ -39,36 +39,34 @@ kept_is n u is = elim (cases_lt n stamp_end) [
   clash : None ≡ Some u → ⊥
   clash e = absurd cc
 
-module _ (places : ℕ) (numbers leasts firsts : List ℕ) (ok : AreGrouped places numbers leasts firsts) (first least : ℕ) (is : IsFirstFrom numbers 0 24 first least) where
+module _ (places : ℕ) (numbers : List ℕ) (long : length numbers ≡ 24) (few : places ≤ 24) (first least : ℕ) (is : IsFirstFrom numbers 0 24 first least) where
   -- where the least is kept for none, there is none
   pub none_at_all : stamp_end ≤ least → IsFirstIn (instants_in places numbers) (length (instants_in places numbers)) None
   none_at_all le j within =
-      let few = ok.few in
-      let lt : j < places = let n = length-instants_in places numbers ok.long few in omega (arith, within, n) in
+      let lt : j < places = let n = length-instants_in places numbers long few in omega (arith, within, n) in
       let known = is.no_less j (omega arith) (omega (arith, lt, few)) in
-      instant_read places numbers j ok.long few lt ∙ late (get_or numbers j 0) (omega (arith, known, le))
+      instant_read places numbers j long few lt ∙ late (get_or numbers j 0) (omega (arith, known, le))
 
   -- else it is the first
-  pub first_of_all : least < stamp_end → IsFirstIn (instants_in places numbers) (length (instants_in places numbers)) (Some (first, least))
-  first_of_all lt =
-      let few = ok.few in
-      let count = length-instants_in places numbers ok.long few in
+  pub first_of_all : ((j : ℕ) → places ≤ j → j < 24 → get_or numbers j 0 ≡ none) → least < stamp_end → IsFirstIn (instants_in places numbers) (length (instants_in places numbers)) (Some (first, least))
+  first_of_all no_place lt =
+      let count = length-instants_in places numbers long few in
       let here = is.here in
       let inside : first < places = elim (cases_lt first places) [
         | inl before ↦ before
-        | inr past ↦ let empty = ok.no_place first past is.within in absurd (omega (arith, empty, here, lt))
+        | inr past ↦ let empty = no_place first past is.within in absurd (omega (arith, empty, here, lt))
       ] in
       record {
         within = omega (arith, inside, count);
-        here = instant_read places numbers first ok.long few inside ∙ ap instant_in here ∙ early least lt;
+        here = instant_read places numbers first long few inside ∙ ap instant_in here ∙ early least lt;
         sooner = λ j u within at.
             let before : j < places = omega (arith, within, count) in
-            let same = kept_is (get_or numbers j 0) u (sym (instant_read places numbers j ok.long few before) ∙ at) in
+            let same = kept_is (get_or numbers j 0) u (sym (instant_read places numbers j long few before) ∙ at) in
             let known = is.no_less j (omega arith) (omega (arith, before, few)) in
             omega (arith, same, known);
         former = λ j u within at.
             let before : j < places = omega (arith, within, inside) in
-            let same = kept_is (get_or numbers j 0) u (sym (instant_read places numbers j ok.long few before) ∙ at) in
+            let same = kept_is (get_or numbers j 0) u (sym (instant_read places numbers j long few before) ∙ at) in
             let known = is.former j (omega arith) within in
             omega (arith, same, known);
       }
@@ -147,6 +145,7 @@ module _ (places : ℕ) (numbers leasts firsts : List ℕ) (ok : AreGrouped plac
           (others_stay place number (λ j from to. let apart : j ≢ place = omega (arith, from, to, other) in apart) (ok.groups g lt))
     ]
 
+module _ (places : ℕ) (numbers : List ℕ) (place number : ℕ) (inside : place < places) where
   pub instants_set : (instant : Option ℕ) → instant_in number ≡ instant → instants_in places (set numbers place number) ≡ set (instants_in places numbers) place instant
   instants_set instant is =
       ap (map instant_in) (take-set-lt places numbers place number inside)

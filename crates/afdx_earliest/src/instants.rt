@@ -1,20 +1,15 @@
 //! Instants at places, and the first of them.
 
-ghost use Rattle.std.specs.Prelude.{◌≡◌, ◌+◌, ◌<◌, ◌≤◌, None, length, replicate, set};
+ghost use Rattle.std.specs.Prelude.{◌≡◌, ◌<◌, ◌≤◌, None, length, replicate, set};
 ghost use Rattle.afdx_earliest.specs.Instants.{IsFirstIn};
-ghost use Rattle.afdx_earliest.specs.Inner.Groups.{IsFirstFrom, instant_in};
+ghost use Rattle.afdx_earliest.specs.Inner.Groups.{instant_in};
 
+use crate::numbers::{NONE, PLACES, first_from, number_for};
 use afdx_units::Stamp;
 use std::marker::Model;
 
-/// The most places that there are: a table has at most 24 ports.
-const PLACES: usize = 24;
-
 /// How many places make a group.
 const GROUP: usize = 6;
-
-/// The number for a place that has no instant: none is as great.
-const NONE: u64 = u64::MAX;
 
 /// For each of at most 24 places an instant or none.
 ///
@@ -38,33 +33,6 @@ impl Model for Instants {
     ghost view = { λ i. instants_in i.places i.numbers };
 
     ghost invariant = { λ i. AreGrouped i.places i.numbers i.leasts i.firsts };
-}
-
-/// Returns the number that is kept for an instant or none.
-fn number_for(instant: Option<Stamp>) -> u64
-    ensures { instant_in result ≡ instant }
-{
-    match instant {
-        Some(stamp) => stamp.ns(),
-        None => NONE,
-    }
-}
-
-/// Returns the first place of the least number in the group that starts at a place, and that number.
-fn first_of_group(numbers: &[u64; PLACES], start: usize) -> (usize, u64)
-    requires { start + 6 ≤ length numbers.now }
-    ensures { IsFirstFrom numbers.now start (start + 6) result.0 result.1 }
-{
-    let mut first = start;
-    let mut least = numbers[start];
-    for place in start + 1..start + GROUP {
-        let number = numbers[place];
-        if number < least {
-            least = number;
-            first = place;
-        }
-    }
-    (first, least)
 }
 
 impl Instants {
@@ -118,7 +86,7 @@ impl Instants {
         let group = place / GROUP;
         let numbers = &mut self.numbers;
         numbers[place] = number;
-        let (first, least) = first_of_group(numbers, group * GROUP);
+        let (first, least) = first_from(numbers, group * GROUP, group * GROUP + GROUP);
         self.leasts[group] = least;
         self.firsts[group] = first;
     }

@@ -1,4 +1,4 @@
-//! Instants at a few places, of which the first is at hand.
+//! Instants at a few places: of `Instants` the first is at hand, of `Dues` those before an instant.
 //!
 //! # Example
 //!
@@ -19,6 +19,9 @@
 //! ```
 #![tactic(auto)]
 
+mod dues;
 mod instants;
+mod numbers;
 
+pub use dues::{Dues, take_first};
 pub use instants::Instants;

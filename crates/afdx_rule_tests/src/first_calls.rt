@@ -1,7 +1,7 @@
 //! Calls of crates that have no other test by their calls, each made once; the front page of its crate quotes it.
 
 use afdx_csv::{Field, put_heading, put_row};
-use afdx_earliest::Instants;
+use afdx_earliest::{Dues, Instants, take_first};
 use afdx_jitter::{hop, need};
 use afdx_lines::put_line;
 use afdx_past::History;
@@ -27,6 +27,20 @@ fn first_of_three_places(rt: HostRuntime) {
         (None, Some((1, Stamp::ZERO)), Some((2, Stamp::ZERO)))
     );
     // end of example
+}
+
+/// Checks that what is due at an instant is not due before it, and that a place that is taken out is marked no longer.
+#[test]
+fn due_before_an_instant(rt: HostRuntime) {
+    let mut dues = Dues::new(3);
+    dues.set(0, Some(Stamp::from_ns_saturating(20)));
+    dues.set(2, Some(Stamp::from_ns_saturating(10)));
+    let mut due = dues.before(20);
+    let first = take_first(&mut due);
+    let then = take_first(&mut due);
+    assert_eq!(rt; (first, then, dues.before(21)), (Some(2), None, 5));
+    dues.set(2, None);
+    assert_eq!(rt; dues.first(), Some((0, Stamp::from_ns_saturating(20))));
 }
 
 /// Checks that the next switch needs 13,440 ns of jitter, 14 whole microseconds, since the least frame takes 6,720 ns.

@@ -21,6 +21,13 @@ pub record IsFirstFrom (numbers : List ℕ) (low high first least : ℕ) : Type 
   pub no_less : (j : ℕ) → low ≤ j → j < high → least ≤ slice_index numbers j
   pub former : (j : ℕ) → low ≤ j → j < first → least < slice_index numbers j
 
+-- no place past the last one has an instant, and what is no instant is none
+pub record AreKept (places : ℕ) (numbers : List ℕ) : Type 0 where
+  pub long : length numbers ≡ 24
+  pub few : places ≤ 24
+  pub no_place : (j : ℕ) → places ≤ j → j < 24 → slice_index numbers j ≡ none
+  pub no_instant : (j : ℕ) → j < 24 → stamp_end ≤ slice_index numbers j → slice_index numbers j ≡ none
+
 -- of each group the least and its first place are known, and no place past the last one has an instant
 pub record AreGrouped (places : ℕ) (numbers leasts firsts : List ℕ) : Type 0 where
   pub long : length numbers ≡ 24

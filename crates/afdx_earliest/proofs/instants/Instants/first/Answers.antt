@@ -13,7 +13,7 @@ returns-in_err-stamp c =
     let is = subst (λ n. IsFirstFrom d.numbers 0 n l.first l.least) all l.invariant in
     let late : stamp_end ≤ l.least = omega (arith, c.in_err-stamp.ensures) in
     rw c.from_residual.ensures (subst (λ (is : List (Option ℕ)). IsFirstIn is (length is) None) c.self.view_is
-    (none_at_all d.places d.numbers d.leasts d.firsts c.self.invariant l.first l.least is late))
+    (none_at_all d.places d.numbers c.self.invariant.long c.self.invariant.few l.first l.least is late))
 
 pub returns : goal.returns
 returns c =
@@ -23,5 +23,5 @@ returns c =
     let is = subst (λ n. IsFirstFrom d.numbers 0 n l.first l.least) all l.invariant in
     let same = c.in_ok-stamp.ensures.1 in
     let now = subst (λ (is : List (Option ℕ)). IsFirstIn is (length is) (Some (l.first, l.least))) c.self.view_is
-    (first_of_all d.places d.numbers d.leasts d.firsts c.self.invariant l.first l.least is c.in_ok-stamp.ensures.0) in
+    (first_of_all d.places d.numbers c.self.invariant.long c.self.invariant.few l.first l.least is c.self.invariant.no_place c.in_ok-stamp.ensures.0) in
     subst (λ t. IsFirstIn c.args.self.now (length c.args.self.now) (Some (l.first, t))) (sym same) now

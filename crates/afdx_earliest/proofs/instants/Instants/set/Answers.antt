@@ -5,7 +5,7 @@ use Rattle.afdx_earliest.proofs.instants.Instants.set.Goals as goal
 pub returns-else-numbers-place : goal.returns-else-numbers-place
 returns-else-numbers-place c =
     let d = c.self.inside in
-    let inside : c.args.place < d.places = place_within d.places d.numbers d.leasts d.firsts _ c.args.place c.self.invariant c.self.view_is c.requires in
+    let inside : c.args.place < d.places = place_within d.places d.numbers _ c.args.place c.self.invariant.long c.self.invariant.few c.self.view_is c.requires in
     sym c.self.view_is
-    ∙ instants_same d.places d.numbers d.leasts d.firsts c.self.invariant c.args.place c.number_for-number.result inside c.args.instant c.number_for-number.ensures c.if-numbers-place.false
+    ∙ instants_same d.places d.numbers c.args.place c.number_for-number.result inside c.args.instant c.number_for-number.ensures.instant c.if-numbers-place.false
     ∙ ap (λ (is : List (Option ℕ)). set is c.args.place c.args.instant) c.self.view_is
