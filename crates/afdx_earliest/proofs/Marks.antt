@@ -5,7 +5,7 @@ use Rattle.std.specs.Int.{bit_at, bit_not, trailing_zeros}
 use Rattle.std.proofs.Math.Nat.{two-pow-succ}
 use Rattle.std.proofs.lemmas.Nat.{and-not, and_comm}
 use Rattle.std.proofs.lemmas.Nat.Bits.{bit_at-zero, bit_at-trailing_zeros, bit_at_set_same, bit_at_set_other, bit_at_clear_same, bit_at_clear_other, bit_at_above, bit_at_and, and_pow}
-use Rattle.std.proofs.lemmas.List.{get_or-replicate, length-set, get_or_beyond}
+use Rattle.std.proofs.lemmas.List.{get_or-replicate, length-set, get_or_past}
 use Rattle.std.proofs.lemmas.Bool.{cases_lt, cases_eq, lt-ltb, le-ltb}
 use Rattle.afdx_units.specs.Time.{stamp_end}
 use Rattle.afdx_earliest.specs.Instants.{instant_at}
@@ -87,7 +87,7 @@ marked_all instant places numbers marks kept most all place = elim (cases_lt pla
       ∙ before_is instant (get_or numbers place 0) most (kept.no_instant place (omega (arith, inside, few)))))
   | inr past ↦
       let empty : instant_at (instants_in places numbers) place ≡ None =
-          get_or_beyond (instants_in places numbers) place None (let n = length-instants_in places numbers kept.long kept.few in omega (arith, n, past)) in
+          get_or_past (instants_in places numbers) place None (let n = length-instants_in places numbers kept.long kept.few in omega (arith, n, past)) in
       no_mark past ∙ sym (ap (λ i. cond (is_before instant i) 1 0) empty)
 ] where
   no_mark : places ≤ place → bit_at marks place ≡ 0

@@ -1,5 +1,5 @@
 -- What is due at places before an instant: marks, of which bit 0 is for the first place.
-use Rattle.std.specs.Prelude.{◌≡◌, ◌≢◌, ◌×◌, ℕ, ◌<◌, Bool, false, nat_lt, if◌then◌else◌, List, Option, Some, None}
+use Rattle.std.specs.Prelude.{◌≡◌, ◌≢◌, ℕ, ◌<◌, Bool, false, nat_lt, if◌then◌else◌, List, Option, Some, None}
 use Rattle.std.specs.Int.{bit_at}
 use Rattle.afdx_earliest.specs.Instants.{instant_at}
 
