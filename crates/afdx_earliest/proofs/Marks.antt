@@ -1,5 +1,5 @@
 -- Marks of the numbers that are less than an instant's, and what they say of the instants; the first mark taken out.
-use Rattle.std.proofs.Common.{◌≡◌, ◌≢◌, ℕ, suc, ◌+◌, ◌-◌, ◌*◌, ◌%◌, ◌^◌, ◌<◌, ◌≤◌, Bool, true, false, cond, ltb, List, length, map, take, set, get_or, replicate, Option, Some, None}
+use Rattle.std.proofs.Common.{◌≡◌, ◌≢◌, ℕ, suc, ◌+◌, ◌-◌, ◌*◌, ◌%◌, ◌^◌, ◌<◌, ◌≤◌, cond, ltb, List, set, get_or, replicate, None}
 use Rattle.std.proofs.Common.{refl, ap, sym, ◌∙◌, subst, arith, inl, inr, w32, bit_and, bit_or, pow_pos, pow_mono, get_or-set_same, get_or-set_other}
 use Rattle.std.specs.Int.{bit_at, bit_not, trailing_zeros}
 use Rattle.std.proofs.Math.Nat.{two-pow-succ}
@@ -9,7 +9,7 @@ use Rattle.std.proofs.lemmas.List.{get_or-replicate, length-set, get_or_past}
 use Rattle.std.proofs.lemmas.Bool.{cases_lt, cases_eq, lt-ltb, le-ltb}
 use Rattle.afdx_units.specs.Time.{stamp_end}
 use Rattle.afdx_earliest.specs.Instants.{instant_at}
-use Rattle.afdx_earliest.specs.Dues.{is_before, AreMarked, IsTaken, IsTakenAt}
+use Rattle.afdx_earliest.specs.Dues.{is_before, AreMarked, IsTakenAt}
 use Rattle.afdx_earliest.specs.Inner.Groups.{none, instant_in, instants_in, AreKept}
 use Rattle.afdx_earliest.proofs.Firsts.{length-instants_in, instant_read, late, early}
 
@@ -31,7 +31,7 @@ kept_set places numbers kept place number inside no_instant = record {
   no_instant = λ j within is_late. elim (cases_eq j place) [
     | inl same ↦
         let here : get_or (set numbers place number) j 0 ≡ number =
-            ap (λ i. get_or (set numbers place number) i 0) same ∙ get_or-set_same numbers place number 0 (let n = kept.long in omega (arith, n, within, same)) in
+        ap (λ i. get_or (set numbers place number) i 0) same ∙ get_or-set_same numbers place number 0 (let n = kept.long in omega (arith, n, within, same)) in
         here ∙ no_instant (omega (arith, here, is_late))
     | inr other ↦
         let there = get_or-set_other numbers place j number 0 other in
@@ -87,7 +87,7 @@ marked_all instant places numbers marks kept most all place = elim (cases_lt pla
       ∙ before_is instant (get_or numbers place 0) most (kept.no_instant place (omega (arith, inside, few)))))
   | inr past ↦
       let empty : instant_at (instants_in places numbers) place ≡ None =
-          get_or_past (instants_in places numbers) place None (let n = length-instants_in places numbers kept.long kept.few in omega (arith, n, past)) in
+      get_or_past (instants_in places numbers) place None (let n = length-instants_in places numbers kept.long kept.few in omega (arith, n, past)) in
       no_mark past ∙ sym (ap (λ i. cond (is_before instant i) 1 0) empty)
 ] where
   no_mark : places ≤ place → bit_at marks place ≡ 0
@@ -101,8 +101,8 @@ marked_all instant places numbers marks kept most all place = elim (cases_lt pla
 
 pub taken : (marks : ℕ) → marks ≢ 0 → marks < 2 ^ 32 → IsTakenAt marks (bit_and marks (bit_not w32 (1 * 2 ^ trailing_zeros w32 marks % 2 ^ 32))) (trailing_zeros w32 marks)
 taken marks some fits = record {
-  marked = lowest.1.0;
-  first = lowest.1.1;
+  marked = lowest.1;
+  first = lowest.2;
   gone = bit_at_clear_same w32 marks place lowest.0;
   others = others;
   fewer = subst (λ x. bit_and marks (2 ^ 32 - 1 - x) < marks) (sym one) (let e = and_comm marks (2 ^ 32 - 1 - 2 ^ place) in let p = pow_pos place in omega (arith, parts, there, e, p));
@@ -123,7 +123,7 @@ taken marks some fits = record {
   parts = and-not 32 (2 ^ place) marks small fits
 
   there : bit_and (2 ^ place) marks ≡ 1 * 2 ^ place
-  there = and_comm (2 ^ place) marks ∙ and_pow marks place ∙ ap (λ x. x * 2 ^ place) lowest.1.0
+  there = and_comm (2 ^ place) marks ∙ and_pow marks place ∙ ap (λ x. x * 2 ^ place) lowest.1
 
   others : (j : ℕ) → j ≢ place → bit_at (bit_and marks (bit_not w32 (1 * 2 ^ place % 2 ^ 32))) j ≡ bit_at marks j
   others j apart = elim (cases_lt j 32) [

@@ -1,21 +1,23 @@
-use Rattle.std.proofs.Common.{◌≡◌, ◌≤◌, subst, arith}
+use Rattle.std.proofs.Common.{◌≡◌, ◌+◌, ◌≤◌, subst, sym, arith}
 use Rattle.afdx_earliest.specs.Dues.{AreMarked}
 use Rattle.afdx_earliest.specs.Inner.Groups.{none}
 use Rattle.afdx_earliest.proofs.Marks.{AreMarkedUpTo, marked_none, marked_more, marked_no_more, marked_all}
 use Rattle.afdx_earliest.proofs.dues.Dues.before.Goals as goal
+use Rattle.afdx_earliest.proofs.dues.Dues.before.Goals.{then-numbers-place, else-numbers-place}
 
 pub loop-place-init : goal.loop-place-init
 loop-place-init c = marked_none c.args.instant c.self.inside.numbers
 
-pub loop-place-preserved-then-numbers-place : goal.loop-place-preserved-then-numbers-place
-loop-place-preserved-then-numbers-place c =
+pub loop-place-preserved : goal.loop-place-preserved
+loop-place-preserved c =
     let l = c.loop-place in
-    marked_more c.args.instant l.numbers l.marks l.place (omega (arith, c.loop-place-test.true)) (omega (arith, c.if-numbers-place.true)) l.invariant
-
-pub loop-place-preserved-else-numbers-place : goal.loop-place-preserved-else-numbers-place
-loop-place-preserved-else-numbers-place c =
-    let l = c.loop-place in
-    marked_no_more c.args.instant l.numbers l.marks l.place (omega (arith, c.if-numbers-place.false)) l.invariant
+    let numbers = c.self.inside.numbers in
+    elim c.if-numbers-place.branch [
+      | then-numbers-place w ↦ subst (λ marks. AreMarkedUpTo c.args.instant numbers marks (l.place + 1)) (sym w.marks-is)
+          (marked_more c.args.instant numbers l.marks l.place c.loop-place-test.true w.if-numbers-place.true l.invariant)
+      | else-numbers-place w ↦ subst (λ marks. AreMarkedUpTo c.args.instant numbers marks (l.place + 1)) (sym w.marks-is)
+          (marked_no_more c.args.instant numbers l.marks l.place w.if-numbers-place.false l.invariant)
+    ]
 
 pub returns : goal.returns
 returns c =
