@@ -134,7 +134,7 @@ impl<'a, A: Allocator + Copy> Relay<'a, A> {
     }
 
     /// Returns the instant of the first start or discard that was not carried out; none if nothing is left. Before that instant the switch
-    /// does nothing unless something arrives. O(1).
+    /// does nothing unless something arrives. O(ports).
     pub fn next_event(&self) -> Option<Stamp>
         ensures { IsNextEvent self.now.run result }
     {

@@ -1,4 +1,4 @@
--- How instants are kept: as numbers, in four groups of six.
+-- How instants are kept: as numbers, those of `Instants` in four groups of six.
 use Rattle.std.specs.Prelude.{◌≡◌, ℕ, ◌+◌, ◌*◌, ◌<◌, ◌≤◌, nat_le, if◌then◌else◌, List, length, map, take, slice_index, Option, Some, None}
 use Rattle.afdx_units.specs.Time.{stamp_end}
 
