@@ -32,6 +32,7 @@ fn first_of_three_places(rt: HostRuntime) {
 /// Checks that what is due at an instant is not due before it, and that a place that is taken out is marked no longer.
 #[test]
 fn due_before_an_instant(rt: HostRuntime) {
+    // example of afdx_earliest
     let mut dues = Dues::new(3);
     dues.set(0, Some(Stamp::from_ns_saturating(20)));
     dues.set(2, Some(Stamp::from_ns_saturating(10)));
@@ -39,6 +40,7 @@ fn due_before_an_instant(rt: HostRuntime) {
     let first = take_first(&mut due);
     let then = take_first(&mut due);
     assert_eq!(rt; (first, then, dues.before(21)), (Some(2), None, 5));
+    // end of example
     dues.set(2, None);
     assert_eq!(rt; dues.first(), Some((0, Stamp::from_ns_saturating(20))));
 }

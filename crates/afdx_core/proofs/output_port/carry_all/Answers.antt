@@ -1,4 +1,4 @@
-use Rattle.std.proofs.Common.{rules, ◌+◌, ◌<◌, ◌≡◌, true, false, None, All, length, get_or, refl, sym, arith, ap, ◌∙◌, subst}
+use Rattle.std.proofs.Common.{rules, ◌+◌, ◌<◌, ◌≡◌, true, false, length, get_or, refl, sym, arith, ap, ◌∙◌, subst}
 use Rattle.afdx_port.specs.Content.{due, advanced}
 use Rattle.afdx_port.specs.Course.{starts_before}
 use Rattle.afdx_earliest.specs.Dues.{AreMarked}
