@@ -16,6 +16,14 @@
 //!     (none, first, next),
 //!     (None, Some((1, Stamp::ZERO)), Some((2, Stamp::ZERO)))
 //! );
+//!
+//! let mut dues = Dues::new(3);
+//! dues.set(0, Some(Stamp::from_ns_saturating(20)));
+//! dues.set(2, Some(Stamp::from_ns_saturating(10)));
+//! let mut due = dues.before(20);
+//! let first = take_first(&mut due);
+//! let then = take_first(&mut due);
+//! assert_eq!(rt; (first, then, dues.before(21)), (Some(2), None, 5));
 //! ```
 #![tactic(auto)]
 
