@@ -65,8 +65,8 @@ impl Dues {
         Some((first, stamp))
     }
 
-    /// Marks the places at which something is due before an instant, in ns from the start of 1970: bit 0 is for the first place.
-    /// O(places).
+    /// Returns marks of the places at which something is due before an instant, in ns from the start of 1970: bit 0 is for the
+    /// first place. O(places).
     #[inline(always)]
     pub fn before(&self, instant: u64) -> u32
         ensures { AreMarked instant self.now result }
