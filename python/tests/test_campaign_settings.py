@@ -136,6 +136,7 @@ def test_of_a_network_the_captures_of_end_systems_are_read(
     ("nowhere/*", 3, "no folder is {room}/nowhere/*"),
     ('flights/*/run1", "other/*/run1', 3,
      "two recordings are called monday/run1: {room}/flights/monday/run1 and {room}/other/monday/run1"),
+    ("flights/..", 3, "a recording's name leads out of the folder that has its outputs: .."),
     ("odd/*", 3, "a recording's name cannot be printed: 'a\\udcff'")])
 def test_patterns_that_name_nothing_or_twice(tmp_path: Path, pattern: str, status: int, line: str) -> None:
     file = campaign(tmp_path, GOOD.replace("flights/*/run*", pattern))

@@ -80,6 +80,8 @@ def folders_of(folder: Path, patterns: tuple[str, ...]) -> dict[str, str]:
             name = os.path.relpath(path, folder / above(pattern))
             if not name.isprintable():
                 raise failure(INPUT, f"a recording's name cannot be printed: {name!r}")
+            if name.startswith(".."):
+                raise failure(INPUT, f"a recording's name leads out of the folder that has its outputs: {name}")
             if folders.setdefault(name, path) != path:
                 raise failure(INPUT, f"two recordings are called {name}: {folders[name]} and {path}")
     return folders
