@@ -116,8 +116,8 @@ impl<'a, A: Allocator + Copy> Store<'a, A> {
         self.keys.let_go(self.low);
     }
 
-    /// Makes room for one more arrival, and for 64 if there is none. An error says that memory ran out; what is held is as before then.
-    /// O(1) on average.
+    /// Makes room for one more arrival: if there is none, lets go of the keys of arrivals that are past, and makes room for 64 more.
+    /// An error says that memory ran out; what is held is as before then. O(1) on average.
     pub fn make_room(&mut self) -> Result<(), AllocError>
         ensures ok { OnOk result (0 < self.new.room) }
         ensures held { self.new.held ≡ self.old.held }
