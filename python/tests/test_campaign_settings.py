@@ -5,7 +5,7 @@ from pathlib import Path
 import pytest
 
 from afdx.campaign.command import main
-from afdx.campaign.plan import tasks_of
+from afdx.campaign.plan import put_plan, tasks_of
 from afdx.campaign.settings import read_campaign
 from afdx.failure import Failure
 from tests.campaign_samples import GOOD, PORTS, campaign
@@ -62,6 +62,24 @@ def test_a_damaged_list_of_tasks(tmp_path: Path, text: str) -> None:
     assert (failure.value.status, failure.value.lines) == (5, (
         f"afdx-campaign: no list of tasks, or one of another version: {tmp_path}/campaign/tasks.jsonl: "
         "`afdx-campaign run` lists them",))
+
+
+def test_a_list_of_tasks_is_of_one_campaign_file(tmp_path: Path, capsys: pytest.CaptureFixture[str]) -> None:
+    """Another file is refused by all that read the list; one that changed is told."""
+    file = campaign(tmp_path)
+    put_plan(read_campaign(file), tasks_of(read_campaign(file)))
+    other = tmp_path / "other.toml"
+    other.write_text(file.read_text())
+    for words in (["status"], ["page"], ["again", "--status", "5"]):
+        with pytest.raises(Failure) as failure:
+            main([words[0], str(other), *words[1:]])
+        assert (failure.value.status, failure.value.lines) == (5, (
+            f"afdx-campaign: the tasks in {tmp_path}/campaign are of {file}: `afdx-campaign run` lists those of {other}",))
+    assert main(["status", str(file)]) == 0
+    file.write_text(file.read_text() + "# a remark\n")
+    assert main(["status", str(file)]) == 0
+    assert capsys.readouterr().err == (
+        f"afdx-campaign: {file} changed since its tasks were listed: `afdx-campaign run` lists them anew\n")
 
 
 def test_a_campaign_lies_in_any_folder(tmp_path: Path) -> None:

@@ -85,7 +85,7 @@ def run(campaign: Campaign, options: argparse.Namespace) -> int:
         size = sum(tasks[number].recording.size for number in left)
         print(f"{len(tasks)} tasks, {len(tasks) - len(left)} answered, {len(left)} left, of {size / 1e6:,.1f} MB")
         return DONE
-    put_plan(campaign.root, tasks)
+    put_plan(campaign, tasks)
     try:
         with Progress(campaign.root / "campaign.log", tasks, left) as progress:
             engine(tasks, left, Options(campaign.root, options.engine, options.jobs, campaign.limits.patience,
@@ -97,7 +97,7 @@ def run(campaign: Campaign, options: argparse.Namespace) -> int:
 
 def status(campaign: Campaign, options: argparse.Namespace) -> int:
     """Says how far a campaign is."""
-    tasks = get_plan(campaign.root)
+    tasks = get_plan(campaign)
     there = [(task.recording.size, answer) for task, answer in answered(campaign.root, tasks)]
     failed = sum(1 for _, answer in there if answer["status"])
     left = sum(task.recording.size for task in tasks) - sum(size for size, _ in there)
@@ -112,12 +112,12 @@ def status(campaign: Campaign, options: argparse.Namespace) -> int:
 
 def page(campaign: Campaign, options: argparse.Namespace) -> int:
     """Makes the page of what there is."""
-    return report(campaign, get_plan(campaign.root))
+    return report(campaign, get_plan(campaign))
 
 
 def again(campaign: Campaign, options: argparse.Namespace) -> int:
     """Forgets the answers of a status."""
-    forgotten = forget(campaign.root, get_plan(campaign.root), options.status)
+    forgotten = forget(campaign.root, get_plan(campaign), options.status)
     print(f"{forgotten} answers of status {options.status} forgotten")
     return DONE
 

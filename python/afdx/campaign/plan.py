@@ -1,5 +1,6 @@
 """Lists the tasks of a campaign: each recording under each table."""
 import glob
+import hashlib
 import json
 import os
 import shutil
@@ -12,7 +13,7 @@ from afdx.campaign.settings import Campaign, Configured
 from afdx.campaign.worker.files import put_text
 from afdx.campaign.worker.task import Recording, Table, Task, identity_of, table_identity, task_of
 from afdx.campaign.worker.work import program_identity
-from afdx.failure import DEVICE, INPUT, LOAD
+from afdx.failure import DEVICE, INPUT, LOAD, tell
 from afdx.program import Program
 
 LEAST_MEMORY = 64 << 20  # bytes that a task takes of any recording
@@ -111,20 +112,45 @@ def plan_file(root: Path) -> Path:
     return root / "tasks.jsonl"
 
 
-def put_plan(root: Path, tasks: list[Task]) -> None:
-    """Puts the list of tasks."""
-    put_text(plan_file(root), "".join(f"{json.dumps(asdict(task))}\n" for task in tasks))
+def origin_of(campaign: Campaign) -> dict[str, str]:
+    """Answers which campaign file it is, as seen from the root, so that both may move together, and a hash of what it
+    says."""
+    return {"file": os.path.relpath(campaign.file, campaign.root),
+            "hash": hashlib.sha256(campaign.file.read_bytes()).hexdigest()}
 
 
-def get_plan(root: Path) -> list[Task]:
-    """Gets the list of tasks."""
+def put_plan(campaign: Campaign, tasks: list[Task]) -> None:
+    """Puts the list of tasks, below a line that says of which campaign file it is."""
+    rows = [origin_of(campaign), *map(asdict, tasks)]
+    put_text(plan_file(campaign.root), "".join(f"{json.dumps(row)}\n" for row in rows))
+
+
+def get_plan(campaign: Campaign) -> list[Task]:
+    """Gets the list of tasks, and warns if the campaign file changed since they were listed. A list of another campaign
+    file is refused."""
+    root, listed = campaign.root, plan_file(campaign.root)
     try:
-        with open(plan_file(root), encoding="utf-8", errors="surrogateescape") as file:
-            return [replace(task_of(json.loads(line)), root=str(root)) for line in file]
+        with open(listed, encoding="utf-8", errors="surrogateescape") as file:
+            origin = json.loads(next(file, ""))
+            said = str(origin["file"]), str(origin["hash"])
+            tasks = [replace(task_of(json.loads(line)), root=str(root)) for line in file]
     except FileNotFoundError as error:
         raise failure(DEVICE, f"no tasks in {root}: `afdx-campaign run` lists them") from error
     except OSError as error:
-        raise file_failure(f"read {plan_file(root)}", error) from error
+        raise file_failure(f"read {listed}", error) from error
     except (AttributeError, LookupError, TypeError, ValueError) as error:
-        raise failure(DEVICE, f"no list of tasks, or one of another version: {plan_file(root)}: "
+        raise failure(DEVICE, f"no list of tasks, or one of another version: {listed}: "
                               "`afdx-campaign run` lists them") from error
+    check_origin(campaign, *said)
+    return tasks
+
+
+def check_origin(campaign: Campaign, file: str, said: str) -> None:
+    """Refuses a list of another campaign file, and warns if this one changed since the tasks were listed."""
+    origin = origin_of(campaign)
+    if file != origin["file"]:
+        other = os.path.normpath(campaign.root / file)
+        raise failure(DEVICE, f"the tasks in {campaign.root} are of {other}: `afdx-campaign run` lists those of "
+                              f"{campaign.file}")
+    if said != origin["hash"]:
+        tell(f"{COMMAND}: {campaign.file} changed since its tasks were listed: `afdx-campaign run` lists them anew")
