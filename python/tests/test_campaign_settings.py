@@ -74,7 +74,8 @@ def test_a_list_of_tasks_is_of_one_campaign_file(tmp_path: Path, capsys: pytest.
         with pytest.raises(Failure) as failure:
             main([words[0], str(other), *words[1:]])
         assert (failure.value.status, failure.value.lines) == (5, (
-            f"afdx-campaign: the tasks in {tmp_path}/campaign are of {file}: `afdx-campaign run` lists those of {other}",))
+            f"afdx-campaign: the tasks in {tmp_path}/campaign are of {file}: "
+            f"`afdx-campaign run` lists those of {other}",))
     assert main(["status", str(file)]) == 0
     file.write_text(file.read_text() + "# a remark\n")
     assert main(["status", str(file)]) == 0

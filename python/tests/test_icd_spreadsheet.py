@@ -142,6 +142,16 @@ def test_a_heading_of_merged_cells_is_above_each_of_their_columns(tmp_path: Path
 
 
 UTF_16 = "zero bytes, as UTF-16 has them: it has to be UTF-8"
+NO_XLSX = "a spreadsheet that is no .xlsx: save it as .xlsx or .csv"
+
+
+def test_a_workbook_with_lists_to_choose_from_is_read_without_a_warning(
+        tmp_path: Path, recwarn: pytest.WarningsRecorder) -> None:
+    """openpyxl warns that it would not save them."""
+    choices = b'</sheetData><extLst><ext uri="{CCE6A557-97BC-4b89-ADB6-D9C93CAAB3DF}"/></extLst>'
+    text = changed(workbook([["id"], [1]]), "xl/worksheets/sheet1.xml", {b"</sheetData>": choices})
+    assert read(tmp_path / "list.xlsx", text) == [Row(1, ["id"]), Row(2, ["1"])]
+    assert not recwarn.list
 
 
 @pytest.mark.parametrize("name, text, line", [
@@ -151,6 +161,8 @@ UTF_16 = "zero bytes, as UTF-16 has them: it has to be UTF-8"
     ("list.csv", "id,to\n1,A\n".encode("utf-16-be"), f"{UTF_16}, {{}} line 1"),
     ("list.csv", b"id,to\n1,A\0", f"{UTF_16}, {{}} line 2"),
     ("list.csv", b'id,"to"x\n', "not separated values: ',' expected after '\"', {}"),
+    ("list.ods", workbook([["id"]]), f"{NO_XLSX}, {{}}"),
+    ("list.xls", b"\xd0\xcf\x11\xe0\xa1\xb1\x1a\xe1" + bytes(504), f"{NO_XLSX}, {{}}"),
     ("list.xlsx", b"id,to\n", "not a workbook that can be read, {}")])
 def test_files_that_are_no_lists(tmp_path: Path, name: str, text: bytes, line: str) -> None:
     with pytest.raises(Failure) as ended:

@@ -2,6 +2,7 @@
 import csv
 import io
 import re
+import warnings
 from collections.abc import Iterable
 from dataclasses import dataclass
 from pathlib import Path
@@ -18,6 +19,7 @@ from afdx.failure import INPUT, Failure
 SEPARATORS = (",", "\t", ";")
 SAID = re.compile(r"sep=([,;\t])[,;\t]*\r?\n")
 WORKBOOK, CHAIN = "xl/workbook.xml", "xl/calcChain.xml"  # parts of an .xlsx: the second is Excel's, if it computed
+BOOKS = (b"PK\3\4", b"\xd0\xcf\x11\xe0")  # what .xlsm and .ods begin with, and what .xls does
 UNCOMPUTED = "0"  # the value of a formula that XlsxWriter did not compute
 PARTS = "{http://schemas.openxmlformats.org/spreadsheetml/2006/main}"  # before the tag of each part of a workbook
 
@@ -141,9 +143,13 @@ def rows_of(command: str, path: Path) -> list[Row]:
     text = files.get(command, path)
     if path.suffix.lower() == ".xlsx":
         try:
-            return workbook_rows(text)
+            with warnings.catch_warnings():
+                warnings.simplefilter("ignore")  # openpyxl's are of what no value is in, as lists to choose from
+                return workbook_rows(text)
         except Exception as error:  # what the readers of ZIP and XML below openpyxl raise is nowhere listed
             raise Failure(INPUT, f"{command}: not a workbook that can be read, {path}") from error
+    if text.startswith(BOOKS):
+        raise Failure(INPUT, f"{command}: a spreadsheet that is no .xlsx: save it as .xlsx or .csv, {path}")
     if b"\0" in text:
         line = text.count(b"\n", 0, text.index(b"\0")) + 1
         raise Failure(INPUT, f"{command}: zero bytes, as UTF-16 has them: it has to be UTF-8, {path} line {line}")
