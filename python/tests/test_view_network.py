@@ -6,7 +6,8 @@ from pathlib import Path
 import numpy
 import pytest
 
-from afdx.failure import USAGE, Failure
+from afdx import networks
+from afdx.failure import INPUT, USAGE, Failure
 from afdx.program import Progress
 from afdx.view import arrivals, command
 from afdx.view.network import answers, following, layout, picture, run, verdict
@@ -23,9 +24,9 @@ def piece(request: pytest.FixtureRequest, monkeypatch: pytest.MonkeyPatch) -> No
     monkeypatch.setattr(arrivals, "ROWS", request.param)
 
 
-def test_a_network_file_has_switches() -> None:
-    assert layout.is_network({"switch": [], "wire": []})
-    assert not layout.is_network({}) and not layout.is_network({"port": [], "link": []})
+def test_a_network_file_has_switches_or_wires() -> None:
+    assert networks.is_network({"switch": []}) and networks.is_network({"wire": []})
+    assert not networks.is_network({}) and not networks.is_network({"port": [], "link": []})
 
 
 def test_the_layout_of_a_network_file() -> None:
@@ -252,6 +253,21 @@ def test_no_frames(tmp_path: Path, monkeypatch: pytest.MonkeyPatch) -> None:
     assert (found.first, found.totals.frames, {way.sent for way in found.ways}) == (None, 0, {0})
     text = page(found, "", Provenance([], [], "", "", ""), Progress("test"))
     assert "<b>No frame came in.</b>" in text and "1970" not in text
+
+
+@pytest.mark.parametrize("text", ["switch = []\n", "wire = []\n"])
+def test_a_network_without_switches(tmp_path: Path, monkeypatch: pytest.MonkeyPatch, text: str) -> None:
+    monkeypatch.chdir(tmp_path)
+    Path("net.toml").write_text(text)
+    assert command.main(["net.toml", ".", "page.html"]) == 0
+    assert "<b>No frame came in.</b>" in Path("page.html").read_text("utf-8")
+
+
+def test_a_network_file_of_wires_alone(tmp_path: Path) -> None:
+    (tmp_path / "net.toml").write_text('[[wire]]\nfrom = "A.1"\nto = "B.1"\n')
+    with pytest.raises(Failure) as caught:
+        command.main([str(tmp_path / "net.toml"), str(tmp_path), str(tmp_path / "page.html")])
+    assert (caught.value.status, caught.value.lines) == (INPUT, ("afdx: network G3 NoSuchSwitch, wire 1",))
 
 
 @pytest.mark.parametrize("options", [["--answers", "."], ["--recorded", "."]])

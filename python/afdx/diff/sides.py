@@ -4,7 +4,7 @@ from dataclasses import dataclass
 from pathlib import Path
 from typing import Any
 
-from afdx import printed, toml
+from afdx import networks, printed, toml
 from afdx.diff import rows
 from afdx.diff.facts import NONE, Facts, Place
 from afdx.failure import LOAD, Failure
@@ -22,7 +22,7 @@ class Side:
     facts: Facts
 
     def is_network(self) -> bool:
-        return "switch" in self.content or "wire" in self.content
+        return networks.is_network(self.content)
 
 
 def refuse(program: Program, path: Path, answer: Answer) -> None:

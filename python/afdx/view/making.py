@@ -14,13 +14,12 @@ from functools import partial
 from pathlib import Path
 from typing import TYPE_CHECKING
 
-from afdx import files, signals, toml
+from afdx import files, networks, signals, toml
 from afdx.failure import DEVICE, USAGE, Failure, failing
 from afdx.printed import CSV
 from afdx.program import Program, Progress
 from afdx.view import answers, provenance
 from afdx.view.answers import Answers
-from afdx.view.network import layout
 from afdx.view.table import Table, table_of
 
 if TYPE_CHECKING:
@@ -204,7 +203,7 @@ def is_network(command: str, options: argparse.Namespace) -> bool:
     is wrong with it."""
     try:
         answers.need_files(command, [options.table])
-        return layout.is_network(toml.read(command, Path(options.table)))
+        return networks.is_network(toml.read(command, Path(options.table)))
     except Failure as failure:
         if failure.status == USAGE:
             raise

@@ -46,11 +46,6 @@ class Layout:
         return {wire.start: wire for wire in self.wires if not wire.down}
 
 
-def is_network(content: dict[str, Any]) -> bool:
-    """Says whether a text is a network file and not a table: it alone has switches."""
-    return "switch" in content
-
-
 def wire_of(row: dict[str, Any], down: frozenset[str]) -> Wire:
     """Answers a wire, which is down if a switch at one of its ends is."""
     start, end = port_of(row["from"]), port_of(row["to"])
@@ -61,7 +56,8 @@ def wire_of(row: dict[str, Any], down: frozenset[str]) -> Wire:
 def layout_of(content: dict[str, Any], folder: Path) -> Layout:
     """Answers the network of a text that the program has accepted as one, in a file of this folder; of another text
     KeyError, TypeError, ValueError or AttributeError may be raised."""
-    tables = {str(row["name"]): folder / str(row["table"]) for row in content["switch"]}
-    down = frozenset(str(row["name"]) for row in content["switch"] if row.get("down", False))
+    switches = content.get("switch", [])
+    tables = {str(row["name"]): folder / str(row["table"]) for row in switches}
+    down = frozenset(str(row["name"]) for row in switches if row.get("down", False))
     wires = [wire_of(row, down) for row in content.get("wire", [])]
     return Layout(tables, wires, down)

@@ -191,8 +191,8 @@ def wired(run: NetworkRun, drawing: Drawing) -> Drawing:
 
 
 def drawings(run: NetworkRun) -> list[Drawing]:
-    """Draws the network for wide and for narrow places: by columns, and all in one."""
+    """Draws the network for wide and for narrow places, by columns and all in one, if it has a switch."""
     columns, said = columns_of(run.asked.layout), box_lines(run)
     down = run.asked.layout.down
     return [wired(run, placed(form, said, down))
-            for form in (columns, [[switch for own in columns for switch in own]])]
+            for form in (columns, [[switch for own in columns for switch in own]]) if columns]
