@@ -1,4 +1,6 @@
 """How engines hand tasks on."""
+import os
+import shlex
 import subprocess
 import sys
 import threading
@@ -46,6 +48,18 @@ def test_jobs_have_all_tasks_once_and_no_more_bytes_than_a_job_may(tmp_path: Pat
     assert [number for job in jobs for number in job] == list(range(len(tasks)))
     assert all(len(job) == 1 or sum(sizes[number] for number in job) <= slurm.JOB_BYTES for job in jobs)
     assert max(map(len, jobs)) == slurm.JOB_TASKS
+
+
+def test_slurm_gets_paths_as_they_are(tmp_path: Path, monkeypatch: pytest.MonkeyPatch) -> None:
+    """In `--output` a percent sign begins a pattern."""
+    root = tmp_path / os.fsdecode(b"100%j \xff")
+    (tmp_path / "sbatch").write_text(f'#!/bin/sh\nprintf "%s\\n" "$@" >{tmp_path}/words\ncat >{tmp_path}/job\necho 7\n')
+    (tmp_path / "sbatch").chmod(0o755)
+    monkeypatch.setenv("PATH", str(tmp_path), prepend=":")
+    queued = slurm.Round([task(tmp_path)], [[0]], Options(root, "slurm", 1, 1.0, lambda *_: None))
+    assert queued.submit() == "7"
+    assert f"--output={tmp_path}/100%%j ".encode() + b"\xff/slurm.log\n" in (tmp_path / "words").read_bytes()
+    assert os.fsencode(shlex.quote(str(queued.file))) in (tmp_path / "job").read_bytes()
 
 
 @pytest.mark.parametrize("future", [

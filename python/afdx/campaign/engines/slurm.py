@@ -86,15 +86,17 @@ class Round:
         self.file.unlink()
 
     def submit(self) -> str:
-        """Has Slurm queue the array; answers its number."""
+        """Has Slurm queue the array; answers its number. A percent sign of a path is no pattern, and a path that is not
+        UTF-8 goes there as it is."""
         need = max(self.tasks[number].memory for number in self.waiting)
         partition = self.options.address.partition(":")[2]
         command = ["sbatch", "--parsable", "--requeue", "--ntasks=1", "--job-name=afdx-campaign",
                    f"--array=0-{len(self.jobs) - 1}%{self.options.jobs}", f"--mem={-(-need // (1 << 20))}M",
-                   f"--output={self.options.root}/slurm.log", "--open-mode=append",
+                   f"--output={self.options.root}/slurm.log".replace("%", "%%"), "--open-mode=append",
                    *([f"--partition={partition}"] if partition else [])]
         try:
-            said = subprocess.run(command, input=self.script(), capture_output=True, text=True, check=False)
+            said = subprocess.run(command, input=self.script(), capture_output=True, errors="surrogateescape",
+                                  check=False)
         except OSError as error:
             raise file_failure("run sbatch", error) from error
         if said.returncode:
