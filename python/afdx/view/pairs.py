@@ -3,11 +3,12 @@ from dataclasses import dataclass
 
 from afdx import printed
 from afdx.view.arrivals import Fates
+from afdx.view.bounded import Sender
 from afdx.view.table import Table
 
 
 @dataclass
-class Pair:
+class Pair(Sender):
     """A link at one of its output ports. Times are in ns."""
     link: int
     port: int
@@ -24,15 +25,6 @@ class Pair:
     @property
     def lost(self) -> int:
         return self.full + self.aged
-
-    @property
-    def slack(self) -> int | None:
-        return None if self.bound is None or self.greatest is None else self.bound - self.greatest
-
-    @property
-    def share(self) -> float | None:
-        """Answers which part of its bound the greatest delay took."""
-        return None if self.bound is None or self.greatest is None else self.greatest / self.bound
 
 
 def pairs_of(measured: str, table: Table, fates: Fates) -> list[Pair]:

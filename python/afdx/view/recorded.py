@@ -4,6 +4,7 @@ from dataclasses import dataclass
 from afdx import printed
 from afdx.view.answers import Compared
 from afdx.view.arrivals import Fates
+from afdx.view.bounded import Bounded
 from afdx.view.differences import KINDS, Differences, Place
 from afdx.view.differences import read as read_differences
 from afdx.view.pairs import Pair
@@ -18,7 +19,7 @@ def word_of(conforms: bool) -> str:
 
 
 @dataclass(frozen=True)
-class Recorded:
+class Recorded(Bounded):
     """A link at an output port that was recorded, beside the same of the model. Times are in ns."""
     model: Pair
     passed: int
@@ -38,11 +39,6 @@ class Recorded:
     @property
     def paired(self) -> int:
         return self.seen - self.differences["extra"] - self.before
-
-    @property
-    def share(self) -> float | None:
-        """Answers which part of its bound the greatest delay took."""
-        return None if self.greatest is None else self.greatest / self.bound
 
     @property
     def between(self) -> tuple[int, int] | None:

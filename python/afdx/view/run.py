@@ -1,12 +1,13 @@
 """Puts together what the page shows of a run."""
 from dataclasses import dataclass
-from typing import Protocol, TypeVar
+from typing import TypeVar
 
 from afdx import printed
 from afdx.program import Progress
 from afdx.view import departures, recorded
 from afdx.view.answers import Answers
 from afdx.view.arrivals import Fates, Policed, read_fates, read_policed
+from afdx.view.bounded import Sender
 from afdx.view.departures import PRIORITIES, Drawn
 from afdx.view.greatest import Greatest
 from afdx.view.pairs import Pair, pairs_of
@@ -20,17 +21,7 @@ PORT_PARTS = 300  # of the picture of a port
 RUN_PARTS = 600  # of the picture of the run
 
 
-class Sender(Protocol):
-    """Is what a strip is of: what sent so many frames, with their greatest delay."""
-    sent: int
-    greatest: int | None
-
-    @property
-    def share(self) -> float | None:
-        """Answers which part of its bound the greatest delay took."""
-
-
-Timed = TypeVar("Timed", bound=Sender)
+Timed = TypeVar("Timed", bound=Sender)  # what a strip is of
 
 
 @dataclass

@@ -5,6 +5,7 @@ from dataclasses import dataclass
 import numpy
 
 from afdx import printed
+from afdx.view.bounded import Sender
 from afdx.view.departures import PRIORITIES
 from afdx.view.greatest import Floats, Greatest, Ints
 from afdx.view.network.answers import Asked
@@ -16,7 +17,7 @@ NONE = 2**63 - 1
 
 
 @dataclass
-class Way:
+class Way(Sender):
     """A link from the port of an end system to one at which it leaves the network. Times are in ns."""
     link: int
     start: Port
@@ -31,15 +32,6 @@ class Way:
     sent: int = 0
     least: int | None = None  # None where nothing was sent
     greatest: int | None = None
-
-    @property
-    def slack(self) -> int | None:
-        return None if self.bound is None or self.greatest is None else self.bound - self.greatest
-
-    @property
-    def share(self) -> float | None:
-        """Answers which part of its bound the greatest delay took."""
-        return None if self.bound is None or self.greatest is None else self.greatest / self.bound
 
 
 @dataclass(frozen=True)
