@@ -1,4 +1,5 @@
 """The offset and the drift between two recorders."""
+import os
 import random
 from collections.abc import Callable
 from pathlib import Path
@@ -7,6 +8,7 @@ import numpy as np
 import pytest
 
 import captures
+from afdx import toml
 from afdx.failure import Failure
 from afdx.importing.alignment import MOST_KEPT, Sampler, aligned, sightings
 from afdx.importing.command import main
@@ -83,6 +85,18 @@ def test_where_the_drift_counts_from(tmp_path: Path, capsys: pytest.CaptureFixtu
     assert main([str(tmp_path / "rules.toml"), str(tmp_path), str(tmp_path / "in")]) == 0
     moved = captures.read((tmp_path / "in" / "port-1.pcap").read_bytes())[0]
     assert [one.stamp for one in moved] == [AT - 3600 * SECOND + 3601 * 20_000, marks[0].stamp, marks[1].stamp - 1]
+
+
+@pytest.mark.parametrize("name, shown", [(b"a\nb", "a\\nb"), (b"\xff", "\\udcff"), ("ä b".encode(), "ä b")])
+def test_names_that_no_comment_can_have(tmp_path: Path, capsys: pytest.CaptureFixture[str], name: bytes,
+                                        shown: str) -> None:
+    """The rules that are printed are TOML all the same."""
+    path = tmp_path / os.fsdecode(name)
+    path.write_bytes(captures.pcap([Record(AT, frame(1, 1))]))
+    assert main(["--align", str(path), str(path)]) == 0
+    said = capsys.readouterr().out
+    assert toml.content(said.encode()).keys() == {"offset_ns", "drift_ppb"}
+    assert f"{tmp_path}/{shown} by the clock of {tmp_path}/{shown}: " in said.splitlines()[0]
 
 
 def test_a_recording_that_breaks_off(tmp_path: Path, capsys: pytest.CaptureFixture[str]) -> None:

@@ -102,10 +102,17 @@ def port_notes(ports: dict[str, Port]) -> Iterator[str]:
         yield f"warning: the first frames lie {apart:.3f} s apart, {firsts[0][1]} and {firsts[-1][1]}"
 
 
+def in_comment(path: Path) -> str:
+    """Answers a file's name as a comment of TOML may have it: what cannot be printed, and bytes that are not UTF-8, by
+    their numbers."""
+    return "".join(sign if sign.isprintable() else ascii(sign)[1:-1] for sign in str(path))
+
+
 def alignment_text(first: Path, second: Path, found: Alignment) -> str:
     """Answers the rules for the second recording, to be pasted, with what they rest on."""
     least, low, high, greatest = (round(part) for part in np.percentile(found.residues, [0, 25, 75, 100]))
     anchor = f"drift_from_ns = {found.drift_from_ns}\n" if found.drift_ppb else ""
-    return (f"# {second} by the clock of {first}: {found.pairs} frames in both, over {found.seconds:.3f} s\n"
+    names = f"{in_comment(second)} by the clock of {in_comment(first)}"
+    return (f"# {names}: {found.pairs} frames in both, over {found.seconds:.3f} s\n"
             f"# beside this they differ by {least} to {greatest} ns, half of them by {low} to {high} ns\n"
             f"offset_ns = {found.offset_ns}\ndrift_ppb = {found.drift_ppb}\n{anchor}")
