@@ -284,12 +284,11 @@ def other_terms(wire: Wire, here: Row, there: Row) -> str | None:
 def rows_agree(net: Network) -> None:
     """Rule by rule: by wire, then by the row of the switch that sends."""
     rules: list[Callable[[Wire, Row, Any], str | None]] = [no_row, other_port, other_terms]
+    rows = [(wire, row, row_of(net, wire.end.switch, row.link.id)) for wire in net.wires for row in rows_on(net, wire)]
     for rule in rules:
-        for wire in net.wires:
-            for row in rows_on(net, wire):
-                fault = rule(wire, row, row_of(net, wire.end.switch, row.link.id))
-                if fault:
-                    refuse(fault, wire.place, f"link {row.link.id}")
+        for wire, here, there in rows:
+            if fault := rule(wire, here, there):
+                refuse(fault, wire.place, f"link {here.link.id}")
 
 
 def row_before(net: Network, row: Row) -> tuple[Wire, Row | None] | None:
@@ -348,14 +347,10 @@ def texts_agree(net: Network) -> None:
 def loads_fit(net: Network, rules: list[str] | None = None) -> None:
     """The load of each table, by all rules or by these."""
     for name in net.names:
-        for port, load in model.loads_of(net.tables[name], scatter_of(net, name)):
-            for rule, need, limit in load.rules:
-                if need > limit and (rules is None or rule in rules):
-                    refuse_load(f"{rule}, port {port.id}, need {need}, limit {limit}", name)
-
-
-def refuse_load(fault: str, name: str) -> NoReturn:
-    raise Refused(f"afdx: load {fault}, switch {name}", 4)
+        loads = model.loads_of(net.tables[name], scatter_of(net, name))
+        for port, rule, need, limit in ((port, *asked) for port, load in loads for asked in load.rules):
+            if need > limit and (rules is None or rule in rules):
+                raise Refused(f"afdx: load {rule}, port {port.id}, need {need}, limit {limit}, switch {name}", 4)
 
 
 # --- Delays and jitters ---

@@ -377,43 +377,46 @@ def reads(name: str, text: str | bytes) -> None:
     network_model.layout_of(text if isinstance(text, bytes) else text.encode())
 
 
+WHOLE = layout("AB", "A.3 B.1 25", "B.3 A.1")
+FILE_REFUSALS: list[tuple[str, str | bytes, str]] = [
+    ("no UTF-8", b"\xff", "G1 Toml"),
+    ("no TOML", "version = \n", "G1 Toml"),
+    ("a key twice", "version = 1\nversion = 1\n", "G1 Toml"),
+    ("key of the top", "links = 1\n" + WHOLE, "G2 UnknownKey, top"),
+    ("key of a switch", WHOLE.replace('table = "B.toml"', 'table = "B.toml"\nport = 1'), "G2 UnknownKey, switch 2"),
+    ("key of a wire", WHOLE.replace("delay_ns", "delay_us"), "G2 UnknownKey, wire 1"),
+    ("no name", WHOLE.replace('name = "A"\n', ""), "G2 MissingKey, switch 1, name"),
+    ("no table", WHOLE.replace('table = "B.toml"\n', ""), "G2 MissingKey, switch 2, table"),
+    ("no end", WHOLE.replace('to = "A.1"\n', ""), "G2 MissingKey, wire 2, to"),
+    ("version as a text", WHOLE.replace("version = 1", 'version = "1"'), "G2 Kind, top, version"),
+    ("one line as a number", "one_line = 1\nswitch = 3\n", "G2 Kind, top, one_line"),
+    ("version before one line", "one_line = 1\nversion = 2\n", "G2 Range, top, version"),
+    ("one line of a switch", WHOLE.replace('table = "B.toml"', 'table = "B.toml"\none_line = true'), "G2 UnknownKey, switch 2"),
+    ("one switch", "switch = 3\n", "G2 Kind, top, switch"),
+    ("delay as a text", WHOLE.replace("= 25", '= "25"'), "G2 Kind, wire 1, delay_ns"),
+    ("a later version", WHOLE.replace("version = 1", "version = 2"), "G2 Range, top, version"),
+    ("name of two words", WHOLE.replace('"A"', '"A B"'), "G2 Range, switch 1, name"),
+    ("name of 17", WHOLE.replace('"A"', f'"{"A" * 17}"'), "G2 Range, switch 1, name"),
+    ("no path", WHOLE.replace('"A.toml"', '""'), "G2 Range, switch 1, table"),
+    ("port 25", WHOLE.replace("A.3", "A.25"), "G2 Range, wire 1, from"),
+    ("port 0", WHOLE.replace("A.3", "A.0"), "G2 Range, wire 1, from"),
+    ("port 03", WHOLE.replace("A.3", "A.03"), "G2 Range, wire 1, from"),
+    ("no port", WHOLE.replace("B.1", "B"), "G2 Range, wire 1, to"),
+    ("delay past 1 ms", WHOLE.replace("= 25", "= 1000001"), "G2 Range, wire 1, delay_ns"),
+    ("delay below 0", WHOLE.replace("= 25", "= -1"), "G2 Range, wire 1, delay_ns"),
+    ("65 switches", layout([f"S{number}" for number in range(65)]), "G2 Range, top, switch"),
+    ("two of a name", layout("ABA"), "G3 TwiceSwitch, switch 3"),
+    ("no such switch", layout("AB", "A.3 B.1", "A.4 C.1"), "G3 NoSuchSwitch, wire 2"),
+    ("two from a port", layout("ABC", "A.3 B.1", "A.3 C.1"), "G3 TwiceFrom, wire 2"),
+    ("two to a port", layout("ABC", "A.3 C.1", "B.3 C.1"), "G3 TwiceTo, wire 2"),
+    ("own port", layout("A", "A.3 A.3"), "G3 OwnPort, wire 1"),
+    ("a switch before a wire", layout("AA", "A.25 B.1"), "G3 TwiceSwitch, switch 2"),
+    ("a wire before the next", layout("AB", "A.3 C.1", "A.25 B.1"), "G3 NoSuchSwitch, wire 1"),
+]
+
+
 def file_refusals() -> None:
-    whole = layout("AB", "A.3 B.1 25", "B.3 A.1")
-    for name, text, fault in (
-        ("no UTF-8", b"\xff", "G1 Toml"),
-        ("no TOML", "version = \n", "G1 Toml"),
-        ("a key twice", "version = 1\nversion = 1\n", "G1 Toml"),
-        ("key of the top", "links = 1\n" + whole, "G2 UnknownKey, top"),
-        ("key of a switch", whole.replace('table = "B.toml"', 'table = "B.toml"\nport = 1'), "G2 UnknownKey, switch 2"),
-        ("key of a wire", whole.replace("delay_ns", "delay_us"), "G2 UnknownKey, wire 1"),
-        ("no name", whole.replace('name = "A"\n', ""), "G2 MissingKey, switch 1, name"),
-        ("no table", whole.replace('table = "B.toml"\n', ""), "G2 MissingKey, switch 2, table"),
-        ("no end", whole.replace('to = "A.1"\n', ""), "G2 MissingKey, wire 2, to"),
-        ("version as a text", whole.replace("version = 1", 'version = "1"'), "G2 Kind, top, version"),
-        ("one line as a number", "one_line = 1\nswitch = 3\n", "G2 Kind, top, one_line"),
-        ("version before one line", "one_line = 1\nversion = 2\n", "G2 Range, top, version"),
-        ("one line of a switch", whole.replace('table = "B.toml"', 'table = "B.toml"\none_line = true'), "G2 UnknownKey, switch 2"),
-        ("one switch", "switch = 3\n", "G2 Kind, top, switch"),
-        ("delay as a text", whole.replace("= 25", '= "25"'), "G2 Kind, wire 1, delay_ns"),
-        ("a later version", whole.replace("version = 1", "version = 2"), "G2 Range, top, version"),
-        ("name of two words", whole.replace('"A"', '"A B"'), "G2 Range, switch 1, name"),
-        ("name of 17", whole.replace('"A"', f'"{"A" * 17}"'), "G2 Range, switch 1, name"),
-        ("no path", whole.replace('"A.toml"', '""'), "G2 Range, switch 1, table"),
-        ("port 25", whole.replace("A.3", "A.25"), "G2 Range, wire 1, from"),
-        ("port 0", whole.replace("A.3", "A.0"), "G2 Range, wire 1, from"),
-        ("port 03", whole.replace("A.3", "A.03"), "G2 Range, wire 1, from"),
-        ("no port", whole.replace("B.1", "B"), "G2 Range, wire 1, to"),
-        ("delay past 1 ms", whole.replace("= 25", "= 1000001"), "G2 Range, wire 1, delay_ns"),
-        ("delay below 0", whole.replace("= 25", "= -1"), "G2 Range, wire 1, delay_ns"),
-        ("65 switches", layout([f"S{number}" for number in range(65)]), "G2 Range, top, switch"),
-        ("two of a name", layout("ABA"), "G3 TwiceSwitch, switch 3"),
-        ("no such switch", layout("AB", "A.3 B.1", "A.4 C.1"), "G3 NoSuchSwitch, wire 2"),
-        ("two from a port", layout("ABC", "A.3 B.1", "A.3 C.1"), "G3 TwiceFrom, wire 2"),
-        ("two to a port", layout("ABC", "A.3 C.1", "B.3 C.1"), "G3 TwiceTo, wire 2"),
-        ("own port", layout("A", "A.3 A.3"), "G3 OwnPort, wire 1"),
-        ("a switch before a wire", layout("AA", "A.25 B.1"), "G3 TwiceSwitch, switch 2"),
-        ("a wire before the next", layout("AB", "A.3 C.1", "A.25 B.1"), "G3 NoSuchSwitch, wire 1"),
-    ):
+    for name, text, fault in FILE_REFUSALS:
         refuses(name, f"afdx: network {fault}", 3, reads, name, text)
     names = ["A" * 16, "a-b_9"]
     greatest = layout(names, f"{names[0]}.24 {names[1]}.1 1000000", f"{names[1]}.9 {names[0]}.10 0")

@@ -57,6 +57,7 @@ ROOTS = [
 BY_VALUE_ALONE = ["Session.Model"]
 
 WORD = r"[A-Za-z_][A-Za-z0-9_']*"
+BEGIN = re.compile(r"(abbrev|unfoldable|opaque|pub record|pub data|record |data )")
 DEFINITION = re.compile(r"^(?:(?:abbrev|unfoldable|opaque) )?(?:pub )?(?:(?:record|data) )?(?P<name>\S+) ")
 
 
@@ -86,11 +87,9 @@ def defined_in(file: str) -> dict[str, str]:
     """The definitions of a file by their names: each is a paragraph, with the comment above it."""
     found: dict[str, str] = {}
     for part in paragraphs(read(file)):
-        for line in part.split("\n"):
-            if re.match(r"(abbrev|unfoldable|opaque|pub record|pub data|record |data )", line):
-                if match := DEFINITION.match(line):
-                    found[match["name"]] = part
-                break
+        first = next(filter(BEGIN.match, part.split("\n")), "")
+        if match := DEFINITION.match(first):
+            found[match["name"]] = part
     return found
 
 

@@ -90,22 +90,26 @@ class Pcapng(Form):
         return self.long > 0
 
     def batches(self, data: bytes) -> Iterator[Batch]:
-        at = self.passed(data)
-        origin = Origin(self.place, self.count + 1, self.offset - (at or 0))
         parts: list[Batch] = []
         try:
-            while at is not None:
-                places, at = walk(data, at, self.order)
-                if places:
-                    for part in self.up_to_fault(partial(self.packets, data, origin), np.array(places), origin):
-                        parts.append(part)
-                    self.count += len(places)
-                self.used, self.offset = at, origin.offset + at
-                at = self.in_turn(data, at)
+            for part in self.parts(data):
+                parts.append(part)
         except RecordingFault:
             yield from joined(parts)
             raise
         yield from joined(parts)
+
+    def parts(self, data: bytes) -> Iterator[Batch]:
+        """Answers the packets between blocks that are taken in turn, up to the first fault, which it raises."""
+        at = self.passed(data)
+        origin = Origin(self.place, self.count + 1, self.offset - (at or 0))
+        while at is not None:
+            places, at = walk(data, at, self.order)
+            if places:
+                yield from self.up_to_fault(partial(self.packets, data, origin), np.array(places), origin)
+                self.count += len(places)
+            self.used, self.offset = at, origin.offset + at
+            at = self.in_turn(data, at)
 
     def packets(self, data: bytes, origin: Origin, at: Column) -> Batch:
         """Answers the packets of these blocks."""
