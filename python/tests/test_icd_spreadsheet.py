@@ -136,6 +136,24 @@ def test_formulas_that_no_program_has_computed(tmp_path: Path, said: str, chain:
     assert isinstance(rows[1].cells[1], Formula) == (not is_computed)
 
 
+ARRAY = "=E2:E3*2"
+
+
+@pytest.mark.parametrize("value, other, own, others", [
+    ("<v>0</v>", 0, ARRAY, ARRAY), ("<v>7</v>", 0, "7", ARRAY), ("<v>7</v>", 3, "7", "3"), ("", None, ARRAY, ARRAY)])
+def test_the_formula_of_an_array_that_no_program_has_computed(tmp_path: Path, value: str, other: object, own: str,
+                                                              others: str) -> None:
+    """It stands in its first cell alone. XlsxWriter saves 0 in all, or a value in those for which it is given one;
+    openpyxl saves no value."""
+    text = workbook([["id", "x", "jitter_us", ""], [1, "=E2", other, 8], [2, other, other, 8], [3, 0, 0, 8]])
+    text = changed(text, "xl/worksheets/sheet1.xml", {
+        b"<f>E2</f><v></v>": f'<f t="array" ref="B2:C3">{ARRAY[1:]}</f>{value}'.encode()})
+    rows = read(tmp_path / "list.xlsx", text)
+    assert rows[1:] == [
+        Row(2, ["1", own, others, "8"]), Row(3, ["2", others, others, "8"]), Row(4, ["3", "0", "0", "8"])]
+    assert isinstance(rows[2].cells[2], Formula) == (others == ARRAY)
+
+
 def test_a_heading_of_merged_cells_is_above_each_of_their_columns(tmp_path: Path) -> None:
     text = workbook([["id", "to"], [], [1, "A", "B"]], "A1:A2", "B1:C2")
     assert read(tmp_path / "list.xlsx", text) == [Row(1, ["id", "to", "to"]), Row(3, ["1", "A", "B"])]

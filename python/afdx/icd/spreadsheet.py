@@ -3,7 +3,7 @@ import csv
 import io
 import re
 import warnings
-from collections.abc import Iterable
+from collections.abc import Iterable, Iterator
 from dataclasses import dataclass
 from pathlib import Path
 from typing import Any
@@ -22,6 +22,7 @@ WORKBOOK, CHAIN = "xl/workbook.xml", "xl/calcChain.xml"  # parts of an .xlsx: th
 BOOKS = (b"PK\3\4", b"\xd0\xcf\x11\xe0")  # what .xlsm and .ods begin with, and what .xls does
 UNCOMPUTED = "0"  # the value of a formula that XlsxWriter did not compute
 PARTS = "{http://schemas.openxmlformats.org/spreadsheetml/2006/main}"  # before the tag of each part of a workbook
+ROW, MERGED = f"{PARTS}row", f"{PARTS}mergeCell"
 
 
 class Formula(str):
@@ -61,30 +62,52 @@ def is_uncomputed(parts: ZipFile) -> bool:
     return said is not None and said.get("fullCalcOnLoad") in ("1", "true")
 
 
-def formula_of(cell: ElementTree.Element, none: str) -> Formula | None:
-    """Answers the formula of a cell if no value was saved with it, or but this text, which is none; a text without
+def elements_of(sheet: Any) -> Iterator[ElementTree.Element]:
+    """Answers a sheet's rows and merged ranges one by one. What they have beside values openpyxl does not say of a
+    sheet that it reads row by row."""
+    with sheet._get_source() as source:
+        for _, element in ElementTree.iterparse(source):
+            if element.tag in (MERGED, ROW):
+                yield element
+            if element.tag == ROW:
+                element.clear()
+
+
+def is_saved(cell: ElementTree.Element, none: str) -> bool:
+    """Answers whether a value was saved with the formula of a cell, other than this text, which is none; a text without
     characters is a value."""
-    formula, value = cell.findtext(f"{PARTS}f"), cell.find(f"{PARTS}v")
-    is_saved = value is not None and (value.text not in (None, none) or cell.get("t") == "str")
-    return None if formula is None or is_saved else Formula(f"={formula}")
+    value = cell.find(f"{PARTS}v")
+    return value is not None and (value.text not in (None, none) or cell.get("t") == "str")
+
+
+def put_formula(rows: list[Row], line: int, column: int, cell: ElementTree.Element, none: str) -> None:
+    """Puts the formula of a cell where it has no value: there, and of an array's formula, which stands in the first
+    cell alone, also in the others of its range that are empty or have the text that is none."""
+    formula = cell.find(f"{PARTS}f")
+    if formula is None:
+        return
+    text, unsaved = Formula(f"={formula.text or ''}"), {none} - {""}
+    if not is_saved(cell, none):
+        rows[line - 1].cells[column - 1] = text
+        unsaved.add("")
+    if formula.get("t") == "array" and "ref" in formula.attrib:
+        left, top, right, bottom = range_boundaries(formula.attrib["ref"])
+        for row in rows[top - 1:bottom]:
+            row.cells[left - 1:right] = [text if own in unsaved else own for own in row.cells[left - 1:right]]
 
 
 def put_formulas(rows: list[Row], sheet: Any, none: str) -> list[str]:
     """Puts formulas without values where they stand, also those whose value is this text, which is none. Answers the
-    ranges of merged cells, A2:B5 for instance. Neither is what openpyxl has of a sheet that it reads row by row."""
+    ranges of merged cells, A2:B5 for instance."""
     ranges, line = [], 0
-    with sheet._get_source() as source:
-        for _, element in ElementTree.iterparse(source):
-            if element.tag == f"{PARTS}mergeCell":
-                ranges.append(element.attrib["ref"])
-            elif element.tag == f"{PARTS}row":
-                line, column = int(element.get("r", line + 1)), 0
-                for cell in element:
-                    column = coordinate_to_tuple(cell.attrib["r"])[1] if "r" in cell.attrib else column + 1
-                    formula = formula_of(cell, none)
-                    if formula is not None:
-                        rows[line - 1].cells[column - 1] = formula
-                element.clear()
+    for element in elements_of(sheet):
+        if element.tag == MERGED:
+            ranges.append(element.attrib["ref"])
+            continue
+        line, column = int(element.get("r", line + 1)), 0
+        for cell in element:
+            column = coordinate_to_tuple(cell.attrib["r"])[1] if "r" in cell.attrib else column + 1
+            put_formula(rows, line, column, cell, none)
     return ranges
 
 
