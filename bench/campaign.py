@@ -20,7 +20,7 @@ sys.path.insert(0, str(Path(__file__).resolve().parents[1] / "python"))
 from afdx.campaign.findings import QUESTIONS  # noqa: E402
 from afdx.campaign.report import put_report  # noqa: E402
 from afdx.campaign.store import collected, store_file  # noqa: E402
-from afdx.campaign.worker.program import Said  # noqa: E402
+from afdx.campaign.worker.program import Said, Used  # noqa: E402
 from afdx.campaign.worker.task import Recording, Table, Task  # noqa: E402
 from afdx.campaign.worker.work import put_answer  # noqa: E402
 
@@ -93,7 +93,7 @@ def main() -> None:
     tasks = tasks_of(root, given.recordings)
     for number, task in enumerate(tasks):
         text = text_of(rows(chance, 10**18 + number * HOUR, given.links))
-        put_answer(task, Said(0, text, ""), "", {"seconds": 5.0, "processor": 4.0, "memory": 10**9, "tries": 1})
+        put_answer(task, Said(0, text, ""), "", Used(5.0, 4.0, 10**9), 1)
     timed("store", lambda: collect(root, tasks))
     print(f"  {store_file(root).stat().st_size / 1e6:.1f} MB")
     with collected(root, tasks) as base:

@@ -36,8 +36,8 @@ def test_the_code_of_a_worker_goes_along_by_value(tmp_path: Path) -> None:
                           check=True)
     assert said.stdout == "(0, True)\n"
     ours, theirs = answer_at(here.answer), answer_at(away.answer)
-    assert ours.pop("how").keys() == theirs.pop("how").keys()
-    assert ours == theirs
+    assert ours["how"].keys() == theirs["how"].keys()
+    assert dict(ours, how={}) == dict(theirs, how={})
 
 
 def test_jobs_have_all_tasks_once_and_no_more_bytes_than_a_job_may(tmp_path: Path) -> None:

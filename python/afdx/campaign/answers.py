@@ -3,10 +3,9 @@ import hashlib
 import json
 from collections.abc import Iterable, Iterator
 from pathlib import Path
-from typing import Any
 
 from afdx.campaign.worker.task import Task
-from afdx.campaign.worker.work import answer_at
+from afdx.campaign.worker.work import Answer, answer_at
 
 ENDING = ".json.gz"
 
@@ -22,7 +21,7 @@ def left_of(root: Path, tasks: list[Task]) -> list[int]:
     return [number for number, task in enumerate(tasks) if task.key not in there]
 
 
-def answered(root: Path, tasks: Iterable[Task]) -> Iterator[tuple[Task, dict[str, Any]]]:
+def answered(root: Path, tasks: Iterable[Task]) -> Iterator[tuple[Task, Answer]]:
     """Answers the tasks that have an answer, each with it."""
     there = keys_there(root)
     for task in tasks:
@@ -34,8 +33,8 @@ def digest(root: Path, tasks: list[Task]) -> str:
     """Answers one hash of all that the answers say, whoever found them, in whatever order and at whatever cost."""
     digest = hashlib.sha256()
     for task, answer in sorted(answered(root, tasks), key=lambda pair: (pair[0].key, pair[0].table.name)):
-        said = [task.key, task.recording.name, task.table.name,
-                *(answer[name] for name in ("status", "fault", "line", "text", "begin"))]
+        said = [task.key, task.recording.name, task.table.name, answer["status"], answer["fault"], answer["line"],
+                answer["text"], answer["begin"]]
         digest.update(json.dumps(said).encode())
     return digest.hexdigest()
 

@@ -10,7 +10,7 @@ from afdx.campaign.failures import failure
 from afdx.campaign.rows import PORT, rows_of
 from afdx.campaign.worker.files import locked
 from afdx.campaign.worker.task import Task
-from afdx.campaign.worker.work import answer_at
+from afdx.campaign.worker.work import Answer, answer_at
 from afdx.failure import DEVICE
 
 VERSION = 2  # of the schema; a store of another one is made again
@@ -122,7 +122,7 @@ def name_tables(base: sqlite3.Connection, tasks: list[Task]) -> dict[str, int]:
     return dict(base.execute("select name, id from tables"))
 
 
-def add(base: sqlite3.Connection, task: Task, table: int, answer: dict[str, Any]) -> None:
+def add(base: sqlite3.Connection, task: Task, table: int, answer: Answer) -> None:
     """Adds an answer."""
     how = answer["how"]
     run = base.execute(

@@ -10,10 +10,10 @@ import time
 import zlib
 from dataclasses import dataclass
 from pathlib import Path
-from typing import Any
+from typing import TypedDict
 
 from afdx.campaign.worker.files import put, scratch_folder
-from afdx.campaign.worker.program import TIMED_OUT, Program, Said
+from afdx.campaign.worker.program import TIMED_OUT, Program, Said, Used
 from afdx.campaign.worker.questions import ask
 from afdx.campaign.worker.stamps import first_stamp
 from afdx.campaign.worker.task import FORM, Task, content_of, identity_of, table_identity
@@ -31,6 +31,32 @@ class Outcome:
     """What became of a try. Without an answer the task has to be tried again."""
     status: int
     answered: bool
+
+
+class How(TypedDict):
+    """Who found an answer, and at what cost."""
+    seconds: float
+    processor: float  # seconds
+    memory: int  # bytes
+    tries: int
+    host: str
+    at: float  # seconds after 1970
+
+
+class Answer(TypedDict):
+    """What the file of an answer has: a function of the task, but for `how`."""
+    form: int
+    key: str
+    recording: str
+    size: int  # bytes
+    table: str
+    ask: str
+    status: int
+    fault: str  # its kind; empty if there is none
+    line: str
+    text: str  # comma-separated values
+    begin: int | None  # ns after 1970
+    how: How
 
 
 class Refused(Exception):
@@ -53,7 +79,7 @@ def work(task: Task, attempt: int) -> Outcome:
         fault, said = refused.fault, Said(refused.status, "", refused.line)
     if fault in AGAIN and attempt < task.tries:
         return Outcome(said.status, False)
-    put_answer(task, said, fault, dict(vars(program.used), tries=attempt))
+    put_answer(task, said, fault, program.used, attempt)
     return Outcome(said.status, True)
 
 
@@ -109,28 +135,29 @@ def program_identity(path: str) -> str:
     return PROGRAMS[version]
 
 
-def put_answer(task: Task, said: Said, fault: str, used: dict[str, Any]) -> None:
-    """Puts an answer: what it is a function of the task, and under `how` who found it and at what cost."""
+def put_answer(task: Task, said: Said, fault: str, used: Used, tries: int) -> None:
+    """Puts an answer."""
     recording, table = task.recording, task.table
-    answer = {
+    answer: Answer = {
         "form": FORM, "key": task.key, "recording": recording.name, "size": recording.size, "table": table.name,
         "ask": task.ask, "status": said.status, "fault": fault, "line": said.line, "text": said.text,
         "begin": first_stamp(os.path.join(recording.folder, file) for file in recording.files),
-        "how": dict(used, host=socket.gethostname(), at=time.time())}
+        "how": {"seconds": used.seconds, "processor": used.processor, "memory": used.memory, "tries": tries,
+                "host": socket.gethostname(), "at": time.time()}}
     text = json.dumps(answer, separators=(",", ":")).encode()
     put(task.answer, lambda file: file.write(gzip.compress(text, 6, mtime=0)))
 
 
 def put_lost(task: Task, line: str) -> None:
     """Puts the fault of a task that ended each worker which tried it."""
-    put_answer(task, Said(LOST, "", line), "lost", {"seconds": 0.0, "processor": 0.0, "memory": 0, "tries": task.tries})
+    put_answer(task, Said(LOST, "", line), "lost", Used(), task.tries)
 
 
-def answer_at(path: Path) -> dict[str, Any]:
+def answer_at(path: Path) -> Answer:
     """Reads an answer. One that something has damaged ends the command with its name, so that it can be removed."""
     try:
         with gzip.open(path) as file:
-            answer: dict[str, Any] = json.load(file)
+            answer: Answer = json.load(file)
         return answer
     except (EOFError, ValueError, zlib.error, gzip.BadGzipFile) as error:
         raise OSError(errno.EIO, "damaged: remove it, and `run` asks again", str(path)) from error
@@ -138,4 +165,4 @@ def answer_at(path: Path) -> dict[str, Any]:
 
 def status_of(path: Path) -> int:
     """Answers the status of an answer."""
-    return int(answer_at(path)["status"])
+    return answer_at(path)["status"]
