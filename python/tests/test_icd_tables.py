@@ -1,4 +1,6 @@
 """The tables of three switches in a triangle, worked out by hand, jitters too."""
+import io
+import sys
 import tomllib
 from pathlib import Path
 
@@ -117,6 +119,13 @@ def test_a_switch_that_one_cable_alone_names(tmp_path: Path, capsys: pytest.Capt
     assert capsys.readouterr().err == (
         "afdx-icd: warning: switch Bx has this cable alone and no end system: is its name right?, "
         f'{paths[2]} line 5, column switch_b, value "Bx"\n')
+
+
+def test_a_warning_that_nobody_takes(tmp_path: Path, monkeypatch: pytest.MonkeyPatch) -> None:
+    paths = worked_lists.write(tmp_path, wires=worked_lists.WIRES + "C,9,Bx,9,100,0\n")
+    with io.TextIOWrapper(open("/dev/full", "wb", buffering=0)) as full:
+        monkeypatch.setattr(sys, "stderr", full)
+        assert "Bx.toml" in made(paths, tmp_path / "net")
 
 
 def test_the_order_of_the_lists_is_no_matter(tmp_path: Path) -> None:

@@ -1,11 +1,10 @@
 """Runs the command afdx-icd."""
 import argparse
-import sys
 from collections.abc import Sequence
 from pathlib import Path
 
 from afdx import files
-from afdx.failure import Failure, failing, say
+from afdx.failure import Failure, failing, say, tell
 from afdx.icd import columns, jitters, mapping, network, routes, tables
 from afdx.icd.complaints import Complaints
 from afdx.icd.lists import List
@@ -50,8 +49,7 @@ def read_all(options: argparse.Namespace, mapped: mapping.Mapping) -> tuple[Netw
     sound = all(order == lists[0].order for order, _ in complaints.rows)
     hops = hops_of(lists[0], read) if sound else {}
     complaints.refuse(COMMAND)
-    for line in complaints.warnings(COMMAND):
-        print(line, file=sys.stderr)
+    tell(*complaints.warnings(COMMAND))
     return read, hops
 
 
