@@ -3,9 +3,9 @@
 
 Each way has its row: bounds and jitters are those of the model, and delays those of frames that are found by their bytes and their
 order, the n-th that the first switch's account passes being the n-th that leaves at the end. So has each end that gets nothing in an
-outage. At 1280, 800 and 400 pixels all holds that
-holds of the page of one switch (view_page.py). The drawing has a box for each switch, which leads to its section, and a line for each
-wire, whose ends are at its boxes; both say what is down. Each link within the page leads somewhere.
+outage. At 1280, 800 and 400 pixels all holds that holds of the page of one switch (view_page.py). The drawing has a box for each
+switch, which leads to its section, and a line for each wire, whose ends are at its boxes; both say what is down. Each link within the
+page leads somewhere.
 """
 import argparse
 import os
