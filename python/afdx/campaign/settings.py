@@ -15,6 +15,7 @@ from afdx.program import find_program
 IDENTITIES = ("stat", "content")
 REQUIRED = object()
 MOST = 10**9  # of a limit: more seconds than a timer takes, or no number, would end a worker
+WORDS = {str: "text", bool: "truth value", int: "whole number", float: "number", list: "list", dict: "section"}
 NAME = set(f"{string.ascii_letters}{string.digits}-_.")  # what the name of a table may have
 
 Kind = TypeVar("Kind")
@@ -75,7 +76,7 @@ class Section:
         if kind is float and type(value) is int and abs(value) <= MOST:
             value = float(value)
         if type(value) is not kind:
-            raise self.fail(f"{key} is no {kind.__name__}")
+            raise self.fail(f"{key} is no {WORDS[kind]}")
         return value
 
     def take_one_of(self, key: str, words: tuple[str, ...]) -> str:
