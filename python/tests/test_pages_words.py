@@ -25,6 +25,16 @@ def test_parts() -> None:
         "0 %", "below 0.1 %", "0.1 %", "9.9 %", "10 %", "100 %", "250 %"]
 
 
+@pytest.mark.parametrize("part, whole, text", [
+    (994, 1000, "99 %"), (995, 1000, "99.5 %"), (996, 1000, "99.6 %"), (9994, 10_000, "99.9 %"),
+    (9995, 10_000, "below 100 %"), (2_047_999_999, 2_048_000_000, "below 100 %"), (0.996, 1, "99.6 %"),
+    (1000, 1000, "100 %"), (1.0, 1, "100 %"), (2_048_000_001, 2_048_000_000, "above 100 %"),
+    (10_005, 10_000, "above 100 %"), (10_006, 10_000, "100.1 %"), (1005, 1000, "100.5 %"), (1006, 1000, "101 %"),
+])
+def test_no_other_part_than_the_whole_is_100_percent(part: float, whole: float, text: str) -> None:
+    assert words.percent(part, whole) == text
+
+
 def test_counts() -> None:
     assert words.count(1, "copy", "copies") == "1 copy"
     assert words.count(958, "copy", "copies") == "958 copies"

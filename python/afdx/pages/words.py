@@ -9,10 +9,14 @@ def number(value: float | None) -> str:
 
 
 def percent(part: float, whole: float = 1) -> str:
+    """Writes a part of a whole; what is less or more than the whole isn't rounded to 100 %."""
     share = 100 * part / whole
     if 0 < share < 0.05:
         return "below 0.1 %"
-    return f"{share:.1f} %" if 0 < share < 10 else f"{share:.0f} %"
+    is_near = part != whole and 99.5 <= share <= 100.5
+    if is_near and abs(share - 100) <= 0.05:
+        return "below 100 %" if part < whole else "above 100 %"
+    return f"{share:.1f} %" if 0 < share < 10 or is_near else f"{share:.0f} %"
 
 
 def since(ns: int) -> str:
