@@ -334,15 +334,22 @@ def test_each_faulty_recording_is_named_and_nothing_is_put(folder: Folder) -> No
       "source 2: mbit has to be 10, 100 or 1000, {}/rules.toml"]),
     ('[[source]]\nfile = "../a.pcap"\nto = "../port-1"\n', 3,
      ["source 1: file has to be the name of a file in RAW, or a pattern of names, {}/rules.toml",
-      'source 1: to has to be a port, as "port-1" or "SW1/port-1", {}/rules.toml']),
+      'source 1: to has to be a port from 1 to 24, as "port-1" or "SW1/port-1", {}/rules.toml']),
     ('[[source]]\nfile = "a.pcap"\nend_systems = { 9 = "port-1", 09 = "port-2" }\n', 3,
-     ["source 1: end_systems has to be a table of end systems' numbers, 0 to 65535, each once, with a port, as "
-      '"port-1" or "SW1/port-1", {}/rules.toml']),
+     ["source 1: end_systems has to be a table of end systems' numbers, 0 to 65535, each once, with a port from "
+      '1 to 24, as "port-1" or "SW1/port-1", {}/rules.toml']),
+    ('silent = ["port-0"]\n' + ONE, 3,
+     ['top: silent has to be an array, of which each is a port from 1 to 24, as "port-1" or "SW1/port-1", '
+      "{}/rules.toml"]),
+    ('silent = ["port-1", "port-3", "SW1/port-1"]\n' + ONE + '[[source]]\nfile = "a.pcap"\n'
+     'end_systems = { 1 = "port-3", 2 = "port-3", 3 = "port-2" }\n', 3,
+     ["top: silent names port-1, which source 1 names too, {}/rules.toml",
+      "top: silent names port-3, which source 2 names too, {}/rules.toml"]),
     ("source = [", 3, ["no TOML: Invalid value (at end of document), {}/rules.toml"]),
     (TWO, 3, ["no recording b.pcap, source 1, {}/raw"]),
     (ONE.replace("a.pcap", "."), 3, ["no recording ., source 1, {}/raw"]),
     (ONE.replace("port-1", "port-25"), 3,
-     ['source 1: to has to be a port, as "port-1" or "SW1/port-1", {}/rules.toml']),
+     ['source 1: to has to be a port from 1 to 24, as "port-1" or "SW1/port-1", {}/rules.toml']),
     (ONE + "drift_ppb = 100000000\n" + "offset_ns = 4294967295000000000\n", 3,
      ["a stamp that the rules move before 1970 or after 2106, a.pcap, record 1, offset 24"]),
 ])

@@ -85,7 +85,7 @@ def is_end_systems(value: Any) -> bool:
     ) and len(set(map(int, value))) == len(value)
 
 
-A_PORT = 'a port, as "port-1" or "SW1/port-1"'
+A_PORT = 'a port from 1 to 24, as "port-1" or "SW1/port-1"'
 OF_SOURCES: dict[str, tuple[Callable[[Any], bool], str]] = {
     "file": (is_pattern, "the name of a file in RAW, or a pattern of names"),
     "interface": (lambda value: type(value) is int and value >= 0 or isinstance(value, str), "a name or a number"),
@@ -132,6 +132,13 @@ def faults_of_source(table: dict[str, Any], place: str) -> list[str]:
     return faults
 
 
+def faults_of_silent(rules: Rules) -> list[str]:
+    """Answers which ports are said to be silent, and get frames of a source."""
+    return [f"top: silent names {port}, which source {number} names too"
+            for number, source in enumerate(rules.sources, 1)
+            for port in sorted(set(source.ports) & set(rules.silent))]
+
+
 def rules_of(text: bytes) -> Rules:
     """Reads the rules. Raises RulesFault with all that is wrong."""
     try:
@@ -147,4 +154,7 @@ def rules_of(text: bytes) -> Rules:
     if faults:
         raise RulesFault(faults)
     of_all = {key: value for key, value in top.items() if key != "source"}
-    return Rules([Source(**table) for table in tables], **of_all)
+    rules = Rules([Source(**table) for table in tables], **of_all)
+    if faults := faults_of_silent(rules):
+        raise RulesFault(faults)
+    return rules
