@@ -63,6 +63,17 @@ def test_how_far_copies_may_be_apart(tmp_path: Path, capsys: pytest.CaptureFixtu
         "port-1 link 1 pairs 0 least - greatest - only-a 1 run-a 1 only-b 1 run-b 1"]
 
 
+def test_a_lost_one_of_frames_of_the_same_bytes(tmp_path: Path, capsys: pytest.CaptureFixture[str]) -> None:
+    """Those after it are paired with the next, unless that is too far apart."""
+    put(tmp_path / "a", "port-1.pcap", 0x20, [(4000 * number, 1, 1) for number in range(5)])
+    put(tmp_path / "b", "port-1.pcap", 0x40, [(4000 * number + 25, 1, 1) for number in (0, 2, 3, 4)])
+    assert run(tmp_path) == 0
+    assert run(tmp_path, "--within-ms", "3") == 0
+    assert capsys.readouterr().out.splitlines() == [
+        "port-1 link 1 pairs 4 least 25000 greatest 4025000 only-a 1 run-a 1 only-b 0 run-b 0",
+        "port-1 link 1 pairs 4 least 25000 greatest 25000 only-a 1 run-a 1 only-b 0 run-b 0"]
+
+
 def test_folders_to_which_links_lead(tmp_path: Path, capsys: pytest.CaptureFixture[str]) -> None:
     for network, folder in ((0x20, "a"), (0x40, "b")):
         put(tmp_path / "runs", f"{folder}/port-1.pcap", network, [(0, 1, 1)])

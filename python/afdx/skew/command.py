@@ -23,8 +23,8 @@ NAMES = ("a", "b")
 def options_of(arguments: Sequence[str]) -> argparse.Namespace:
     parser = argparse.ArgumentParser(
         prog=COMMAND, description="Prints, for each link and port, how far apart two networks deliver the same frames.",
-        epilog="Exit status 0: the lines are printed, whatever they say; 2: usage; 3: a folder is not there or has no "
-               "captures, or a capture is refused; 5: a file fails; 70: a defect of this command.")
+        epilog="Exit status 0: the lines are printed, whatever they say; 2: usage; 3: a folder is not there, neither "
+               "has captures, or a capture is refused; 5: a file fails; 70: a defect of this command.")
     parser.add_argument("a", metavar="A", type=Path,
                         help="the folder of network A's outputs, as afdx run or network run puts them")
     parser.add_argument("b", metavar="B", type=Path, help="the folder of network B's outputs")
