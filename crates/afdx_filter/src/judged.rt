@@ -53,7 +53,7 @@ impl Judged {
 
 /// Returns the verdict on a frame that arrives at a port, with the link that it names and the place of a clean frame's link.
 ///
-/// O(1) on average, with one look-up of the link by its number; it takes no memory.
+/// O(1), with one look-up of the link by its number; it takes no memory.
 #[inline(always)]
 pub fn judge<A: Allocator>(table: &Table, in_port: u8, frame: &Record<'_, A>) -> Judged
     ensures verdict { result.verdict ≡ verdict_of table.now in_port frame.now }
@@ -106,7 +106,7 @@ fn judge_number(table: &Table, in_port: u8, size: u32, number: u16) -> Judged
 
 /// Returns the verdict on a frame that arrives at a port: the first case of [`Verdict`] that holds.
 ///
-/// O(1) on average; it takes no memory.
+/// O(1); it takes no memory.
 pub fn verdict<A: Allocator>(table: &Table, in_port: u8, frame: &Record<'_, A>) -> Verdict
     ensures { result ≡ verdict_of table.now in_port frame.now }
 {

@@ -183,7 +183,7 @@ impl Network {
         self.table(end.switch)?.port(end.port)
     }
 
-    /// Returns the row of a link in a switch's table, if there is one. O(1) on average, as [`Table::link`].
+    /// Returns the row of a link in a switch's table, if there is one. O(1).
     pub fn row_at(&self, switch: usize, id: u16) -> Option<Row<'_>>
         ensures { option_map row_of result ≡ row_at self.now switch id }
     {

@@ -53,7 +53,7 @@ fn place_in(link: &LinkRow, port: u8) -> Option<usize>
     link.to.as_slice().iter().position(|to| *to == port)
 }
 
-/// Returns the row of a link in the table of a switch, and its place there, if there is one. O(1) on average, as [`Table::link`](afdx_table::Table::link).
+/// Returns the row of a link in the table of a switch, and its place there, if there is one. O(1).
 fn row_at(network: &Network, switch: usize, link: u16) -> Option<(usize, &LinkRow)>
     ensures { MatchOption result (row_at network.now switch link ≡ None) (λ at. IsRowAt network.now switch link at.0 at.1.now) }
 {

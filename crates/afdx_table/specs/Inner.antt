@@ -2,5 +2,6 @@ pub mod Apart
 pub mod Distinct
 pub mod Found
 pub mod Holds
+pub mod Places
 pub mod Room
 pub mod Slots

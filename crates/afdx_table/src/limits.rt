@@ -15,6 +15,9 @@ pub(crate) const MAX_PORT_ID: u8 = 24;
 /// The most links of a table.
 pub(crate) const MAX_LINKS: usize = 4096;
 
+/// Links are numbered from 0 to below this: two bytes hold each number.
+pub(crate) const LINK_NUMBERS: usize = 65_536;
+
 /// In bytes.
 pub(crate) const MAX_BUFFER: u64 = 16_777_216;
 

@@ -181,6 +181,7 @@ pub(crate) fn read_links(
     tables: &[&Table],
 ) -> Result<LinkMap, TableFault>
     requires few { length ports.now ≤ 24 }
+    requires few_links { length tables.now ≤ 4096 }
     ensures links { Gives (λ v. v) result (links_from version ports.now 0 [] (map (λ t. table_view t.now) tables.now)) }
     ensures memory { result ≡ Err Memory → 0 < length tables.now }
 {

@@ -51,7 +51,8 @@ impl Model for Table {
 }
 
 impl Table {
-    /// Returns a copy of the table. An error says that memory ran out. O(p + n) for p ports and n links.
+    /// Returns a copy of the table. An error says that memory ran out. O(p) for p ports without links,
+    /// O(65,536 + p + n) with n links.
     pub fn copy(&self, alloc: Global) -> Result<Table, AllocError>
         ensures { IfOk result (λ t. t ≡ self.now) }
     {
@@ -61,7 +62,7 @@ impl Table {
             constant: self.constant,
             latency: self.latency,
             ports,
-            links: self.links.copy()?,
+            links: self.links.copy(alloc)?,
         })
     }
 
@@ -126,7 +127,7 @@ impl Table {
         self.links.at(index)
     }
 
-    /// Finds the link of a number. O(1) on average: numbers that were chosen against the fixed hash can take longer.
+    /// Finds the link of a number. O(1).
     pub fn link(&self, id: u16) -> Option<&LinkRow>
         ensures link { option_copied result ≡ link_row self.now id }
         ensures limits { IfSome result (λ l. IsLink self.now.ports l.now) }
@@ -135,7 +136,7 @@ impl Table {
         self.links.get(id)
     }
 
-    /// Finds the place in file order, from 0, of the link of a number. O(1) on average, as [`Table::link`].
+    /// Finds the place in file order, from 0, of the link of a number. O(1).
     pub fn link_place(&self, id: u16) -> Option<usize>
         ensures place { result ≡ link_place self.now id }
         ensures well_formed { IsWellFormed self.now }

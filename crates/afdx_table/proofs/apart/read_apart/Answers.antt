@@ -1,4 +1,4 @@
-use Rattle.std.proofs.Common.{rules, ◌≡◌, ◌<◌, ◌++◌, ◌∷◌, [], arith}
+use Rattle.std.proofs.Common.{rules, ◌≡◌, ◌<◌, ◌+◌, ◌++◌, ◌∷◌, ◌∙◌, [], ap, length, length-append, arith}
 use Rattle.afdx_table.proofs.ApartLemmas.{ends_line-front, last_apart, more_apart}
 use Rattle.afdx_table.proofs.apart.read_apart.Goals as goal
 
@@ -28,6 +28,7 @@ loop-index-preserved c =
     record {
       utf8 = search rules;
       ends = own_line;
+      count = ap length pushed ∙ length-append before (row ∷ []) ∙ ap (λ n. n + 1) c.loop-index.invariant.count;
       links = λ all read_behind. c.loop-index.invariant.links all
           (more_apart c.args.version c.args.ports.now c.loop-index.index before texts text behind row ms all front parsed plain read whole (rw pushed at read_behind));
     }

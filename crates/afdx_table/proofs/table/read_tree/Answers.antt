@@ -1,13 +1,16 @@
 use Rattle.std.proofs.Common.{rules, inl, inr, arith}
 use Rattle.std.proofs.lemmas.List.{length-map}
 use Rattle.toml.specs.View.{table_view}
-use Rattle.afdx_table.proofs.TableFormed.{few_ports-formed, parts-formed}
+use Rattle.afdx_table.proofs.TableFormed.{top_at-formed, few_ports-formed, parts-formed}
 use Rattle.afdx_table.proofs.RoomLemmas.{top_wants}
 use Rattle.afdx_table.proofs.table.read_tree.Goals as goal
 
 pub read_links-requires : goal.read_links-requires
 read_links-requires c = record {
   few = rw c.deref-2.ensures.value (few_ports-formed (table_view c.args.tree.now) _ _ c.in_ok-top.ensures.top (rw c.deref.ensures.value at c.in_ok-ports.ensures.ports));
+  few_links =
+      let most = (top_at-formed (table_view c.args.tree.now) _ c.in_ok-top.ensures.top).few_links in
+      rw c.deref-3.ensures.value (omega (arith, most, length-map c.in_ok-top.top.links.items (λ l. table_view l.now)));
 }
 
 pub invariant_of-result : goal.invariant_of-result
