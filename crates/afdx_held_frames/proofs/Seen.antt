@@ -1,118 +1,96 @@
 -- What the slots at the keys hold, after a write.
-use Rattle.std.proofs.Common.{◌≡◌, ◌≢◌, ℕ, zero, suc, ◌+◌, ◌<◌, ◌==◌, Bool, true, false, cond, List, [], ◌∷◌, ◌++◌, length, get_or, slice_get, set, Option, Some, None, is_some}
-use Rattle.std.proofs.Common.{refl, ap, ap₂, sym, ◌∙◌, arith, subst, ⊎_elim, zero-add}
-use Rattle.std.proofs.lemmas.Bool.{cases_eq, cases_lt, eq-eqb}
-use Rattle.std.proofs.lemmas.Bool.Decides.{nat_tests}
-use Rattle.std.proofs.lemmas.List.{get_or_past}
-use Rattle.std.proofs.lemmas.Option.{slice_get-get_or}
+use Rattle.std.proofs.Common.{◌≡◌, ◌≢◌, ℕ, ◌+◌, ◌<◌, ◌≤◌, true, List, [], ◌∷◌, ◌++◌, length, map, get_or, set, Option, Some, None, is_some}
+use Rattle.std.proofs.Common.{refl, ap, sym, ◌∙◌, arith, ⊎_elim}
+use Rattle.std.specs.Option.{option_map}
+use Rattle.std.proofs.lemmas.Bool.{cases_eq, cases_lt}
+use Rattle.std.proofs.lemmas.List.{get_or-map, get_or_past, get_or-set_same, get_or-set_other, get_or_push, get_or_append_left, length-map, length-set, length_push, ext_get_or}
 use Rattle.afdx_held_frames.specs.declared.store.Slot.{Slot}
 use Rattle.afdx_held_frames.specs.Seen.{Held}
-use Rattle.afdx_held_frames.specs.Inner.Kept.{seen_at, seen_from, IsNamed}
+use Rattle.afdx_held_frames.specs.Inner.Kept.{no_key, key_at, seen_at}
 
-differ : (a b : ℕ) → a ≢ b → (b == a) ≡ false
-differ a b ne = grind (arith, nat_tests)
+-- ---- keys
+
+module _ (keys : List ℕ) where
+  pub key_pushed : (key i : ℕ) → i ≡ length keys → key_at (keys ++ key ∷ []) i ≡ key
+  key_pushed key i is = get_or_push keys key no_key i (sym is)
+
+  pub key_push_other : (key i : ℕ) → i ≢ length keys → key_at (keys ++ key ∷ []) i ≡ key_at keys i
+  key_push_other key i ne = ⊎_elim
+      (λ lt. get_or_append_left keys (key ∷ []) no_key i lt)
+      (λ le. get_or_past (keys ++ key ∷ []) i no_key (omega (arith, length_push keys key, le, ne)) ∙ sym (get_or_past keys i no_key le))
+      (cases_lt i (length keys))
+
+  -- an arrival of which nothing is held changes no key
+  pub key_push_none : (i : ℕ) → key_at (keys ++ no_key ∷ []) i ≡ key_at keys i
+  key_push_none i = ⊎_elim
+      (λ is. key_pushed no_key i is ∙ sym (get_or_past keys i no_key (omega (arith, is))))
+      (λ ne. key_push_other no_key i ne)
+      (cases_eq i (length keys))
+
+  pub key_gone : (number : ℕ) → number < length keys → key_at (set keys number no_key) number ≡ no_key
+  key_gone number lt = get_or-set_same keys number no_key no_key lt
+
+  pub key_set_other : (number i : ℕ) → i ≢ number → key_at (set keys number no_key) i ≡ key_at keys i
+  key_set_other number i ne = get_or-set_other keys number i no_key no_key ne
 
 module _ {Z : Type 0} where
-  -- a slot that says nothing of arrivals but this one
-  abbrev pub IsOf : ℕ → Option (Slot Z) → Type 0
-  IsOf m slot = (j : ℕ) → j ≢ m → seen_at j slot ≡ None
+  abbrev pub held_of : Slot Z → Held
+  held_of slot = record { copies = slot.copies; frame = slot.frame }
 
-  pub of_slot : (m : ℕ) (slot : Slot Z) → slot.number ≡ m → IsOf m (Some slot)
-  of_slot m slot is j ne = ap (λ b. cond b (Some (record { copies = slot.copies; frame = slot.frame })) None) (ap (λ n. n == j) is ∙ differ j m ne)
+  abbrev pub seen : List (Option (Slot Z)) → List ℕ → List (Option Held)
+  seen slots keys = map (seen_at slots) keys
 
-  pub seen_own : (slot : Slot Z) (n : ℕ) → slot.number ≡ n → seen_at n (Some slot) ≡ Some (record { copies = slot.copies; frame = slot.frame })
-  seen_own slot n is = ap (λ b. cond b (Some (record { copies = slot.copies; frame = slot.frame })) None) (eq-eqb slot.number n is)
+  -- what a key's slot holds
+  pub seen_is : (slots : List (Option (Slot Z))) (key : ℕ) (o : Option (Slot Z)) → get_or slots key None ≡ o → seen_at slots key ≡ option_map held_of o
+  seen_is slots key o is = ap (option_map held_of) is
 
-  -- all that the slots hold of other arrivals is as it was
-  abbrev pub Apart : ℕ → List (Option (Slot Z)) → List (Option (Slot Z)) → Type 0
-  Apart m old new = (j key : ℕ) → j ≢ m → seen_at j (get_or new key None) ≡ seen_at j (get_or old key None)
+  pub seen_get : (slots : List (Option (Slot Z))) (keys : List ℕ) (i : ℕ) → i < length keys → get_or (seen slots keys) i None ≡ seen_at slots (key_at keys i)
+  seen_get slots keys i lt = get_or-map (seen_at slots) keys i no_key None lt
 
-  pub apart : (m key : ℕ) (old new : List (Option (Slot Z))) → IsOf m (get_or old key None) → IsOf m (get_or new key None)
-      → ((other : ℕ) → other ≢ key → get_or new other None ≡ get_or old other None) → Apart m old new
-  apart m key old new was is others j k ne = ⊎_elim
-      (λ at. subst (λ n. seen_at j (get_or new n None) ≡ seen_at j (get_or old n None)) (sym at) (is j ne ∙ sym (was j ne)))
-      (λ off. ap (seen_at j) (others k off))
-      (cases_eq k key)
+  -- the slots of all these keys hold what they held
+  pub seen_same : (old new : List (Option (Slot Z))) (keys : List ℕ) → ((i : ℕ) → i < length keys → seen_at new (key_at keys i) ≡ seen_at old (key_at keys i)) → seen new keys ≡ seen old keys
+  seen_same old new keys same =
+      ext_get_or None (seen new keys) (seen old keys) (length-map keys (seen_at new) ∙ sym (length-map keys (seen_at old)))
+      (λ i lt. let within : i < length keys = omega (arith, lt, length-map keys (seen_at new)) in seen_get new keys i within ∙ (same i within ∙ sym (seen_get old keys i within)))
 
-  pub seen_len : (n : ℕ) (keys : List ℕ) (slots : List (Option (Slot Z))) → length (seen_from n keys slots) ≡ length keys
-  seen_len n [] slots = refl
-  seen_len n (key ∷ keys) slots = ap suc (seen_len (n + 1) keys slots)
-
-  pub seen_get : (n i key : ℕ) (keys : List ℕ) (slots : List (Option (Slot Z))) → slice_get keys i ≡ Some key → get_or (seen_from n keys slots) i None ≡ seen_at (n + i) (get_or slots key None)
-  seen_get n i key [] slots is = absurd (cc)
-  seen_get n zero key (k ∷ keys) slots is = let e : k ≡ key = (cc) in let z : n ≡ n + 0 = omega arith in ap (λ j. seen_at n (get_or slots j None)) e ∙ ap (λ j. seen_at j (get_or slots key None)) z
-  seen_get n (suc i) key (k ∷ keys) slots is = let z : n + 1 + i ≡ n + suc i = omega arith in seen_get (n + 1) i key keys slots is ∙ ap (λ j. seen_at j (get_or slots key None)) z
-
-  pub seen_apart : (m n : ℕ) (keys : List ℕ) (old new : List (Option (Slot Z))) → ((i : ℕ) → i < length keys → n + i ≢ m) → Apart m old new → seen_from n keys new ≡ seen_from n keys old
-  seen_apart m n [] old new off a = refl
-  seen_apart m n (key ∷ keys) old new off a =
-      ap₂ (λ x xs. x ∷ xs) (a n key (λ e. off 0 (omega arith) (omega (arith, e)))) (seen_apart m (n + 1) keys old new (λ i lt e. off (suc i) (omega (arith, lt)) (omega (arith, e))) a)
-
-  pub seen_set : (n i key : ℕ) (keys : List ℕ) (old new : List (Option (Slot Z))) → slice_get keys i ≡ Some key → Apart (n + i) old new
-      → seen_from n keys new ≡ set (seen_from n keys old) i (seen_at (n + i) (get_or new key None))
-  seen_set n i key [] old new is a = absurd (cc)
-  seen_set n zero key (k ∷ keys) old new is a =
-      let e : k ≡ key = (cc) in
-      let z : n ≡ n + 0 = omega arith in
-      ap₂ (λ x xs. x ∷ xs)
-      (ap (λ j. seen_at n (get_or new j None)) e ∙ ap (λ j. seen_at j (get_or new key None)) z)
-      (seen_apart (n + 0) (n + 1) keys old new (λ i lt e. absurd (omega (arith, e))) a)
-  seen_set n (suc i) key (k ∷ keys) old new is a =
-      let z : n + 1 + i ≡ n + suc i = omega arith in
-      ap₂ (λ x xs. x ∷ xs)
-      (a n k (λ e. absurd (omega (arith, e))))
-      (seen_set (n + 1) i key keys old new is (subst (λ j. Apart j old new) (sym z) a) ∙ ap (λ j. set (seen_from (n + 1) keys old) i (seen_at j (get_or new key None))) z)
-
-  pub seen_push : (n key : ℕ) (keys : List ℕ) (slots : List (Option (Slot Z))) → seen_from n (keys ++ key ∷ []) slots ≡ seen_from n keys slots ++ seen_at (n + length keys) (get_or slots key None) ∷ []
-  seen_push n key [] slots = let z : n ≡ n + 0 = omega arith in ap (λ j. seen_at j (get_or slots key None) ∷ []) z
-  seen_push n key (k ∷ keys) slots = let z : n + 1 + length keys ≡ n + suc (length keys) = omega arith in
-      ap (λ xs. seen_at n (get_or slots k None) ∷ xs) (seen_push (n + 1) key keys slots ∙ ap (λ j. seen_from (n + 1) keys slots ++ seen_at j (get_or slots key None) ∷ []) z)
+  -- one key has another slot, or its slot holds something else
+  pub seen_changed : (old new : List (Option (Slot Z))) (keys keys' : List ℕ) (number : ℕ) (held : Option Held) → number < length keys → length keys' ≡ length keys
+      → seen_at new (key_at keys' number) ≡ held
+      → ((i : ℕ) → i ≢ number → i < length keys → seen_at new (key_at keys' i) ≡ seen_at old (key_at keys i)) → seen new keys' ≡ set (seen old keys) number held
+  seen_changed old new keys keys' number held lt long here others =
+      let was = length-map keys (seen_at old) in
+      let is = length-map keys' (seen_at new) in
+      ext_get_or None (seen new keys') (set (seen old keys) number held) (is ∙ (long ∙ (sym was ∙ sym (length-set (seen old keys) number held))))
+      (λ i less. let within' : i < length keys' = omega (arith, less, is) in
+      let within : i < length keys = omega (arith, within', long) in
+      seen_get new keys' i within' ∙ ⊎_elim
+      (λ at. ap (λ j. seen_at new (key_at keys' j)) at ∙ (here ∙ sym (ap (λ j. get_or (set (seen old keys) number held) j None) at
+      ∙ get_or-set_same (seen old keys) number held None (omega (arith, lt, was)))))
+      (λ ne. others i ne within ∙ sym (get_or-set_other (seen old keys) number i held None ne ∙ seen_get old keys i within))
+      (cases_eq i number))
 
   -- ---- the arrival whose frame is held
 
-  pub record Found (keys : List ℕ) (slots : List (Option (Slot Z))) (number key : ℕ) (slot : Slot Z) : Type 0 where
+  pub record Found (keys : List ℕ) (slots : List (Option (Slot Z))) (number : ℕ) (slot : Slot Z) : Type 0 where
     pub within : number < length keys
-    pub keyed : slice_get keys number ≡ Some key
-    pub there : get_or slots key None ≡ Some slot
-    pub names : slot.number ≡ number
-    pub left : 0 < slot.copies
-    pub seen : get_or (seen_from 0 keys slots) number None ≡ Some (record { copies = slot.copies; frame = slot.frame })
+    pub there : get_or slots (key_at keys number) None ≡ Some slot
+    pub seen : get_or (map (seen_at slots) keys) number None ≡ Some (record { copies = slot.copies; frame = slot.frame })
 
-  pub within_keys : (keys : List ℕ) (slots : List (Option (Slot Z))) (number : ℕ) → is_some (get_or (seen_from 0 keys slots) number None) ≡ true → number < length keys
+  pub within_keys : (keys : List ℕ) (slots : List (Option (Slot Z))) (number : ℕ) → is_some (get_or (seen slots keys) number None) ≡ true → number < length keys
   within_keys keys slots number held = ⊎_elim
       (λ lt. lt)
-      (λ le. let none = ap is_some (get_or_past (seen_from 0 keys slots) number None (omega (arith, le, seen_len 0 keys slots))) in absurd (cc))
+      (λ le. let none = ap is_some (get_or_past (seen slots keys) number None (omega (arith, le, length-map keys (seen_at slots)))) in absurd (let both = sym none ∙ held in (cc)))
       (cases_lt number (length keys))
 
-  found_slot : (keys : List ℕ) (slots : List (Option (Slot Z))) (number key : ℕ) (o : Option (Slot Z)) → ((k : ℕ) (slot : Slot Z) → get_or slots k None ≡ Some slot → IsNamed keys k slot)
-      → number < length keys → slice_get keys number ≡ Some key → get_or slots key None ≡ o → is_some (seen_at number o) ≡ true → (slot : Slot Z) × Found keys slots number key slot
-  found_slot keys slots number key None named within keyed there held = absurd (cc)
-  found_slot keys slots number key (Some slot) named within keyed there held =
-      let names : slot.number ≡ number = named_by slot number held in (
-        slot,
-        record {
-          within = within;
-          keyed = keyed;
-          there = there;
-          names = names;
-          left = (named key slot there).left;
-          seen = seen_get 0 number key keys slots keyed ∙ ap (λ j. seen_at j (get_or slots key None)) (zero-add number) ∙ ap (seen_at number) there ∙ seen_own slot number names;
-        },
-      ) where
-        chosen : (b : Bool) (h : Held) → is_some (cond b (Some h) None) ≡ true → b ≡ true
-        chosen true h e = refl
-        chosen false h e = absurd (cc)
+  found_slot : (keys : List ℕ) (slots : List (Option (Slot Z))) (number : ℕ) (o : Option (Slot Z)) → number < length keys → get_or slots (key_at keys number) None ≡ o
+      → is_some (option_map held_of o) ≡ true → (slot : Slot Z) × Found keys slots number slot
+  found_slot keys slots number None within there held = absurd (cc)
+  found_slot keys slots number (Some slot) within there held = (
+    slot,
+    record { within = within; there = there; seen = seen_get slots keys number within ∙ seen_is slots (key_at keys number) (Some slot) there },
+  )
 
-        equal : (a b : ℕ) → (a == b) ≡ true → a ≡ b
-        equal a b e = grind (arith, nat_tests)
-
-        named_by : (slot : Slot Z) (number : ℕ) → is_some (seen_at number (Some slot)) ≡ true → slot.number ≡ number
-        named_by slot number e = equal slot.number number (chosen (slot.number == number) (record { copies = slot.copies; frame = slot.frame }) e)
-
-  pub found : (keys : List ℕ) (slots : List (Option (Slot Z))) (number key : ℕ) → ((k : ℕ) (slot : Slot Z) → get_or slots k None ≡ Some slot → IsNamed keys k slot)
-      → is_some (get_or (seen_from 0 keys slots) number None) ≡ true → key ≡ get_or keys number key → (slot : Slot Z) × Found keys slots number key slot
-  found keys slots number key named held at =
+  pub found : (keys : List ℕ) (slots : List (Option (Slot Z))) (number : ℕ) → is_some (get_or (seen slots keys) number None) ≡ true → (slot : Slot Z) × Found keys slots number slot
+  found keys slots number held =
       let within = within_keys keys slots number held in
-      let keyed : slice_get keys number ≡ Some key = slice_get-get_or keys number key within ∙ ap (λ k. Some k) (sym at) in
-      let seen = seen_get 0 number key keys slots keyed ∙ ap (λ j. seen_at j (get_or slots key None)) (zero-add number) in
-      found_slot keys slots number key (get_or slots key None) named within keyed refl (sym (ap is_some seen) ∙ held)
+      found_slot keys slots number (get_or slots (key_at keys number) None) within refl (sym (ap is_some (seen_get slots keys number within)) ∙ held)

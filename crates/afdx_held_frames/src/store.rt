@@ -1,8 +1,8 @@
 //! A store of frames, by the numbers of their arrivals.
 
 ghost use Rattle.std.specs.Prelude.{◌≡◌, ◌+◌, ◌<◌, ◌≤◌, length, ◌∷◌, [], ◌++◌, true, None, Some, OnOk, set, slice_index_or, count_by, is_some};
-ghost use Rattle.slab.specs.Slab.{ContainsKey, Updates, slab_len, get};
-ghost use Rattle.afdx_held_frames.specs.Inner.Kept.{seen_at, NoneHeld};
+ghost use Rattle.slab.specs.Slab.{ContainsKey, Updates, slab_len};
+ghost use Rattle.afdx_held_frames.specs.Inner.Kept.{key_at, NoneHeld};
 ghost use Rattle.afdx_held_frames.specs.Seen.{is_held, one_less, newcomer, frame_at};
 
 use afdx_past::History;
@@ -14,6 +14,9 @@ use std::marker::Model;
 /// For how many arrivals room is made at once (profile): so many that most find room, and so few that their room is a few KB.
 const ARRIVALS_AT_ONCE: usize = 64;
 
+/// The key of an arrival of which nothing is held; no slot has it.
+const NO_KEY: u32 = u32::MAX;
+
 /// The frames that are held.
 ///
 /// Contracts see, for each arrival in order, the frame that is held of it, if any, with the number of its copies that
@@ -21,16 +24,16 @@ const ARRIVALS_AT_ONCE: usize = 64;
 #[derive(Drop)]
 pub struct Store<'a, A: Allocator> {
     slots: Slab<Slot<'a, A>, A>,
-    keys: History<usize, A>,
+    /// Of each arrival the key of its slot, or `NO_KEY`. Half the size of a place, as each arrival has one.
+    keys: History<u32, A>,
     /// Of the arrivals before this one nothing is held.
     low: usize,
     room: usize,
 }
 
-/// A frame, the number of its arrival, and how many of its copies are left.
+/// A frame, and how many of its copies are left.
 #[derive(Drop)]
 struct Slot<'a, A: Allocator> {
-    number: usize,
     copies: usize,
     frame: Record<'a, A>,
 }
@@ -58,38 +61,24 @@ fn empty<A: Allocator + Copy>(slots: &mut Slab<Slot<'_, A>, A>, key: usize)
 }
 
 /// Returns the key of an arrival that was not let go.
-fn key_of<A: Allocator + Copy>(keys: &History<usize, A>, number: usize) -> usize
+fn key_of<A: Allocator + Copy>(keys: &History<u32, A>, number: usize) -> u32
     requires left { keys.now.first ≤ number }
     requires within { number < length keys.now.items }
-    ensures { result ≡ slice_index_or keys.now.items number result }
+    ensures { result ≡ key_at keys.now.items number }
 {
     keys.get(number).unwrap()
 }
 
-/// Returns whether the slot at a key holds something of an arrival.
-fn holds<A: Allocator + Copy>(slots: &Slab<Slot<'_, A>, A>, key: usize, number: usize) -> bool
-    ensures { result ≡ is_some (seen_at number (get slots.now key)) }
-{
-    match slots.get(key) {
-        Some(slot) => slot.number == number,
-        None => false,
-    }
-}
-
 /// Returns the first arrival, from one on, of which something is held; if there is none, how many arrivals there are.
-fn first_held<A: Allocator + Copy>(
-    slots: &Slab<Slot<'_, A>, A>,
-    keys: &History<usize, A>,
-    low: usize,
-) -> usize
+fn first_held<A: Allocator + Copy>(keys: &History<u32, A>, low: usize) -> usize
     requires left { keys.now.first ≤ low }
     requires within { low ≤ length keys.now.items }
     ensures least { low ≤ result }
     ensures within { result ≤ length keys.now.items }
-    ensures none { NoneHeld slots.now keys.now.items low result }
+    ensures none { NoneHeld keys.now.items low result }
 {
     let mut first = low;
-    while first < keys.len() && !holds(slots, key_of(keys, first), first) {
+    while first < keys.len() && key_of(keys, first) == NO_KEY {
         first += 1;
     }
     first
@@ -112,7 +101,7 @@ impl<'a, A: Allocator + Copy> Store<'a, A> {
     fn let_go(&mut self)
         ensures { self.new ≡ self.old }
     {
-        self.low = first_held(&self.slots, &self.keys, self.low);
+        self.low = first_held(&self.keys, self.low);
         self.keys.let_go(self.low);
     }
 
@@ -129,13 +118,17 @@ impl<'a, A: Allocator + Copy> Store<'a, A> {
         self.reserve_some()
     }
 
-    /// Makes room for 64 more arrivals.
+    /// Makes room for 64 more arrivals, if there is none. Fails if memory runs out, or if a `u32` could not count the slots then.
     fn reserve_some(&mut self) -> Result<(), AllocError>
+        requires { self.old.room ≡ 0 }
         ensures ok { OnOk result (0 < self.new.room) }
         ensures held { self.new.held ≡ self.old.held }
     {
         self.slots.reserve(ARRIVALS_AT_ONCE)?;
         self.keys.reserve(ARRIVALS_AT_ONCE)?;
+        if self.slots.capacity() > NO_KEY as usize {
+            return Err(AllocError);
+        }
         self.room = ARRIVALS_AT_ONCE;
         Ok(())
     }
@@ -167,7 +160,7 @@ impl<'a, A: Allocator + Copy> Store<'a, A> {
         ensures { self.new.held ≡ self.old.held ++ None ∷ [] }
     {
         self.room -= 1;
-        self.keys.push(0);
+        self.keys.push(NO_KEY);
     }
 
     /// Adds the next arrival, which has at least one copy.
@@ -177,14 +170,9 @@ impl<'a, A: Allocator + Copy> Store<'a, A> {
         requires some { 0 < copies }
         ensures { self.new.held ≡ self.old.held ++ Some (record { copies = copies; frame = frame.entry }) ∷ [] }
     {
-        let number = self.keys.len();
-        let key = self.slots.insert_reserved(Slot {
-            number,
-            copies,
-            frame,
-        });
+        let key = self.slots.insert_reserved(Slot { copies, frame });
         self.room -= 1;
-        self.keys.push(key);
+        self.keys.push(key as u32);
     }
 
     /// Discards one copy of a frame, and the frame with the last of them. O(1).
@@ -193,11 +181,12 @@ impl<'a, A: Allocator + Copy> Store<'a, A> {
         ensures held { self.new.held ≡ set self.old.held number (one_less (slice_index_or self.old.held number None)) }
         ensures room { self.new.room ≡ self.old.room }
     {
-        let key = key_of(&self.keys, number);
+        let key = key_of(&self.keys, number) as usize;
         let slot = &mut self.slots[key];
         slot.copies -= 1;
         if slot.copies == 0 {
             empty(&mut self.slots, key);
+            self.keys.set(number, NO_KEY);
         }
     }
 
@@ -206,6 +195,7 @@ impl<'a, A: Allocator + Copy> Store<'a, A> {
         requires { is_held self.now.held number ≡ true }
         ensures { frame_at self.now.held number ≡ Some result.now }
     {
-        &self.slots.get(key_of(&self.keys, number)).unwrap().frame
+        let key = key_of(&self.keys, number) as usize;
+        &self.slots.get(key).unwrap().frame
     }
 }

@@ -7,7 +7,7 @@ abbrev pub invariant-loop-first : goal.invariant-loop-first
 invariant-loop-first g l = record {
   least : l.fn.low ≤ l.first;
   within : l.first ≤ length l.keys.items;
-  none : NoneHeld l.slots l.keys.items l.fn.low l.first;
+  none : NoneHeld l.keys.items l.fn.low l.first;
 }
 
 abbrev pub decreases-loop-first : goal.decreases-loop-first
