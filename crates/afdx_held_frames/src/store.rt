@@ -107,6 +107,7 @@ impl<'a, A: Allocator + Copy> Store<'a, A> {
 
     /// Makes room for one more arrival: if there is none, lets go of the keys of arrivals that are past, and makes room for 64 more.
     /// An error says that memory ran out; what is held is as before then. O(1) on average.
+    #[inline(always)]
     pub fn make_room(&mut self) -> Result<(), AllocError>
         ensures ok { OnOk result (0 < self.new.room) }
         ensures held { self.new.held ≡ self.old.held }
@@ -114,6 +115,16 @@ impl<'a, A: Allocator + Copy> Store<'a, A> {
         if self.room > 0 {
             return Ok(());
         }
+        self.make_more_room()
+    }
+
+    /// Lets go of the keys of arrivals that are past, and makes room for 64 more, if there is none.
+    #[inline(never)]
+    fn make_more_room(&mut self) -> Result<(), AllocError>
+        requires { self.old.room ≡ 0 }
+        ensures ok { OnOk result (0 < self.new.room) }
+        ensures held { self.new.held ≡ self.old.held }
+    {
         self.let_go();
         self.reserve_some()
     }
