@@ -200,6 +200,7 @@ fn measures_of<'a, A: Allocator + Copy>(
 }
 
 /// Notes at the ports an arrival that the switch has just taken.
+#[inline(always)]
 fn note_arrival<A: Allocator + Copy>(
     gauges: &mut Option<Gauges<A>>,
     relay: &Relay<'_, A>,
@@ -215,6 +216,7 @@ fn note_arrival<A: Allocator + Copy>(
 }
 
 /// Notes whether its policing passed an arrival of this size that the switch has just taken.
+#[inline(always)]
 fn note_policing<A: Allocator + Copy>(
     policing: &mut Option<Policing<A>>,
     relay: &Relay<'_, A>,
@@ -370,6 +372,7 @@ impl<'a, A: Allocator + Copy> Measuring<'a, A> {
     }
 
     /// Appends the next frame's text to a capture, as [`Relay::next_out_into`] does.
+    #[inline(always)]
     pub fn next_out_into<B: Allocator>(
         &mut self,
         port: u8,
