@@ -7,7 +7,7 @@ use Rattle.std.proofs.lemmas.Option.{same_Some}
 use Rattle.std.proofs.Math.Seq.{take-set-lt}
 use Rattle.afdx_units.specs.Time.{stamp_end}
 use Rattle.afdx_earliest.specs.Instants.{instant_at, IsFirstIn}
-use Rattle.afdx_earliest.specs.Inner.Groups.{none, instant_in, instants_in, IsFirstFrom, AreGrouped}
+use Rattle.afdx_earliest.specs.Inner.Groups.{none, instant_in, instants_in, IsFirstFrom, AreKept, AreGrouped}
 
 -- ---- the instants that numbers are kept for
 
@@ -105,6 +105,12 @@ fresh_none (suc n) (suc m) le = ap (λ (is : List (Option ℕ)). None ∷ is) (f
 
 pub instants_fresh : (places : ℕ) → places ≤ 24 → instants_in places (replicate 24 none) ≡ replicate places None
 instants_fresh places few = fresh_none places 24 few
+
+-- ---- each group has its least
+
+pub grouped_of : (places : ℕ) (numbers leasts firsts : List ℕ) → AreKept places numbers → length leasts ≡ 4 → length firsts ≡ 4
+    → ((g : ℕ) → g < 4 → IsFirstFrom numbers (g * 6) (g * 6 + 6) (get_or firsts g 0) (get_or leasts g 0)) → AreGrouped places numbers leasts firsts
+grouped_of places numbers leasts firsts kept four four_firsts groups = record { long = kept.long; few = kept.few; four = four; four_firsts = four_firsts; no_place = kept.no_place; groups = groups }
 
 -- ---- a place has another instant
 

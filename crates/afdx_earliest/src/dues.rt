@@ -15,8 +15,8 @@ use std::marker::Model;
 /// pass over all, which takes no branch that the processor would have to guess.
 #[derive(Drop)]
 pub struct Dues {
-    numbers: [u64; PLACES],
-    places: usize,
+    pub(crate) numbers: [u64; PLACES],
+    pub(crate) places: usize,
 }
 
 impl Model for Dues {

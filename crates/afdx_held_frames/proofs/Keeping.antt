@@ -131,7 +131,8 @@ module _ {Z : Type 0} (p : Inside Z) (kept : IsKeptStore p) (slots : Slab (Slot 
       map_push (seen_at slots.slots) p.keys.items key
       ∙ ap (λ h. seen slots.slots p.keys.items ++ h ∷ []) (seen_is slots.slots key (Some slot) came.there)
       ∙ ap (λ hs. hs ++ Some (held_of slot) ∷ [])
-      (seen_same p.slots.slots slots.slots p.keys.items (λ i lt. seen_is slots.slots (key_at p.keys.items i) (get p.slots (key_at p.keys.items i)) (came.others (key_at p.keys.items i) (key_is_new came i))))
+      (seen_same p.slots.slots slots.slots p.keys.items (λ i lt. seen_is slots.slots (key_at p.keys.items i) (get p.slots (key_at p.keys.items i))
+      (came.others (key_at p.keys.items i) (key_is_new came i))))
 
   kept_there : Came → (i : ℕ) → key_at keys' i ≢ no_key → ContainsKey slots (key_at keys' i)
   kept_there came i ne = ⊎_elim

@@ -19,7 +19,7 @@ ghost use Rattle.afdx_session.specs.Inner.Stop.{MayReadOn, IsSkimmed, IsEndOf};
 ghost use Rattle.afdx_session.specs.Session.{refusal_at};
 
 use crate::plan::RunFault;
-use afdx_earliest::Instants;
+use afdx_earliest::{Dues, Instants};
 use afdx_folder::NewFile;
 use afdx_pcap::laws::taken_records_are_the_first;
 use afdx_pcap::{PcapFault, Reader, Record, write_header};
@@ -387,11 +387,11 @@ pub(crate) fn heads_of<A: Allocator>(lanes: &[Lane<'_, A>]) -> Instants
     requires { length lanes.now ≤ 24 }
     ensures { result ≡ heads_of lanes.now }
 {
-    let mut heads = Instants::new(lanes.len());
+    let mut heads = Dues::new(lanes.len());
     for place in 0..lanes.len() {
         heads.set(place, head_of(&lanes[place]));
     }
-    heads
+    Instants::of(&heads)
 }
 
 /// Returns whether an arrival at this stamp and port lies at the limit or before it.

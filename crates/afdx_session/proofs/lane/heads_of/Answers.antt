@@ -9,4 +9,4 @@ loop-place-preserved g c =
     c.head_of.ensures
 
 pub returns : goal.returns
-returns g c = heads_all c.args.lanes.now c.loop-place.heads c.loop-place.place c.loop-place-test.false c.loop-place.auto.place-end c.loop-place.invariant
+returns g c = c.of.ensures ∙ heads_all c.args.lanes.now c.loop-place.heads c.loop-place.place c.loop-place-test.false c.loop-place.auto.place-end c.loop-place.invariant

@@ -85,7 +85,8 @@ held_more_left p number key slot kept at f ne =
     (held_fewer p kept number slot f m.0 m.1))
 
 -- the last copy was discarded: its slot was written, and then emptied
-emptied : {Z : Type 0} (p : Inside Z) (number key : ℕ) (slot : Slot Z) (slots : Slab (Slot Z)) (kept : IsKeptStore p) (f : Found p.keys.items p.slots.slots number slot) → key ≡ key_at p.keys.items number
+emptied : {Z : Type 0} (p : Inside Z) (number key : ℕ) (slot : Slot Z) (slots : Slab (Slot Z)) (kept : IsKeptStore p) (f : Found p.keys.items p.slots.slots number slot)
+    → key ≡ key_at p.keys.items number
     → Updates (with_value p.slots key (less slot)) slots key None → Gone p kept number slot f slots
 emptied p number key slot slots kept f at updates = record {
   none = ap (get slots) (sym at) ∙ updates.changed;

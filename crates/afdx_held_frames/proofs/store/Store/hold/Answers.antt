@@ -17,7 +17,7 @@ overflow_cast-key g c =
     let p = c.self.inside in
     let some = ap (λ (v : StoreValue). v.room) c.self.view_is in
     let is = small p c.self.invariant c.insert_reserved-key.result c.insert_reserved-key.new.self.capacity (omega (arith, some, c.requires.room)) c.insert_reserved-key.ensures.key_in_range
-        c.insert_reserved-key.ensures.capacity in
+    c.insert_reserved-key.ensures.capacity in
     omega (arith, is)
 
 pub invariant_of-self : goal.invariant_of-self
