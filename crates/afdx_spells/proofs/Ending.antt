@@ -1,11 +1,13 @@
 -- One more frame after all others joins the last spell, or begins one.
-use Rattle.std.proofs.Common.{◌≡◌, ℕ, ◌+◌, true, false, cond, List, [], ◌∷◌, ◌++◌, length, refl, sym, ap, ◌∙◌, arith, inl, inr}
+use Rattle.std.proofs.Common.{◌≡◌, ℕ, ◌+◌, ◌-◌, ◌<◌, true, false, cond, List, [], ◌∷◌, ◌++◌, length, get_or, set, slice_get, take, Some, add-one, append_assoc, refl, sym, ap, ◌∙◌, arith, inl, inr}
 use Rattle.std.specs.Prelude.{nat_le, flat_map}
+use Rattle.std.proofs.Math.Seq.{take-length, take-suc, take-suc-set}
 use Rattle.std.proofs.lemmas.Bool.{cases_Bool}
-use Rattle.std.proofs.lemmas.List.{length-append, same_from_push}
+use Rattle.std.proofs.lemmas.List.{length-append, length-set, same_from_push}
+use Rattle.std.proofs.lemmas.Option.{slice_get-get_or}
 use Rattle.afdx_spells.specs.declared.spell.Excess.{Excess}
 use Rattle.afdx_spells.specs.declared.spell.Spell.{Spell}
-use Rattle.afdx_spells.specs.Spells.{before_all, parted, last_at, spell_from, spell_in, spells_of}
+use Rattle.afdx_spells.specs.Spells.{before_all, parted, last_at, last_of, goes_on, spell_from, spell_in, spells_of}
 
 -- the last of some spells, and what becomes of them where x comes after their frames
 record Ends (gap : ℕ) (x : Excess) (now later : List (List Excess)) : Type 0 where
@@ -126,3 +128,46 @@ noted_first gap (f ∷ frames) x is = absurd (
     let n = ap (λ (ss : List Spell). length ss) (is ∙ ap (flat_map spell_in) h.now_is ∙ reported h.init ((h.first ∷ h.rest) ∷ [])) in
     let m = length-append (flat_map spell_in h.init) (spell_from h.first h.rest ∷ []) in
     omega (arith, n, m))
+
+-- ---- by the last of all spells
+
+-- some spells, by the last one
+by_last : (spells : List Spell) (k : ℕ) (d : Spell) → k + 1 ≡ length spells → spells ≡ take k spells ++ get_or spells k d ∷ []
+by_last spells k d is =
+    let lt : k < length spells = omega (arith, is) in
+    sym (take-length spells) ∙ ap (λ n. take n spells) (sym is ∙ add-one k) ∙ take-suc spells k d lt
+
+-- the same with another one in its place
+pub by_other : (spells : List Spell) (k : ℕ) (s : Spell) → k + 1 ≡ length spells → set spells k s ≡ take k spells ++ s ∷ []
+by_other spells k s is =
+    let lt : k < length spells = omega (arith, is) in
+    sym (take-length (set spells k s)) ∙ ap (λ n. take n (set spells k s)) (length-set spells k s ∙ sym is ∙ add-one k) ∙ take-suc-set spells k s lt
+
+-- there is a last one
+pub last_is : (spells : List Spell) (k : ℕ) (d : Spell) → k + 1 ≡ length spells → last_of spells ≡ Some (get_or spells k d)
+last_is spells k d is =
+    let lt : k < length spells = omega (arith, is) in
+    let at : length spells - 1 ≡ k = omega (arith, is) in
+    ap (slice_get spells) at ∙ slice_get-get_or spells k d lt
+
+-- what becomes of it
+pub notes_last : (gap : ℕ) (frames : List Excess) (x : Excess) (spells : List Spell) (k : ℕ) (d : Spell) → k + 1 ≡ length spells → spells ≡ spells_of gap frames
+    → Notes gap frames x (take k spells) (get_or spells k d)
+notes_last gap frames x spells k d is are = notes gap frames x (take k spells) (get_or spells k d) (sym (by_last spells k d is) ∙ are)
+
+-- a frame that does not go on with it begins one
+pub begins : (gap : ℕ) (frames : List Excess) (x : Excess) (spells : List Spell) → spells ≡ spells_of gap frames → goes_on gap (last_of spells) x ≡ false
+    → spells ++ spell_from x [] ∷ [] ≡ spells_of gap (frames ++ x ∷ [])
+begins gap frames x [] are apart = noted_first gap frames x are
+begins gap frames x (s ∷ spells) are apart =
+    let all = s ∷ spells in
+    let k = length spells in
+    let is : k + 1 ≡ length all = omega arith in
+    let last = get_or all k s in
+    ap (λ ss. ss ++ spell_from x [] ∷ []) (by_last all k s is) ∙ append_assoc (take k all) (last ∷ []) (spell_from x [] ∷ [])
+    ∙ (notes_last gap frames x all k s is are).apart (sym (ap (λ o. goes_on gap o x) (last_is all k s is)) ∙ apart)
+
+-- if a frame goes on with the last one, there is one
+pub some_last : (gap : ℕ) (x : Excess) (spells : List Spell) → goes_on gap (last_of spells) x ≡ true → 0 < length spells
+some_last gap x [] on = absurd cc
+some_last gap x (s ∷ spells) on = omega arith

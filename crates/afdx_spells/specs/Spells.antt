@@ -1,5 +1,5 @@
 -- Spells of policing of a link (profile): its policed frames, parted wherever it kept to its allowance for more than one gap of its own.
-use Rattle.std.specs.Prelude.{ℕ, ◌+◌, min, max, nat_le, if◌then◌else◌, List, [], ◌∷◌, length, map, flat_map}
+use Rattle.std.specs.Prelude.{◌≡◌, ℕ, ◌+◌, ◌-◌, ◌≤◌, min, max, nat_le, Bool, false, if◌then◌else◌, List, [], ◌∷◌, length, map, flat_map, slice_get, Option, Some, None, IfSome}
 use Rattle.std.specs.List.{fold}
 use Rattle.afdx_spells.specs.declared.spell.Excess.{Excess}
 use Rattle.afdx_spells.specs.declared.spell.Spell.{Spell}
@@ -44,3 +44,16 @@ spells_of gap frames = flat_map spell_in (parted gap frames)
 pub record Noted : Type 0 where
   pub gap : ℕ
   pub spells : List Spell
+
+-- the last of some spells
+abbrev pub last_of : List Spell → Option Spell
+last_of spells = slice_get spells (length spells - 1)
+
+-- a frame goes on with a spell, if there is one: at most a gap lies between that one's last frame and it
+abbrev pub goes_on : ℕ → Option Spell → Excess → Bool
+goes_on gap None x = false
+goes_on gap (Some s) x = nat_le x.at (s.last + gap)
+
+-- why a frame cannot be noted: if it goes on with the last spell, that one has 2^64 - 1 frames; else there may be no memory for its spell
+abbrev pub HasNoRoom : Noted → Excess → Type 0
+HasNoRoom n x = IfSome (last_of n.spells) (λ s. x.at ≤ s.last + n.gap → s.count ≡ 18446744073709551615)

@@ -1,7 +1,7 @@
 //! All spells of a link.
 
-ghost use Rattle.std.specs.Prelude.{◌≡◌, ◌≤◌, ◌++◌, ◌∷◌, [], List, OnOk};
-ghost use Rattle.afdx_spells.specs.Spells.{spells_of};
+ghost use Rattle.std.specs.Prelude.{◌≡◌, ◌<◌, ◌≤◌, ◌++◌, ◌∷◌, [], ℕ, true, List, length, IfSome, OnErr, OnOk};
+ghost use Rattle.afdx_spells.specs.Spells.{HasNoRoom, goes_on, last_of, spells_of};
 ghost use Rattle.afdx_spells.specs.declared.spell.Excess.{Excess as Frame};
 
 use crate::spell::{Excess, Spell};
@@ -28,25 +28,33 @@ impl<A: Allocator> Model for Spells<A> {
     ghost invariant = { λ s. s.gap ≤ 128000000 };
 }
 
-/// Notes a frame after these spells and one more, which is the last.
-fn note_after<A: Allocator + Copy>(
-    all: &mut Vec<Spell, A>,
-    gap: u64,
-    last: Spell,
-    frame: &Excess,
-) -> Result<(), AllocError>
+/// Returns whether a frame goes on with the last of these spells.
+fn goes_on(all: &[Spell], gap: u64, frame: &Excess) -> bool
     requires { gap ≤ 128000000 }
-    ensures { (frames : List Frame) → all.old.items ++ last ∷ [] ≡ spells_of gap frames → OnOk result (all.new.items ≡ spells_of gap (frames ++ frame.now ∷ [])) }
+    ensures { result ≡ goes_on gap (last_of all.now) frame.now }
 {
-    if last.takes(gap, frame) {
-        if last.count == u64::MAX {
-            return Err(AllocError);
-        }
-        all.push(last.with(frame))?;
-    } else {
-        all.push(last)?;
-        all.push(Spell::of(frame))?;
+    match all.last() {
+        Some(last) => last.takes(gap, frame),
+        None => false,
     }
+}
+
+/// Adds a frame to the last of these spells, with which it goes on.
+///
+/// An error says that this one has 2^64 - 1 frames.
+fn go_on(all: &mut [Spell], frame: &Excess) -> Result<(), AllocError>
+    requires { 0 < length all.old }
+    ensures ok { OnOk result ((gap : ℕ) (frames : List Frame) → all.old ≡ spells_of gap frames → goes_on gap (last_of all.old) frame.now ≡ true
+        → all.new ≡ spells_of gap (frames ++ frame.now ∷ [])) }
+    ensures stays { OnErr result (all.new ≡ all.old) }
+    ensures full { OnErr result (IfSome (last_of all.old) (λ s. s.count ≡ 18446744073709551615)) }
+{
+    let place = all.len() - 1;
+    let last = all[place];
+    if last.count == u64::MAX {
+        return Err(AllocError);
+    }
+    all[place] = last.with(frame);
     Ok(())
 }
 
@@ -65,20 +73,20 @@ impl<A: Allocator + Copy> Spells<A> {
 
     /// Notes one more policed frame of the link, which came after those before it.
     ///
-    /// An error says that memory ran out, or that a spell has more than 2^64 - 1 frames; what was noted is of no use then. O(1), beside what
-    /// a list takes to move.
+    /// An error says that memory ran out for a spell that it begins, or that the spell with which it goes on has 2^64 - 1 frames; what was
+    /// noted stays as it was. O(1), beside what a list takes to move.
     pub fn note(&mut self, frame: &Excess) -> Result<(), AllocError>
         ensures gap { self.new.gap ≡ self.old.gap }
         ensures spells { (frames : List Frame) → self.old.spells ≡ spells_of self.old.gap frames
             → OnOk result (self.new.spells ≡ spells_of self.old.gap (frames ++ frame.now ∷ [])) }
+        ensures stays { OnErr result (self.new ≡ self.old) }
+        ensures full { OnErr result (HasNoRoom self.old frame.now) }
     {
-        match self.all.pop() {
-            Some(last) => note_after(&mut self.all, self.gap, last, frame),
-            None => {
-                self.all.push(Spell::of(frame))?;
-                Ok(())
-            }
+        if goes_on(&self.all, self.gap, frame) {
+            return go_on(&mut self.all, frame);
         }
+        self.all.push(Spell::of(frame))?;
+        Ok(())
     }
 
     /// Returns the spells, in order. O(1).
