@@ -18,7 +18,7 @@ use Rattle.afdx_merging.specs.declared.fault.MergeFault.{MergeFault}
 use Rattle.afdx_merging.specs.declared.fault.MergeFault.TheVariants as fault
 use Rattle.afdx_merging.specs.Read.{HasFirstFault, IsMergeFault, WereAllRead}
 use Rattle.afdx_merging.specs.Inner.Lanes.{without_head, IsAtHand, IsReadBy, IsKnown, IsStopped, IsReadOut}
-use Rattle.afdx_merging.specs.Inner.Merging.{AreStoppedAt, AreAtEnd, IsFirstOut, IsFoundBefore, first_found, IsUnread}
+use Rattle.afdx_merging.specs.Inner.Merging.{AreStoppedAt, AreAtEnd, IsFirstOut, IsFoundBefore, first_found, IsUnread, IsUnreadAt}
 use Rattle.afdx_merging.proofs.Lists.{there, get-set, chosen}
 
 -- what the laws of captures say: of an early fault, and of what was taken where nothing is wrong after it
@@ -176,15 +176,35 @@ ends_all remaining mid now place to were others ends = λ k r ge lt at. elim (ca
   | inr from ↦ ends k r from lt at
 ]
 
+-- the reader at a place failed, after others that are at their ends
+pub unread_here : {R : Type 0} (remaining : R → Option (List ℕ)) (readers : List R) (from to place : ℕ) (later : R) (why : MergeFault) → place < to → AreAtEnd remaining readers from place
+    → IsUnreadAt place why → IsUnread remaining (set readers place later) from to why
+unread_here remaining readers from to place later fault.Memory lt ends is = tt
+unread_here {R} remaining readers from to place later (fault.Read at) lt ends is = (omega (arith, lt, is), end) where
+  end : (k : ℕ) (r : R) → from ≤ k → k < at → slice_get (set readers place later) k ≡ Some r → IsAtEnd (remaining r)
+  end k r ge before there = elim (get-set readers place k later r there) [
+    | inl same ↦ absurd (let k_is = same.0 in omega (arith, k_is, before, is))
+    | inr other ↦ ends k r ge (omega (arith, before, is)) other.1
+  ]
+unread_here remaining readers from to place later (fault.Capture at why) lt ends is = absurd is
+
+-- those before a place are at their ends, and so are others from there up to the one that failed
+pub unread_after : {R : Type 0} (remaining : R → Option (List ℕ)) (mid now : List R) (place to : ℕ) (why : MergeFault) → AreAtEnd remaining mid 0 place
+    → ((k : ℕ) → k < place → slice_get now k ≡ slice_get mid k) → IsUnread remaining now place to why → IsUnread remaining now 0 to why
+unread_after remaining mid now place to fault.Memory were others is = tt
+unread_after remaining mid now place to (fault.Read at) were others is = (is.0, ends_all remaining mid now place at were others is.1)
+unread_after remaining mid now place to (fault.Capture at why) were others is = absurd is
+
 -- a reader that failed is one of those that there were at first
-pub unread_fails : {R : Type 0} (remaining : R → Option (List ℕ)) (first now later : List R) (why : MergeFault) → length first ≡ length now → IsUnread (length now) why
+pub unread_fails : {R : Type 0} (remaining : R → Option (List ℕ)) (first later : List R) (many : ℕ) (why : MergeFault) → many ≤ length first → IsUnread remaining later 0 many why
     → IsMergeFault remaining first why × WereAllRead remaining later why
-unread_fails remaining first now later fault.Memory long is = (tt, tt)
-unread_fails remaining first now later (fault.Read place) long is = (subst (λ n. place < n) (sym long) is, tt)
-unread_fails remaining first now later (fault.Capture place why) long is = absurd is
+unread_fails remaining first later many fault.Memory le is = (tt, tt)
+unread_fails remaining first later many (fault.Read place) le is = let lt = is.0 in (omega (arith, lt, le), λ k r before there. is.1 k r (omega arith) before there)
+unread_fails remaining first later many (fault.Capture place why) le is = absurd is
 
 -- a failure of one of fewer readers is one of more
-pub unread_more : (few many : ℕ) (why : MergeFault) → few ≤ many → IsUnread few why → IsUnread many why
-unread_more few many fault.Memory le is = tt
-unread_more few many (fault.Read place) le is = omega (arith, le, is)
-unread_more few many (fault.Capture place why) le is = absurd is
+pub unread_more : {R : Type 0} (remaining : R → Option (List ℕ)) (readers : List R) (few many : ℕ) (why : MergeFault) → few ≤ many → IsUnread remaining readers 0 few why
+    → IsUnread remaining readers 0 many why
+unread_more remaining readers few many fault.Memory le is = tt
+unread_more remaining readers few many (fault.Read place) le is = let lt = is.0 in (omega (arith, le, lt), is.1)
+unread_more remaining readers few many (fault.Capture place why) le is = absurd is

@@ -43,8 +43,8 @@ IsMergeFault remaining readers fault.Memory = Unit {0}
 IsMergeFault remaining readers (fault.Read place) = place < length readers
 IsMergeFault remaining readers (fault.Capture place why) = HasFirstFault remaining readers place why
 
--- if one has a fault, all readers are at their ends
+-- if a reader failed, those before it are at their ends; if one has a fault, all are
 abbrev pub WereAllRead : {R : Type 0} → (R → Option (List ℕ)) → List R → MergeFault → Type 0
 WereAllRead remaining now fault.Memory = Unit {0}
-WereAllRead remaining now (fault.Read place) = Unit {0}
+WereAllRead {R} remaining now (fault.Read place) = (k : ℕ) (r : R) → k < place → slice_get now k ≡ Some r → IsAtEnd (remaining r)
 WereAllRead {R} remaining now (fault.Capture place why) = (k : ℕ) (r : R) → slice_get now k ≡ Some r → IsAtEnd (remaining r)

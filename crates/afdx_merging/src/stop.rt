@@ -1,11 +1,11 @@
 //! Which failure is answered if captures are not read on.
 
-ghost use Rattle.std.specs.Prelude.{◌≡◌, ◌<◌, ◌≤◌, ◌+◌, ℕ, None, List, length, slice_get, IfOk, IfErr, OnOk};
+ghost use Rattle.std.specs.Prelude.{◌≡◌, ◌<◌, ◌≤◌, ℕ, None, List, length, slice_get, IfOk, IfErr, OnOk};
 ghost use Rattle.std.specs.Io.KnownBytes.{IsAtEnd};
 ghost use Rattle.afdx_pairing.specs.Events.{Numbered as Seen};
 ghost use Rattle.afdx_merging.specs.Read.{HasFirstFault, IsMergeFault, WereAllRead};
 ghost use Rattle.afdx_merging.specs.Inner.Lanes.{IsReadBy, IsReadOut};
-ghost use Rattle.afdx_merging.specs.Inner.Merging.{IsUnread, HaveNoFault, AreReadBy, AreStoppedAt, AreAtEnd, IsFoundBefore, first_found};
+ghost use Rattle.afdx_merging.specs.Inner.Merging.{IsUnread, IsUnreadAt, HaveNoFault, AreReadBy, AreStoppedAt, AreAtEnd, IsFoundBefore, first_found};
 
 use crate::fault::MergeFault;
 use crate::lane::{Lane, LaneFault};
@@ -19,7 +19,7 @@ fn read_out<R: Read>(place: usize, reader: &mut R, piece: &mut [u8]) -> Result<(
     requires { 0 < length piece.old }
     ensures room { length piece.new ≡ length piece.old }
     ensures end { OnOk result (IsAtEnd (R.remaining reader.new)) }
-    ensures err { IfErr result (λ fault. IsUnread (place + 1) fault) }
+    ensures err { IfErr result (IsUnreadAt place) }
 {
     for _turn in 0..u64::MAX {
         match reader.read(piece) {
@@ -48,7 +48,7 @@ fn read_all_out<R: Read>(
     ensures many { length readers.new ≡ length readers.old }
     ensures others { (k : ℕ) → k < from → slice_get readers.new k ≡ slice_get readers.old k }
     ensures ends { OnOk result (AreAtEnd R.remaining readers.new from to) }
-    ensures err { IfErr result (λ fault. IsUnread to fault) }
+    ensures err { IfErr result (IsUnread R.remaining readers.new from to) }
 {
     for place in from..to {
         read_out(place, &mut readers[place], piece)?;
@@ -68,7 +68,7 @@ fn read_through<A: Allocator + Copy, R: Read>(
     ensures room { length piece.new ≡ length piece.old }
     ensures ok { IfOk result (λ found. (first : R) (given : List Seen) → IsReadBy R.remaining first reader.old lane.old given
         → IsReadOut R.remaining first found × IsAtEnd (R.remaining reader.new)) }
-    ensures err { IfErr result (λ fault. IsUnread (place + 1) fault) }
+    ensures err { IfErr result (IsUnreadAt place) }
 {
     early_faults_stay();
     taken_records_are_the_first();
@@ -120,7 +120,8 @@ fn fault_before<A: Allocator + Copy, R: Read>(
     ensures many { length readers.new ≡ length readers.old }
     ensures ok { IfOk result (λ found. (first : List R) → length first ≡ length readers.old → AreReadBy R.remaining first readers.old lanes.old place
         → IsFoundBefore R.remaining first place found × AreAtEnd R.remaining readers.new 0 place) }
-    ensures err { IfErr result (λ fault. IsUnread place fault) }
+    ensures err { IfErr result (λ fault. (first : List R) → length first ≡ length readers.old → AreReadBy R.remaining first readers.old lanes.old place
+        → IsUnread R.remaining readers.new 0 place fault) }
 {
     let mut found = None;
     for at in 0..place {
@@ -145,7 +146,8 @@ fn fault_of_all<A: Allocator + Copy, R: Read>(
     requires no_fault { HaveNoFault lanes.old place }
     ensures ok { IfOk result (λ found. (first : List R) → AreStoppedAt R.remaining first readers.old lanes.old place (LaneFault.Capture why)
         → HasFirstFault R.remaining first found.0 found.1 × AreAtEnd R.remaining readers.new 0 (length readers.new)) }
-    ensures err { IfErr result (λ fault. IsUnread (length readers.old) fault) }
+    ensures err { IfErr result (λ fault. (first : List R) → AreStoppedAt R.remaining first readers.old lanes.old place (LaneFault.Capture why)
+        → IsUnread R.remaining readers.new 0 (length readers.old) fault) }
 {
     early_faults_stay();
     let found = fault_before(lanes, readers, place, piece)?;

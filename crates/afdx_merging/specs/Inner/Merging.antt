@@ -64,11 +64,11 @@ pub record HasMerged {R Z : Type 0} (remaining : R → Option (List ℕ)) (clock
   pub up_to : (place : ℕ) (l : Lane Z) (n : Numbered) → slice_get m.lanes.items place ≡ Some l → l.head ≡ Some n
       → AllByRecursion (λ a. IsBy a (arrival_at place l.clock n)) arrivals
 
--- of one of so many readers it is not known what it gives: memory ran out, or it failed
-abbrev pub IsUnread : ℕ → MergeFault → Type 0
-IsUnread count fault.Memory = Unit {0}
-IsUnread count (fault.Read place) = place < count
-IsUnread count (fault.Capture place why) = ⊥
+-- of the reader at a place it is not known what it gives: memory ran out, or it failed
+abbrev pub IsUnreadAt : ℕ → MergeFault → Type 0
+IsUnreadAt place fault.Memory = Unit {0}
+IsUnreadAt place (fault.Read at) = at ≡ place
+IsUnreadAt place (fault.Capture at why) = ⊥
 
 -- ---- the next record is taken, and its capture is read on
 
@@ -119,6 +119,12 @@ pub record AreOpened {R Z : Type 0} (remaining : R → Option (List ℕ)) (clock
 -- the readers from one place to another are at their ends
 abbrev pub AreAtEnd : {R : Type 0} → (R → Option (List ℕ)) → List R → ℕ → ℕ → Type 0
 AreAtEnd {R} remaining readers from to = (k : ℕ) (r : R) → from ≤ k → k < to → slice_get readers k ≡ Some r → IsAtEnd (remaining r)
+
+-- of a reader before a place it is not known what it gives, and those from another place up to it are at their ends
+abbrev pub IsUnread : {R : Type 0} → (R → Option (List ℕ)) → List R → ℕ → ℕ → MergeFault → Type 0
+IsUnread remaining readers from to fault.Memory = Unit {0}
+IsUnread remaining readers from to (fault.Read place) = (place < to) × AreAtEnd remaining readers from place
+IsUnread remaining readers from to (fault.Capture place why) = ⊥
 
 -- the capture at a place was not read on for this, and those before it have what their readers gave
 pub record AreStoppedAt {R Z : Type 0} (remaining : R → Option (List ℕ)) (first now : List R) (lanes : List (Lane Z)) (place : ℕ) (why : LaneFault) : Type 0 where

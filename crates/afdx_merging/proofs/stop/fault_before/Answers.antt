@@ -1,9 +1,9 @@
-use Rattle.std.proofs.Common.{rules, arith, refl, ◌≡◌, ◌+◌, ◌≤◌, ◌<◌, length, length-set, subst, sym, ◌∙◌, slice_index_or}
+use Rattle.std.proofs.Common.{rules, arith, refl, ◌≡◌, ◌+◌, ◌≤◌, ◌<◌, List, length, length-set, set, subst, sym, ◌∙◌, slice_index_or}
 use Rattle.std.proofs.lemmas.Option.{slice_get-get_or}
-use Rattle.afdx_merging.specs.Inner.Merging.{AreAtEnd, IsFoundBefore, IsUnread}
+use Rattle.afdx_merging.specs.Inner.Merging.{AreReadBy, AreAtEnd, IsFoundBefore, IsUnread}
 use Rattle.afdx_merging.proofs.Failing.{of_error}
 use Rattle.afdx_merging.proofs.Lists.{set_later, there}
-use Rattle.afdx_merging.proofs.Stopping.{found_more, ends_more, unread_more}
+use Rattle.afdx_merging.proofs.Stopping.{found_more, ends_more, unread_here}
 use Rattle.afdx_merging.proofs.stop.fault_before.Goals as goal
 
 pub loop-at-init : goal.loop-at-init
@@ -32,10 +32,15 @@ offset_bounds-readers-at g c =
 
 pub returns-in_err-why-clause-err : goal.returns-in_err-why-clause-err
 returns-in_err-why-clause-err g c =
-    let test = c.loop-at-test.true in
+    let rem = g.R.Read.remaining in
+    let readers = c.args.readers.now in
+    let lanes = c.args.lanes.now in
+    let at = c.loop-at.at in
     let why = c.in_err-why.field-0.0 in
-    of_error (IsUnread c.args.place) c.from_residual.result why c.from_residual.ensures
-    (unread_more (c.loop-at.at + 1) c.args.place why (omega (arith, test)) c.in_err-why.ensures.err)
+    let later = set c.loop-at.readers at c.read_through.new.reader in
+    of_error (λ fault. (first : List g.row.R.Denot) → length first ≡ length readers → AreReadBy rem first readers lanes c.args.place → IsUnread rem later 0 c.args.place fault) c.from_residual.result why
+    c.from_residual.ensures
+    (λ first long read. unread_here rem c.loop-at.readers 0 c.args.place at c.read_through.new.reader why c.loop-at-test.true (c.loop-at.invariant.found first long read).1 c.in_err-why.ensures.err)
 
 pub read_through-requires-clause-no_fault : goal.read_through-requires-clause-no_fault
 read_through-requires-clause-no_fault g c =
