@@ -1,5 +1,5 @@
 -- What is noted at the port of a number, and whether ports have handed out all.
-use Rattle.std.proofs.Common.{◌≡◌, ℕ, ◌<◌, ◌≤◌, ◌==◌, false, List, length, get_or, slice_get, slice_index, Option, Some, None, Bor, refl, ap, sym, ◌∙◌, arith, subst, inl, inr}
+use Rattle.std.proofs.Common.{◌≡◌, ℕ, ◌<◌, ◌≤◌, ◌==◌, false, true, List, length, get_or, slice_get, slice_index, Option, Some, None, Bor, refl, ap, sym, ◌∙◌, arith, subst, inl, inr}
 use Rattle.std.specs.Prelude.{MatchOption}
 use Rattle.std.specs.Option.{option_copied, is_some}
 use Rattle.std.proofs.lemmas.Bool.{eq-eqb}
@@ -12,6 +12,7 @@ use Rattle.afdx_port.specs.declared.Sent.{Sent}
 use Rattle.afdx_core.specs.State.{Run, sent_in, next_at, next_by, place_of, IsNextOf}
 use Rattle.afdx_measure.specs.declared.gauges.AtPort.{AtPort}
 use Rattle.afdx_measure.specs.declared.gauges.Gauges.{Gauges}
+use Rattle.afdx_measure.specs.Handed.{AllHandedOut}
 use Rattle.afdx_measure.specs.Inner.Gauged.{IsGaugedAt, IsOfPort, AreGauged}
 use Rattle.afdx_measure.proofs.Numbered.{found_at, none_passes, past_all, placed}
 
@@ -57,6 +58,11 @@ none_past r k past = ap (λ (o : Option PortRow). slice_get (sent_in r o) (slice
 none_left : (r : Run) (port : ℕ) (o : Option (ℕ × Sent)) → IsNextOf r port o → is_some o ≡ false → next_by r (place_of r port) ≡ None
 none_left r port None next none = next
 none_left r port (Some x) next none = absurd (cc)
+
+-- and one that answers that it has something next
+pub some_left : (r : Run) (port : ℕ) (o : Option (ℕ × Sent)) → IsNextOf r port o → is_some o ≡ true → AllHandedOut r → ⊥
+some_left r port None next some all = absurd (let never = some in (cc))
+some_left r port (Some x) next some all = absurd (let none = all x.0 in let is = next.1 in (cc))
 
 pub none_here : PortsAreDistinct → (r : Run) (rows : List PortRow) (k : ℕ) (d : PortRow) (o : Option (ℕ × Sent)) → rows ≡ r.table.ports → IsWellFormed r.table → k < length rows
     → IsNextOf r (get_or rows k d).id o → is_some o ≡ false → next_at r k ≡ None

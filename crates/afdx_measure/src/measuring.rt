@@ -1,6 +1,6 @@
 //! A switch that lets go of what has left it, and notes on the way what is asked of its run.
 
-ghost use Rattle.std.specs.Prelude.{◌≡◌, ℕ, ◌-◌, ◌<◌, ◌≤◌, [], true, false, length, slice_get, Some, None, IfOk, IfErr, OnOk, OnErr, IfSome, IsTrue, MatchOption};
+ghost use Rattle.std.specs.Prelude.{◌≡◌, ◌↔◌, ℕ, ◌-◌, ◌<◌, ◌≤◌, [], true, false, length, slice_get, Some, None, IfOk, IfErr, OnOk, OnErr, IfNone, IfSome, IsTrue, MatchOption};
 ghost use Rattle.afdx_units.specs.Time.{last_second};
 ghost use Rattle.afdx_table.specs.declared.rows.PortRow.{PortRow};
 ghost use Rattle.afdx_table.specs.Link.{Link};
@@ -171,7 +171,7 @@ fn policing_of<A: Allocator + Copy>(alloc: A, table: &Table, wanted: Wanted) -> 
 
 /// Returns whether each port has handed out all that it sent. O(ports).
 fn all_handed_out<A: Allocator + Copy>(relayed: &Relayed<'_, A>) -> bool
-    ensures { IsTrue result → AllHandedOut relayed.now.run }
+    ensures { IsTrue result ↔ AllHandedOut relayed.now.run }
 {
     ports_are_distinct();
     for port in relayed.table().ports() {
@@ -188,7 +188,8 @@ fn measures_of<'a, A: Allocator + Copy>(
     gauges: Option<Gauges<A>>,
 ) -> Option<Measures<'a, A>>
     requires { AgreesWith relayed.run gauges }
-    ensures { IfSome result (λ measures. measures ≡ relayed.entry) }
+    ensures some { IfSome result (λ measures. measures ≡ relayed.entry) }
+    ensures none { IfNone result (AllHandedOut relayed.entry.run → gauges ≡ None) }
 {
     if !all_handed_out(&relayed) {
         return None;
