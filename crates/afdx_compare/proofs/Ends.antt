@@ -4,16 +4,16 @@ use Rattle.std.specs.Prelude.{nat_le, ◌&&◌, ◌||◌, not, if◌then◌else�
 use Rattle.std.specs.List.{AllByRecursion}
 use Rattle.std.specs.Option.{is_some, option_or, option_map_or}
 use Rattle.std.proofs.lemmas.Bool.{leb-true, le-leb}
+use Rattle.afdx_units.specs.Time.{earlier_of}
 use Rattle.afdx_pairing.specs.Events.{Numbered}
 use Rattle.afdx_following.specs.declared.watch.Watch.{Watch}
 use Rattle.afdx_following.specs.Watch.{has_begun, has_not_ended, has_frame, has_record}
 use Rattle.afdx_merging.specs.Merge.{Arrival}
-use Rattle.afdx_merging.specs.Inner.Merging.{lesser as both_lesser}
-use Rattle.afdx_merging.proofs.Firsts.{lesser_joins}
+use Rattle.afdx_merging.proofs.Firsts.{earlier_joins}
 use Rattle.afdx_recordings.specs.declared.recordings.Recordings.{Recordings}
 use Rattle.afdx_compare.specs.declared.sources.Source.{Source}
 use Rattle.afdx_compare.specs.Comparison.{Comparison, place_of_own, own_came, with_came, link_at, record_left, with_left, with_until}
-use Rattle.afdx_compare.specs.Arrivals.{with_record_of, with_arrivals, lesser, greater, least_of, greatest_of}
+use Rattle.afdx_compare.specs.Arrivals.{with_record_of, with_arrivals, greater, least_of, greatest_of}
 use Rattle.afdx_compare.specs.Inner.Due.{counts_as, counts}
 use Rattle.afdx_compare.specs.Inner.Held.{is_settled_of}
 use Rattle.afdx_compare.proofs.Calling.{seen_at}
@@ -21,20 +21,14 @@ use Rattle.afdx_compare.proofs.Next.{arrival_same}
 
 -- ---- the least stamp
 
-with_least : (one : ℕ) (rest : Option ℕ) → Some (lesser one rest) ≡ both_lesser (Some one) rest
-with_least one None = refl
-with_least one (Some n) = refl
-
 -- with one more, and with the least of others
 pub least_more : (xs : List Arrival) (a : Arrival) (rest : Option ℕ)
-    → both_lesser (least_of xs) (both_lesser (Some a.head.frame.stamp) rest) ≡ both_lesser (least_of (xs ++ a ∷ [])) rest
+    → earlier_of (least_of xs) (earlier_of (Some a.head.frame.stamp) rest) ≡ earlier_of (least_of (xs ++ a ∷ [])) rest
 least_more [] a rest = refl
 least_more (x ∷ xs) a rest =
-    ap (λ (o : Option ℕ). both_lesser o (both_lesser (Some a.head.frame.stamp) rest)) (with_least x.head.frame.stamp (least_of xs))
-    ∙ lesser_joins (Some x.head.frame.stamp) (least_of xs) (both_lesser (Some a.head.frame.stamp) rest)
-    ∙ ap (λ (o : Option ℕ). both_lesser (Some x.head.frame.stamp) o) (least_more xs a rest)
-    ∙ sym (lesser_joins (Some x.head.frame.stamp) (least_of (xs ++ a ∷ [])) rest)
-    ∙ ap (λ (o : Option ℕ). both_lesser o rest) (sym (with_least x.head.frame.stamp (least_of (xs ++ a ∷ []))))
+    earlier_joins (Some x.head.frame.stamp) (least_of xs) (earlier_of (Some a.head.frame.stamp) rest)
+    ∙ ap (λ (o : Option ℕ). earlier_of (Some x.head.frame.stamp) o) (least_more xs a rest)
+    ∙ sym (earlier_joins (Some x.head.frame.stamp) (least_of (xs ++ a ∷ [])) rest)
 
 -- ---- the greatest stamp
 

@@ -4,6 +4,7 @@ use Rattle.std.specs.Prelude.{◌≤◌, true, slice_get}
 use Rattle.std.specs.List.{AllByRecursion}
 use Rattle.std.specs.Option.{option_or}
 use Rattle.std.proofs.lemmas.List.{append_assoc}
+use Rattle.afdx_units.specs.Time.{earlier_of}
 use Rattle.afdx_table.specs.Link.{Link}
 use Rattle.afdx_table.specs.Content.{Content}
 use Rattle.afdx_table.specs.WellFormed.{IsWellFormed}
@@ -14,8 +15,8 @@ use Rattle.afdx_following.specs.Watched.{Watched}
 use Rattle.afdx_merging.specs.declared.merging.Merging.{Merging}
 use Rattle.afdx_merging.specs.Merge.{Arrival, AreInOrder, IsAfter}
 use Rattle.afdx_merging.specs.Read.{AreMerged}
-use Rattle.afdx_merging.specs.Inner.Merging.{HasMerged, lesser, least_of as least_at_hand}
-use Rattle.afdx_merging.proofs.Firsts.{lesser_none}
+use Rattle.afdx_merging.specs.Inner.Merging.{HasMerged, least_of as least_at_hand}
+use Rattle.afdx_merging.proofs.Firsts.{earlier_none}
 use Rattle.afdx_recordings.specs.declared.recordings.Recordings.{Recordings}
 use Rattle.afdx_compare.specs.Comparison.{Comparison, watch_of, IsBegun, with_until, with_end}
 use Rattle.afdx_compare.specs.Sources.{Sources, sources_of}
@@ -129,7 +130,7 @@ next_may remaining ports r s first now later m new least greatest waits start c 
 pub next_read : {R Z : Type 0} (remaining : R → Option (List ℕ)) (r : Recordings) (s : Sources) (first now later : List R) (m new : Merging Z) (least greatest great : Option ℕ)
     (waits rest : List Arrival) (start c d : Comparison) → (has : HasRead remaining r s first now m least greatest waits start c) → (a : Arrival)
     → HasMerged remaining s.clocks first later new (has.came ++ a ∷ []) → IsAfter s.clocks has.came a
-    → lesser (Some a.head.frame.stamp) (least_at_hand new.lanes.items) ≡ least_at_hand m.lanes.items → great ≡ Some (greater a.head.frame.stamp greatest)
+    → earlier_of (Some a.head.frame.stamp) (least_at_hand new.lanes.items) ≡ least_at_hand m.lanes.items → great ≡ Some (greater a.head.frame.stamp greatest)
     → AreTaken r s.captures great (waits ++ a ∷ []) rest c d → HasRead remaining r s first later new least great rest start d
 next_read remaining r s first now later m new least greatest great waits rest start c d has a merged after least_is great_is more =
     let was = has.taken in
@@ -138,7 +139,7 @@ next_read remaining r s first now later m new least greatest great waits rest st
       came = has.came ++ a ∷ [];
       merged = merged;
       clocked = all_more (IsClocked s.clocks) has.came a has.clocked (one_clocked s has.came a after);
-      least_is = sym (least_more has.came a (least_at_hand new.lanes.items)) ∙ ap (λ (o : Option ℕ). lesser (least_of has.came) o) least_is ∙ has.least_is;
+      least_is = sym (least_more has.came a (least_at_hand new.lanes.items)) ∙ ap (λ (o : Option ℕ). earlier_of (least_of has.came) o) least_is ∙ has.least_is;
       greatest_is = great_is ∙ ap (λ (g : Option ℕ). Some (greater a.head.frame.stamp g)) has.greatest_is ∙ sym (greatest_more has.came a);
       taken = record {
         taken = was.taken ++ more.taken;
@@ -158,7 +159,7 @@ read_out remaining r s first now m least greatest waits start c has merged none 
   came = has.came;
   merged = merged;
   clocked = has.clocked;
-  least_is = sym (lesser_none (least_of has.came)) ∙ ap (λ (o : Option ℕ). lesser (least_of has.came) o) (sym none) ∙ has.least_is;
+  least_is = sym (earlier_none (least_of has.came)) ∙ ap (λ (o : Option ℕ). earlier_of (least_of has.came) o) (sym none) ∙ has.least_is;
   greatest_is = has.greatest_is;
   taken = has.taken;
 }

@@ -1,6 +1,7 @@
 -- All that came and left, in the order of the instants (profile).
-use Rattle.std.specs.Prelude.{ℕ, min, max, List, [], ◌∷◌, Option, Some, None, slice_get, if◌then◌else◌}
+use Rattle.std.specs.Prelude.{ℕ, max, List, [], ◌∷◌, Option, Some, None, slice_get, if◌then◌else◌}
 use Rattle.std.specs.Option.{option_or, option_map_or}
+use Rattle.afdx_units.specs.Time.{earlier_of}
 use Rattle.afdx_merging.specs.Merge.{Arrival}
 use Rattle.afdx_recordings.specs.declared.recordings.Recordings.{Recordings}
 use Rattle.afdx_compare.specs.declared.sources.Source.{Source}
@@ -22,18 +23,15 @@ with_arrivals captures (a ∷ arrivals) c = with_arrivals captures arrivals (wit
 
 -- ---- the span
 
--- the least and the greatest instant of all, if there are any
-abbrev pub lesser : ℕ → Option ℕ → ℕ
-lesser at None = at
-lesser at (Some other) = min at other
-
+-- the greater of an instant and one that may be missing
 abbrev pub greater : ℕ → Option ℕ → ℕ
 greater at None = at
 greater at (Some other) = max at other
 
+-- the least and the greatest instant of all, if there are any
 abbrev pub least_of : List Arrival → Option ℕ
 least_of [] = None
-least_of (a ∷ arrivals) = Some (lesser a.head.frame.stamp (least_of arrivals))
+least_of (a ∷ arrivals) = earlier_of (Some a.head.frame.stamp) (least_of arrivals)
 
 abbrev pub greatest_of : List Arrival → Option ℕ
 greatest_of [] = None

@@ -6,11 +6,12 @@ use Rattle.std.proofs.Math.Numerals.{suc-eq-add-one}
 use Rattle.std.proofs.Math.Seq.{drop-cons}
 use Rattle.std.proofs.lemmas.Bool.{cases_lt, lt-ltb, ltb-true}
 use Rattle.std.proofs.lemmas.Option.{same_Some}
+use Rattle.afdx_units.specs.Time.{earlier_of}
 use Rattle.afdx_earliest.specs.Instants.{instant_at, IsFirstIn}
 use Rattle.afdx_pairing.specs.Events.{Numbered}
 use Rattle.afdx_merging.specs.declared.lane.Lane.{Lane}
 use Rattle.afdx_merging.specs.Merge.{due_at}
-use Rattle.afdx_merging.specs.Inner.Merging.{due_of, dues_of, sooner, lesser, least_of, stamp_of}
+use Rattle.afdx_merging.specs.Inner.Merging.{due_of, dues_of, sooner, least_of, stamp_of}
 
 -- the instant at the place of a lane
 pub instant_of : {Z : Type 0} (lanes : List (Lane Z)) (k : ℕ) (l : Lane Z) → slice_get lanes k ≡ Some l → instant_at (dues_of lanes) k ≡ due_of l
@@ -91,15 +92,15 @@ first_more instants n (Some found) (Some due) was here = elim (cases_lt due foun
 
 -- ---- the least
 
-pub lesser_joins : (a b c : Option ℕ) → lesser (lesser a b) c ≡ lesser a (lesser b c)
-lesser_joins None b c = refl
-lesser_joins (Some a) None c = refl
-lesser_joins (Some a) (Some b) None = refl
-lesser_joins (Some a) (Some b) (Some c) = ap Some (omega arith)
+pub earlier_joins : (a b c : Option ℕ) → earlier_of (earlier_of a b) c ≡ earlier_of a (earlier_of b c)
+earlier_joins None b c = refl
+earlier_joins (Some a) None c = refl
+earlier_joins (Some a) (Some b) None = refl
+earlier_joins (Some a) (Some b) (Some c) = ap Some (omega arith)
 
-pub lesser_none : (a : Option ℕ) → lesser a None ≡ a
-lesser_none None = refl
-lesser_none (Some a) = refl
+pub earlier_none : (a : Option ℕ) → earlier_of a None ≡ a
+earlier_none None = refl
+earlier_none (Some a) = refl
 
 none_left : {Z : Type 0} (lanes : List (Lane Z)) (k : ℕ) → length lanes ≤ k → drop k lanes ≡ []
 none_left [] k le = none k where
@@ -112,41 +113,41 @@ none_left (l ∷ lanes) (suc k) le = none_left lanes k (omega (arith, le))
 next_lane : {Z : Type 0} (lanes : List (Lane Z)) (k : ℕ) (l : Lane Z) → k < length lanes → l ≡ get_or lanes k l → drop k lanes ≡ l ∷ drop (k + 1) lanes
 next_lane lanes k l lt is = drop-cons lanes k l lt ∙ ap (λ x. x ∷ drop (suc k) lanes) (sym is) ∙ ap (λ n. l ∷ drop n lanes) (suc-eq-add-one k)
 
-pub least_more : {Z : Type 0} (lanes : List (Lane Z)) (k : ℕ) (l : Lane Z) (old new : Option ℕ) → k < length lanes → l ≡ get_or lanes k l → new ≡ lesser old (stamp_of l)
-    → lesser old (least_of (drop k lanes)) ≡ least_of lanes → lesser new (least_of (drop (k + 1) lanes)) ≡ least_of lanes
+pub least_more : {Z : Type 0} (lanes : List (Lane Z)) (k : ℕ) (l : Lane Z) (old new : Option ℕ) → k < length lanes → l ≡ get_or lanes k l → new ≡ earlier_of old (stamp_of l)
+    → earlier_of old (least_of (drop k lanes)) ≡ least_of lanes → earlier_of new (least_of (drop (k + 1) lanes)) ≡ least_of lanes
 least_more {Z} lanes k l old new lt is same was =
-    ap (λ (m : Option ℕ). lesser m (least_of (drop (k + 1) lanes))) same ∙ lesser_joins old (stamp_of l) (least_of (drop (k + 1) lanes))
-    ∙ ap (λ (ls : List (Lane Z)). lesser old (least_of ls)) (sym (next_lane lanes k l lt is)) ∙ was
+    ap (λ (m : Option ℕ). earlier_of m (least_of (drop (k + 1) lanes))) same ∙ earlier_joins old (stamp_of l) (least_of (drop (k + 1) lanes))
+    ∙ ap (λ (ls : List (Lane Z)). earlier_of old (least_of ls)) (sym (next_lane lanes k l lt is)) ∙ was
 
-pub least_all : {Z : Type 0} (lanes : List (Lane Z)) (k : ℕ) (least : Option ℕ) → length lanes ≤ k → lesser least (least_of (drop k lanes)) ≡ least_of lanes → least ≡ least_of lanes
-least_all {Z} lanes k least le was = sym (lesser_none least) ∙ ap (λ (ls : List (Lane Z)). lesser least (least_of ls)) (sym (none_left lanes k le)) ∙ was
+pub least_all : {Z : Type 0} (lanes : List (Lane Z)) (k : ℕ) (least : Option ℕ) → length lanes ≤ k → earlier_of least (least_of (drop k lanes)) ≡ least_of lanes → least ≡ least_of lanes
+least_all {Z} lanes k least le was = sym (earlier_none least) ∙ ap (λ (ls : List (Lane Z)). earlier_of least (least_of ls)) (sym (none_left lanes k le)) ∙ was
 
 -- ---- the least, where the next record is taken
 
-lesser_swaps : (a b c : Option ℕ) → lesser a (lesser b c) ≡ lesser b (lesser a c)
-lesser_swaps None b c = refl
-lesser_swaps (Some a) None None = refl
-lesser_swaps (Some a) None (Some c) = refl
-lesser_swaps (Some a) (Some b) None = ap Some (omega arith)
-lesser_swaps (Some a) (Some b) (Some c) = ap Some (omega arith)
+earlier_swaps : (a b c : Option ℕ) → earlier_of a (earlier_of b c) ≡ earlier_of b (earlier_of a c)
+earlier_swaps None b c = refl
+earlier_swaps (Some a) None None = refl
+earlier_swaps (Some a) None (Some c) = refl
+earlier_swaps (Some a) (Some b) None = ap Some (omega arith)
+earlier_swaps (Some a) (Some b) (Some c) = ap Some (omega arith)
 
 -- with what is no less it stays
-lesser_stays : (a : ℕ) (b c : Option ℕ) → ((n : ℕ) → b ≡ Some n → a ≤ n) → lesser (Some a) (lesser b c) ≡ lesser (Some a) c
-lesser_stays a None c le = refl
-lesser_stays a (Some b) None le = let it = le b refl in ap Some (omega (arith, it))
-lesser_stays a (Some b) (Some c) le = let it = le b refl in ap Some (omega (arith, it))
+earlier_stays : (a : ℕ) (b c : Option ℕ) → ((n : ℕ) → b ≡ Some n → a ≤ n) → earlier_of (Some a) (earlier_of b c) ≡ earlier_of (Some a) c
+earlier_stays a None c le = refl
+earlier_stays a (Some b) None le = let it = le b refl in ap Some (omega (arith, it))
+earlier_stays a (Some b) (Some c) le = let it = le b refl in ap Some (omega (arith, it))
 
 -- a lane's next record is taken, and what is then at hand is no sooner
 pub least_taken : {Z : Type 0} (lanes : List (Lane Z)) (k : ℕ) (was now : Lane Z) (a : ℕ) → slice_get lanes k ≡ Some was → stamp_of was ≡ Some a → ((n : ℕ) → stamp_of now ≡ Some n → a ≤ n)
-    → lesser (Some a) (least_of (set lanes k now)) ≡ least_of lanes
+    → earlier_of (Some a) (least_of (set lanes k now)) ≡ least_of lanes
 least_taken [] k was now a at is le = absurd cc
 least_taken {Z} (x ∷ lanes) zero was now a at is le =
-    lesser_stays a (stamp_of now) (least_of lanes) le
-    ∙ ap (λ (o : Option ℕ). lesser o (least_of lanes)) (sym is)
-    ∙ ap (λ (l : Lane Z). lesser (stamp_of l) (least_of lanes)) (sym (same_Some x was at))
+    earlier_stays a (stamp_of now) (least_of lanes) le
+    ∙ ap (λ (o : Option ℕ). earlier_of o (least_of lanes)) (sym is)
+    ∙ ap (λ (l : Lane Z). earlier_of (stamp_of l) (least_of lanes)) (sym (same_Some x was at))
 least_taken (x ∷ lanes) (suc k) was now a at is le =
-    lesser_swaps (Some a) (stamp_of x) (least_of (set lanes k now))
-    ∙ ap (λ (o : Option ℕ). lesser (stamp_of x) o) (least_taken lanes k was now a at is le)
+    earlier_swaps (Some a) (stamp_of x) (least_of (set lanes k now))
+    ∙ ap (λ (o : Option ℕ). earlier_of (stamp_of x) o) (least_taken lanes k was now a at is le)
 
 no_stamp : {Z : Type 0} (l : Lane Z) → due_of l ≡ None → stamp_of l ≡ None
 no_stamp {Z} l none = by l.head none where
@@ -158,5 +159,5 @@ no_stamp {Z} l none = by l.head none where
 pub least_none : {Z : Type 0} (lanes : List (Lane Z)) → IsFirstIn (dues_of lanes) (length lanes) None → least_of lanes ≡ None
 least_none [] none = refl
 least_none {Z} (l ∷ lanes) none =
-    ap (λ (o : Option ℕ). lesser o (least_of lanes)) (no_stamp l (none 0 (omega arith)))
+    ap (λ (o : Option ℕ). earlier_of o (least_of lanes)) (no_stamp l (none 0 (omega arith)))
     ∙ least_none lanes (λ j lt. none (suc j) (omega (arith, lt)))

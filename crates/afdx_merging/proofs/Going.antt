@@ -10,6 +10,7 @@ use Rattle.std.proofs.lemmas.Bool.{cases_lt, eq-eqb, ne_eqb}
 use Rattle.std.proofs.lemmas.List.{append-nil, map-append}
 use Rattle.std.proofs.lemmas.List.Elements.{filter-append}
 use Rattle.std.proofs.lemmas.Option.{same_Some, slice_get_within}
+use Rattle.afdx_units.specs.Time.{earlier_of}
 use Rattle.afdx_pcap.specs.Reading.{as_taking}
 use Rattle.afdx_earliest.specs.Instants.{instant_at, IsFirstUpTo}
 use Rattle.afdx_pairing.specs.Events.{Numbered}
@@ -18,7 +19,7 @@ use Rattle.afdx_merging.specs.declared.lane.Lane.{Lane}
 use Rattle.afdx_merging.specs.declared.merging.Merging.{Merging}
 use Rattle.afdx_merging.specs.Merge.{due_at, numbered_from, Arrival, arrival_at, at_place, IsBy, AreInOrder, IsAfter}
 use Rattle.afdx_merging.specs.Inner.Lanes.{without_head, IsAtHand, IsReadBy}
-use Rattle.afdx_merging.specs.Inner.Merging.{dues_of, lesser, least_of, IsLaneOf, HasMerged, HaveNoFault, AreReadBy, HasNoneAt, Takes, IsAdvanced}
+use Rattle.afdx_merging.specs.Inner.Merging.{dues_of, least_of, IsLaneOf, HasMerged, HaveNoFault, AreReadBy, HasNoneAt, Takes, IsAdvanced}
 use Rattle.afdx_merging.proofs.Firsts.{instant_of, least_taken}
 use Rattle.afdx_merging.proofs.Lists.{all_more, all_weaker, get-set, set_twice, there, back_items}
 use Rattle.afdx_merging.proofs.Rising.{taken_rises}
@@ -308,9 +309,9 @@ stamps_rise a place c n due (inr same) = let equal = same.0 in omega (arith, due
 
 least_left : {R Z : Type 0} (remaining : R → Option (List ℕ)) (clocks : List Clock) (first now later : List R) (m new : Merging Z) (came : List Arrival) (mid : List (Lane Z)) (a : Arrival)
     → Takes m.lanes.items mid a → IsAdvanced remaining now later mid new.lanes.items a.place → HasMerged remaining clocks first later new (came ++ a ∷ [])
-    → lesser (Some a.head.frame.stamp) (least_of new.lanes.items) ≡ least_of m.lanes.items
+    → earlier_of (Some a.head.frame.stamp) (least_of new.lanes.items) ≡ least_of m.lanes.items
 least_left {R} {Z} remaining clocks first now later m new came mid a takes on merged =
-    ap (λ (ls : List (Lane Z)). lesser (Some a.head.frame.stamp) (least_of ls)) lanes
+    ap (λ (ls : List (Lane Z)). earlier_of (Some a.head.frame.stamp) (least_of ls)) lanes
     ∙ least_taken m.lanes.items a.place takes.lane on.later a.head.frame.stamp takes.at (ap (λ (o : Option Numbered). option_map (λ (x : Numbered). x.frame.stamp) o) takes.head)
     (λ n is. by on.later.head refl n is) where
       lanes : new.lanes.items ≡ set m.lanes.items a.place on.later
@@ -338,7 +339,7 @@ least_left {R} {Z} remaining clocks first now later m new came mid a takes on me
 pub least_goes : {R Z : Type 0} (remaining : R → Option (List ℕ)) (clocks : List Clock) (first now later : List R) (m : Merging Z) (came : List Arrival) (ws vs : List (Lane Z))
     (ps : List ℕ) (a : Arrival)
     → HasMerged remaining clocks first now m came → Takes m.lanes.items ws a → IsAdvanced remaining now later ws vs a.place → length ps ≡ length m.piece.items
-    → lesser (Some a.head.frame.stamp) (least_of (with_items (with_items m.lanes ws) vs).items) ≡ least_of m.lanes.items
+    → earlier_of (Some a.head.frame.stamp) (least_of (with_items (with_items m.lanes ws) vs).items) ≡ least_of m.lanes.items
 least_goes {R} {Z} remaining clocks first now later m came ws vs ps a merged takes on same =
     let new : Merging Z = record { lanes = with_items (with_items m.lanes ws) vs; piece = with_items m.piece ps } in
     let taken = taken_back m.lanes ws a takes in

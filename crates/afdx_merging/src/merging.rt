@@ -1,12 +1,13 @@
 //! Captures in the order of their records.
 
 ghost use Rattle.std.specs.Prelude.{◌≡◌, ◌<◌, ◌+◌, ◌++◌, ◌∷◌, [], None, Some, List, length, map, IfOk, IfErr, OnOk, IfSome, IfNone};
+ghost use Rattle.afdx_units.specs.Time.{earlier_of};
 ghost use Rattle.afdx_earliest.specs.Instants.{IsFirstIn};
 ghost use Rattle.afdx_merging.specs.declared.clock.Clock.{Clock as By};
 ghost use Rattle.afdx_merging.specs.Merge.{Arrival as Came, IsAfter};
 ghost use Rattle.afdx_merging.specs.Read.{AreMerged, IsMergeFault, WereAllRead};
 ghost use Rattle.afdx_merging.specs.Inner.Lanes.{fresh_lane};
-ghost use Rattle.afdx_merging.specs.Inner.Merging.{dues_of, sooner, lesser, least_of, HasMerged, HaveNoFault, HasNoneAt, AreReadBy, Takes, IsAdvanced, AreOpened};
+ghost use Rattle.afdx_merging.specs.Inner.Merging.{dues_of, sooner, least_of, HasMerged, HaveNoFault, HasNoneAt, AreReadBy, Takes, IsAdvanced, AreOpened};
 
 use crate::clock::Clock;
 use crate::fault::MergeFault;
@@ -14,7 +15,7 @@ use crate::head::Head;
 use crate::lane::Lane;
 use crate::stop::first_failure;
 use afdx_pcap::laws::taken_records_are_the_first;
-use afdx_units::Stamp;
+use afdx_units::{Stamp, earlier_of};
 use std::alloc::{AllocError, Allocator};
 use std::io::Read;
 use std::marker::Model;
@@ -141,24 +142,13 @@ fn read_first<A: Allocator + Copy, R: Read>(
     Ok(())
 }
 
-/// Returns the lesser of two instants, if there are any.
-fn lesser(one: Option<Stamp>, other: Option<Stamp>) -> Option<Stamp>
-    ensures { result ≡ lesser one other }
-{
-    match (one, other) {
-        (Some(one), Some(other)) => { if one < other { Some(one) } else { Some(other) } }
-        (Some(one), None) => Some(one),
-        (None, other) => other,
-    }
-}
-
 /// Returns the least instant of the records that are at hand, if there are any.
 fn least_of<A: Allocator + Copy>(lanes: &[Lane<A>]) -> Option<Stamp>
     ensures { result ≡ least_of lanes.now }
 {
     let mut least = None;
     for lane in lanes {
-        least = lesser(least, lane.stamp());
+        least = earlier_of(least, lane.stamp());
     }
     least
 }
@@ -207,7 +197,7 @@ impl<A: Allocator + Copy> Merging<A> {
             → HasMerged R.remaining clocks first readers.new self.new (came ++ a ∷ []) × IsAfter clocks came a)) }
         ensures none { IfOk result (λ found. IfNone found ((clocks : List By) (first : List R) (came : List Came)
             → HasMerged R.remaining clocks first readers.old self.old came → AreMerged R.remaining clocks first came)) }
-        ensures least { IfOk result (λ found. IfSome found (λ a. lesser (Some a.head.frame.stamp) (least_of self.new.lanes.items) ≡ least_of self.old.lanes.items)) }
+        ensures least { IfOk result (λ found. IfSome found (λ a. earlier_of (Some a.head.frame.stamp) (least_of self.new.lanes.items) ≡ least_of self.old.lanes.items)) }
         ensures none_left { IfOk result (λ found. IfNone found (least_of self.old.lanes.items ≡ None)) }
         ensures err { IfErr result (λ fault. (clocks : List By) (first : List R) (came : List Came)
             → HasMerged R.remaining clocks first readers.old self.old came → IsMergeFault R.remaining first fault) }

@@ -12,12 +12,13 @@ use Rattle.std.proofs.lemmas.List.Elements.{All-more, All-weaker, All-append, Al
 use Rattle.std.proofs.lemmas.Map.Keys.{ge_from_not_lt}
 use Rattle.std.proofs.lemmas.Option.{same_Some, get_or_from_slice_get}
 use Rattle.afdx_units.specs.Line.{cost_of, least_size}
+use Rattle.afdx_units.specs.Time.{earlier_of}
 use Rattle.afdx_table.specs.declared.rows.PortRow.{PortRow}
 use Rattle.afdx_table.specs.Content.{Content, port_row}
 use Rattle.afdx_wiring.specs.declared.layout.Wire.{Wire}
 use Rattle.afdx_wiring.specs.File.{is_end}
 use Rattle.afdx_network_check.specs.Net.{Network}
-use Rattle.afdx_network.specs.Inner.Sites.{Site, IsWithin, wire_place, acts_before, earlier_of, IsFirst}
+use Rattle.afdx_network.specs.Inner.Sites.{Site, IsWithin, wire_place, acts_before, IsFirst}
 use Rattle.afdx_network.proofs.Rows.{is_itself}
 
 -- ---- the least of the times of all wires

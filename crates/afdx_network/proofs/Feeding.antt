@@ -7,7 +7,7 @@ use Rattle.std.proofs.lemmas.Bool.{eqb-true, eq-eqb, ne_eqb, cases_eq}
 use Rattle.std.proofs.lemmas.List.{length-set, map-append}
 use Rattle.std.proofs.lemmas.List.Elements.{All-contains, All-contains_itself, All-set, All-weaker}
 use Rattle.std.proofs.lemmas.Option.{same_Some, slice_get_within, get_or_from_slice_get}
-use Rattle.afdx_units.specs.Time.{second, last_second}
+use Rattle.afdx_units.specs.Time.{second, last_second, earlier_of}
 use Rattle.afdx_pcap.specs.Record.{Record, IsWithinLimit}
 use Rattle.afdx_pcap.specs.Text.{AreReadable}
 use Rattle.afdx_pcap.specs.Fault.{last_stamp}
@@ -16,7 +16,6 @@ use Rattle.afdx_table.specs.declared.rows.PortRow.{PortRow}
 use Rattle.afdx_table.specs.Content.{Content}
 use Rattle.afdx_table.specs.WellFormed.{Rises as PortsRise, IsWellFormed}
 use Rattle.afdx_merging.specs.Merge.{Arrival, at_place}
-use Rattle.afdx_merging.specs.Inner.Merging.{lesser}
 use Rattle.afdx_merging.proofs.Timed.{there_at}
 use Rattle.afdx_session.specs.Texts.{Text}
 use Rattle.afdx_paced.specs.Paced.{Lane, lane_at, changed, came_in, put_refusal}
@@ -172,7 +171,7 @@ all_at_place P k (a ∷ came) all = by (a.place == k) (all_at_place P k came all
   by true rest = (all.0, rest)
   by false rest = rest
 
-least_from : (h n : ℕ) (next before : Option ℕ) → lesser (Some n) next ≡ before → IsNotBefore h before → (h ≤ n) × IsNotBefore h next
+least_from : (h n : ℕ) (next before : Option ℕ) → earlier_of (Some n) next ≡ before → IsNotBefore h before → (h ≤ n) × IsNotBefore h next
 least_from h n None before is from = (subst (IsNotBefore h) (sym is) from, tt)
 least_from h n (Some m) before is from =
     let least : h ≤ min n m = subst (IsNotBefore h) (sym is) from in

@@ -9,7 +9,7 @@ use Rattle.std.proofs.lemmas.Bool.{le-ltb, ltb-false}
 use Rattle.std.proofs.lemmas.List.{append-nil, length-append, length-map}
 use Rattle.std.proofs.lemmas.List.Elements.{All-from_recursion, All-weaker}
 use Rattle.std.proofs.lemmas.Option.{same_Some, slice_get-map, slice_get_read, slice_get_within}
-use Rattle.afdx_units.specs.Time.{second, last_second, last_instant}
+use Rattle.afdx_units.specs.Time.{second, last_second, last_instant, earlier_of}
 use Rattle.afdx_pcap.specs.Record.{Record}
 use Rattle.afdx_pcap.proofs.Early.{first_early}
 use Rattle.afdx_pairing.specs.Events.{Numbered}
@@ -19,7 +19,7 @@ use Rattle.afdx_merging.specs.declared.clock.Clock.{Clock}
 use Rattle.afdx_merging.specs.declared.lane.Lane.{Lane as Reading}
 use Rattle.afdx_merging.specs.Merge.{Arrival, numbered_from, same_clock}
 use Rattle.afdx_merging.specs.Inner.Lanes.{HasGiven}
-use Rattle.afdx_merging.specs.Inner.Merging.{IsLaneOf, least_of, lesser, stamp_of}
+use Rattle.afdx_merging.specs.Inner.Merging.{IsLaneOf, least_of, stamp_of}
 use Rattle.afdx_merging.proofs.Timed.{there_at}
 use Rattle.afdx_session.specs.Texts.{Text}
 use Rattle.afdx_session.specs.Inner.Early.{RecordsAreEarly}
@@ -37,7 +37,7 @@ use Rattle.afdx_network.specs.Runs.{Given}
 use Rattle.afdx_network.specs.Given.{open_ends, NoneShareAPort, HasOrder, NoneComesLate, NoneIsLateAnywhere, IsWireFault}
 use Rattle.afdx_network.specs.Inner.Intake.{end_place, came_at, HasTaken, AreGivenSoFar, IsNotBefore, NoneCameLate, next_of}
 use Rattle.afdx_network.specs.Inner.Outputs.{HaveGone}
-use Rattle.afdx_network.specs.Inner.Sites.{Site, end_at, IsSite, IsCarried, HasCome, IsIn, IsLook, AreInWindow, HaveCome, acts_before, earlier_of, IsFirst, AreEarly, HandsOver, after_hops, gone_at}
+use Rattle.afdx_network.specs.Inner.Sites.{Site, end_at, IsSite, IsCarried, HasCome, IsIn, IsLook, AreInWindow, HaveCome, acts_before, IsFirst, AreEarly, HandsOver, after_hops, gone_at}
 use Rattle.afdx_network.specs.Inner.Sites.{gone_of}
 use Rattle.afdx_network.specs.Inner.Windows.{IsOnWay, GoesOn, IsThrough, IsStop}
 use Rattle.afdx_network.proofs.Answering.{all_places}
@@ -352,7 +352,7 @@ lane_early remaining first now arrivals place l is = by l.head refl where
 least_early : {Z : Type 0} (lanes : List (Reading Z)) → ((k : ℕ) (l : Reading Z) → slice_get lanes k ≡ Some l → IsEarlyStamp (stamp_of l)) → IsEarlyStamp (least_of lanes)
 least_early [] each = tt
 least_early (l ∷ lanes) each = by (stamp_of l) (least_of lanes) (each 0 l refl) (least_early lanes (λ k x at. each (suc k) x at)) where
-  by : (a b : Option ℕ) → IsEarlyStamp a → IsEarlyStamp b → IsEarlyStamp (lesser a b)
+  by : (a b : Option ℕ) → IsEarlyStamp a → IsEarlyStamp b → IsEarlyStamp (earlier_of a b)
   by None b one other = other
   by (Some n) None one other = one
   by (Some n) (Some m) one other = omega (arith, one, other)
@@ -372,13 +372,6 @@ next_early remaining net first now i came taken = least_early i.merging.lanes.it
 pub none_then : (end : ℕ) (next : Option ℕ) → IsEarlyStamp next → IsNotBefore end next → last_instant ≤ end → next ≡ None
 none_then end None early from past = refl
 none_then end (Some n) early from past = absurd (omega (arith, early, from, past))
-
--- of two instants none is there where the earlier is none
-pub none_first : (a b : Option ℕ) → earlier_of a b ≡ None → (a ≡ None) × (b ≡ None)
-none_first None None is = (refl, refl)
-none_first None (Some m) is = absurd cc
-none_first (Some n) None is = absurd cc
-none_first (Some n) (Some m) is = absurd cc
 
 pub not_before_start : (next : Option ℕ) → IsNotBefore 0 next
 not_before_start None = tt

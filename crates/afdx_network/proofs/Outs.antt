@@ -2,6 +2,7 @@
 use Rattle.std.proofs.Common.{◌≡◌, ◌≤◌, ◌||◌, ℕ, nat_lt, min, Bool, true, false, cond, List, [], ◌∷◌, ◌++◌, map, length, Option, Some, None, refl, ap, sym, ◌∙◌, arith}
 use Rattle.std.proofs.lemmas.Bool.{le-ltb, ltb-false}
 use Rattle.std.proofs.lemmas.List.{length-append}
+use Rattle.afdx_units.specs.Time.{earlier_of}
 use Rattle.afdx_pcap.specs.Record.{Record}
 use Rattle.afdx_pcap.specs.Fault.{last_stamp}
 use Rattle.afdx_table.specs.declared.rows.PortRow.{PortRow}
@@ -12,7 +13,7 @@ use Rattle.afdx_session.specs.Streams.{sent_up_to}
 use Rattle.afdx_paced.specs.declared.paced.PacedFault.TheVariants.{NoSuchPort, Early}
 use Rattle.afdx_paced.specs.Paced.{Lane, Paced, capture_of, out_up_to, lane_at, went_out, after_put, after_leaving, refusal_by, put_refusal, IsQuietUntil, IsNext}
 use Rattle.afdx_paced.specs.Laws.{LaterRecordsChangeNothing, OutGoesOn}
-use Rattle.afdx_network.specs.Inner.Sites.{earlier, acts_before}
+use Rattle.afdx_network.specs.Inner.Sites.{acts_before}
 use Rattle.afdx_network.proofs.Lanes.{map_changed}
 
 abbrev pub out_of_all : Content → List Capture → Option ℕ → PortRow → List Record
@@ -59,7 +60,7 @@ quiet_by on v (Some n) m is from none p among =
       same (x ∷ xs) = ap (λ (ys : List Record). x ∷ ys) (same xs)
 
 pub put_next : LaterRecordsChangeNothing → OutGoesOn → (v : Paced) (port : ℕ) (frame : Record) (next : Option ℕ) → IsNext v next → v.reached ≤ frame.stamp
-    → IsNext (after_put port frame v) (Some (earlier next frame.stamp))
+    → IsNext (after_put port frame v) (earlier_of next (Some frame.stamp))
 put_next law on v port frame None is from = (
   from,
   λ p among. law v port frame frame.stamp p (omega arith) ∙ quiet_by on v None frame.stamp is from refl p among ∙ sym (law v port frame v.reached p from),

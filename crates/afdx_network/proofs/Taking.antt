@@ -4,7 +4,7 @@ use Rattle.std.proofs.Common.{append_assoc}
 use Rattle.std.specs.Prelude.{◌⊎◌}
 use Rattle.std.specs.List.{AllByRecursion}
 use Rattle.std.proofs.lemmas.List.{append-nil, length-map}
-use Rattle.afdx_units.specs.Time.{last_second}
+use Rattle.afdx_units.specs.Time.{last_second, earlier_of}
 use Rattle.afdx_pcap.specs.Record.{Record}
 use Rattle.afdx_merging.specs.declared.clock.Clock.{Clock}
 use Rattle.afdx_merging.specs.declared.fault.MergeFault.{MergeFault}
@@ -12,7 +12,7 @@ use Rattle.afdx_merging.specs.declared.fault.MergeFault.TheVariants as merge
 use Rattle.afdx_merging.specs.declared.merging.Merging.{Merging}
 use Rattle.afdx_merging.specs.Merge.{Arrival, IsBy, IsAfter, same_clock}
 use Rattle.afdx_merging.specs.Read.{AreMerged, IsMergeFault}
-use Rattle.afdx_merging.specs.Inner.Merging.{HasMerged, lesser}
+use Rattle.afdx_merging.specs.Inner.Merging.{HasMerged}
 use Rattle.afdx_merging.proofs.Timed.{IsTimed, all_timed, all_last}
 use Rattle.afdx_wiring.specs.declared.layout.End.{End}
 use Rattle.afdx_network_check.specs.Net.{Network}
@@ -52,14 +52,14 @@ pub takes_next : {R : Type 0} (remaining : R → Option (List ℕ)) (net : Netwo
     → HasTaken remaining net first before old came → new.ends.items ≡ old.ends.items → AreMet net new.lines.items (came ++ a ∷ [])
     → HasMerged remaining (map (λ (e : End). same_clock) (open_ends net)) first now new.merging (came ++ a ∷ [])
     → IsAfter (map (λ (e : End). same_clock) (open_ends net)) came a → slice_get old.ends.items a.place ≡ Some to → frame ≡ a.head.frame
-    → lesser (Some a.head.frame.stamp) (next_of new) ≡ next_of old → IsNextIn remaining net first now old new came to frame
+    → earlier_of (Some a.head.frame.stamp) (next_of new) ≡ next_of old → IsNextIn remaining net first now old new came to frame
 takes_next remaining net first before now old new came a to frame taken ends met merged after at is least = record {
   arrival = a;
   to_is = ap (λ (es : List End). slice_get es a.place) (sym taken.ends) ∙ at;
   frame_is = is;
   taken = now_taken;
   last = subst (λ (r : Record). AllByRecursion (λ (b : Arrival). b.head.frame.stamp ≤ r.stamp) came) (sym is) (in_order came a timed (all_timed remaining (open_ends net) first before old.merging came taken.merged) after.after);
-  least = subst (λ (r : Record). lesser (Some r.stamp) (next_of new) ≡ next_of old) (sym is) least;
+  least = subst (λ (r : Record). earlier_of (Some r.stamp) (next_of new) ≡ next_of old) (sym is) least;
   early = subst (λ (r : Record). r.stamp < last_second) (sym is) timed.early;
 } where
   now_taken : HasTaken remaining net first now new (came ++ a ∷ [])
@@ -86,14 +86,14 @@ reads_none remaining net first start came now taken = record {
 
 pub reads_one : {R : Type 0} (remaining : R → Option (List ℕ)) (net : Network) (first : List R) (start : Intake) (came : List Arrival) (now later : List R) (i new : Intake) (a : Arrival)
     → (r : ReadsOn remaining net first start came now i) → new.ends.items ≡ i.ends.items → AreMet net new.lines.items ((came ++ r.more) ++ a ∷ [])
-    → HasMerged remaining (map (λ (e : End). same_clock) (open_ends net)) first later new.merging ((came ++ r.more) ++ a ∷ []) → lesser (Some a.head.frame.stamp) (next_of new) ≡ next_of i
+    → HasMerged remaining (map (λ (e : End). same_clock) (open_ends net)) first later new.merging ((came ++ r.more) ++ a ∷ []) → earlier_of (Some a.head.frame.stamp) (next_of new) ≡ next_of i
     → ReadsOn remaining net first start came later new
 reads_one remaining net first start came now later i new a r ends met merged least = record {
   more = r.more ++ a ∷ [];
   taken = subst (HasTaken remaining net first later new) (append_assoc came r.more (a ∷ [])) (record { ends = ends ∙ r.taken.ends; met = met; merged = merged });
   none = λ is. absurd (never (next_of new) (least ∙ (r.none is).1));
 } where
-  never : (o : Option ℕ) → lesser (Some a.head.frame.stamp) o ≡ None → ⊥
+  never : (o : Option ℕ) → earlier_of (Some a.head.frame.stamp) o ≡ None → ⊥
   never None is = cc
   never (Some n) is = cc
 

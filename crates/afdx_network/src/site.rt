@@ -9,7 +9,7 @@ ghost use Rattle.afdx_paced.specs.Paced.{arrivals, put_refusal, not_of_memory, I
 ghost use Rattle.afdx_table.specs.WellFormed.{IsWellFormed};
 ghost use Rattle.afdx_network.specs.declared.fault.NetworkRunFault.TheVariants as fault;
 ghost use Rattle.afdx_network.specs.Inner.Outputs.{silent, all_gone, texts_in, gone_in, HaveGone};
-ghost use Rattle.afdx_network.specs.Inner.Sites.{earlier, after_putting, IsFresh, WentTo, IsHandedOut, HandsOver};
+ghost use Rattle.afdx_network.specs.Inner.Sites.{after_putting, IsFresh, WentTo, IsHandedOut, HandsOver};
 
 use crate::fault::NetworkRunFault;
 use crate::output::Output;
@@ -20,7 +20,7 @@ use afdx_paced::{Paced, PacedFault};
 use afdx_pcap::Record;
 use afdx_port::Sent;
 use afdx_table::{PortRow, Table};
-use afdx_units::Stamp;
+use afdx_units::{Stamp, earlier_of};
 use std::alloc::{AllocError, Global};
 use std::marker::Model;
 
@@ -62,16 +62,6 @@ fn of_put(why: PacedFault) -> NetworkRunFault
     match why {
         PacedFault::Memory => NetworkRunFault::Memory,
         PacedFault::NoSuchPort | PacedFault::Early => NetworkRunFault::WrongWires,
-    }
-}
-
-/// Returns the earlier of two instants, of which there may be one alone.
-fn earlier(one: Option<Stamp>, other: Stamp) -> Stamp
-    ensures { result ≡ earlier one other }
-{
-    match one {
-        Some(stamp) => { if stamp <= other { stamp } else { other } }
-        None => other,
     }
 }
 
@@ -121,7 +111,7 @@ impl Site {
         let stamp = frame.stamp();
         match self.paced.put(port, frame) {
             Ok(()) => {
-                self.next = Some(earlier(self.next, stamp));
+                self.next = earlier_of(self.next, Some(stamp));
                 Ok(())
             }
             Err(fault) => Err(of_put(fault)),

@@ -19,7 +19,7 @@ ghost use Rattle.afdx_network.specs.Runs.{Given};
 ghost use Rattle.afdx_network.specs.Given.{all_ends, IsWireFault};
 ghost use Rattle.afdx_network.specs.Inner.Intake.{HasTaken, AreGivenSoFar, next_of};
 ghost use Rattle.afdx_network.specs.Inner.Outputs.{HaveGone};
-ghost use Rattle.afdx_network.specs.Inner.Sites.{IsLook, IsFirst, earlier_of, acts_before, wire_place, GoesOver, HasSent, HasCome, AreInWindow, HaveCome};
+ghost use Rattle.afdx_network.specs.Inner.Sites.{IsLook, IsFirst, acts_before, wire_place, GoesOver, HasSent, HasCome, AreInWindow, HaveCome};
 ghost use Rattle.afdx_network.specs.Inner.Sites.{HandsOver, gone_at, gone_of, texts_of, counts_at};
 ghost use Rattle.afdx_network.specs.Inner.Sites.{CanCome, CameOver, IsLateFault, AreEarly, StayEarly, IsPortAt, waits_at, Carries, Visits};
 ghost use Rattle.afdx_network.specs.Inner.Windows.{IsOnWay, GoesOn, IsThrough, IsStop};
@@ -46,7 +46,7 @@ use afdx_pcap::laws::{
 use afdx_pcap::{PcapFault, Record};
 use afdx_port::Sent;
 use afdx_session::laws::{all_start_before_the_last_instant, records_are_early};
-use afdx_units::{LEAST_SIZE, Stamp, cost};
+use afdx_units::{LEAST_SIZE, Stamp, cost, earlier_of};
 use afdx_wiring::{End, Wire, is_end};
 use std::alloc::{AllocError, Global};
 use std::io::Read;
@@ -286,17 +286,6 @@ fn visit(
         }
     }
     Ok(())
-}
-
-/// Returns the earlier of two instants, of which there may be none.
-fn earlier_of(one: Option<Stamp>, other: Option<Stamp>) -> Option<Stamp>
-    ensures { result ≡ earlier_of one other }
-{
-    match (one, other) {
-        (Some(a), Some(b)) => Some(a.min(b)),
-        (Some(a), None) => Some(a),
-        (None, b) => b,
-    }
 }
 
 /// Returns the first instant at which anything can still happen at any switch. O(switches).

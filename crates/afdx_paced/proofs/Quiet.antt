@@ -6,6 +6,8 @@ use Rattle.std.specs.Option.{option_map}
 use Rattle.std.specs.List.{AllByRecursion}
 use Rattle.std.proofs.lemmas.Bool.{cases_lt, ltb-false, le-ltb}
 use Rattle.std.proofs.lemmas.List.{append-nil}
+use Rattle.afdx_units.specs.Time.{earlier_of}
+use Rattle.afdx_units.proofs.Earlier.{neither, no_later}
 use Rattle.afdx_pcap.specs.Record.{Record}
 use Rattle.afdx_table.specs.declared.rows.PortRow.{PortRow}
 use Rattle.afdx_table.specs.Content.{Content}
@@ -27,7 +29,7 @@ use Rattle.afdx_session.specs.Inner.Settled.{IsGiven}
 use Rattle.afdx_paced.specs.Paced.{out_up_to, IsQuietUntil, IsNext}
 use Rattle.afdx_paced.specs.Laws.{MergesAreCut}
 use Rattle.afdx_paced.specs.Inner.Parts.{Parts, waiting_of}
-use Rattle.afdx_paced.specs.Inner.Kept.{paced_of, IsCut, given_of, IsGoing, IsFirstHead, IsNextStart, IsNoLater}
+use Rattle.afdx_paced.specs.Inner.Kept.{paced_of, IsCut, given_of, IsGoing, IsFirstHead, IsNextStart}
 use Rattle.afdx_paced.specs.declared.feeder.Feeder.{Feeder}
 use Rattle.afdx_paced.proofs.Puts.{out_by, out_without}
 use Rattle.afdx_paced.proofs.Lists.{all_weaker}
@@ -122,18 +124,19 @@ quiet_for_good law cut ordered parts h f going none event p among =
 
 -- ---- what the code finds
 
-by_head : (n h : ℕ) (lanes : List Parts) (head : Option ℕ) → AllByRecursion (WaitsFrom h) lanes → IsFirstHead lanes head → IsNoLater (Some n) head → AllByRecursion (WaitsFrom n) lanes
-by_head n h lanes None cut none le = empty_from n lanes none
-by_head n h lanes (Some m) cut first le =
-    all_weaker (WaitsFrom m) (WaitsFrom n) (λ l all. all_weaker (λ (r : Record). m ≤ r.stamp) (λ (r : Record). n ≤ r.stamp) (λ r later. omega (arith, later, le)) l.waiting all) lanes first
+by_head : (n h : ℕ) (lanes : List Parts) (head : Option ℕ) → AllByRecursion (WaitsFrom h) lanes → IsFirstHead lanes head → ((m : ℕ) → head ≡ Some m → n ≤ m) → AllByRecursion (WaitsFrom n) lanes
+by_head n h lanes None cut none later = empty_from n lanes none
+by_head n h lanes (Some m) cut first later =
+    let le = later m refl in
+    all_weaker (WaitsFrom m) (WaitsFrom n) (λ l all. all_weaker (λ (r : Record). m ≤ r.stamp) (λ (r : Record). n ≤ r.stamp) (λ r from. omega (arith, from, le)) l.waiting all) lanes first
 
-by_start : (r : Run) (n : ℕ) (start : Option ℕ) → IsNextStart r start → IsNoLater (Some n) start → IsNextStart r None ⊎ ((m : ℕ) × IsNextStart r (Some m) × (n ≤ m))
-by_start r n None start le = inl start
-by_start r n (Some m) start le = inr (m, start, le)
+by_start : (r : Run) (n : ℕ) (start : Option ℕ) → IsNextStart r start → ((m : ℕ) → start ≡ Some m → n ≤ m) → IsNextStart r None ⊎ ((m : ℕ) × IsNextStart r (Some m) × (n ≤ m))
+by_start r n None start later = inl start
+by_start r n (Some m) start later = inr (m, start, later m refl)
 
 pub comes_next : {Z : Type 0} → LaterArrivalsChangeNothing → MergesAreCut → ByStampIsOrdered → NothingDueStays → (h n : ℕ) (f : Feeder Z) (head start : Option ℕ) → IsGoing h f
-    → IsFirstHead f.lanes.items head → IsNextStart f.switch.run start → IsNoLater (Some n) head → IsNoLater (Some n) start → IsNext (paced_of f h false) (Some (max n h))
-comes_next {Z} law cut ordered stays h n f head start going first next before_head before_start = (
+    → IsFirstHead f.lanes.items head → IsNextStart f.switch.run start → earlier_of head start ≡ Some n → IsNext (paced_of f h false) (Some (max n h))
+comes_next {Z} law cut ordered stays h n f head start going first next is = (
   omega arith,
   elim (cases_lt h n) [
     | inl later ↦ let most : n ≡ max n h = omega (arith, later) in subst (λ m. IsQuietUntil (paced_of f h false) (Some m)) most (after later)
@@ -147,10 +150,11 @@ comes_next {Z} law cut ordered stays h n f head start going first next before_he
   cut_from = all_weaker (IsCut h) (WaitsFrom h) (λ l c. c.waiting) f.lanes.items going.cut
 
   after : h < n → IsQuietUntil (paced_of f h false) (Some n)
-  after later = quiet_until law cut ordered stays h n f going (by_head n h f.lanes.items head cut_from first before_head) (omega (arith, later))
-      (λ p among. none_due f.switch.run n p (by_start f.switch.run n start next before_start) (omega (arith, later)) among)
+  after later = quiet_until law cut ordered stays h n f going (by_head n h f.lanes.items head cut_from first (no_later head start n is).0) (omega (arith, later))
+      (λ p among. none_due f.switch.run n p (by_start f.switch.run n start next (no_later head start n is).1) (omega (arith, later)) among)
 
 pub none_next : {Z : Type 0} → LaterArrivalsChangeNothing → MergesAreCut → ByStampIsOrdered → EventsAreInParts → (h : ℕ) (f : Feeder Z) (head start : Option ℕ) → IsGoing h f
-    → IsFirstHead f.lanes.items head → IsNextStart f.switch.run start → head ≡ None → start ≡ None → IsNext (paced_of f h false) None
-none_next law cut ordered parts h f head start going first next no_head no_start =
-    quiet_for_good law cut ordered parts h f going (subst (IsFirstHead f.lanes.items) no_head first) (subst (IsNextStart f.switch.run) no_start next)
+    → IsFirstHead f.lanes.items head → IsNextStart f.switch.run start → earlier_of head start ≡ None → IsNext (paced_of f h false) None
+none_next law cut ordered parts h f head start going first next is =
+    let none = neither head start is in
+    quiet_for_good law cut ordered parts h f going (subst (IsFirstHead f.lanes.items) none.0 first) (subst (IsNextStart f.switch.run) none.1 next)

@@ -5,7 +5,6 @@ ghost use Rattle.afdx_units.specs.Time.{last_second};
 ghost use Rattle.afdx_count.specs.Run.{counts_of};
 ghost use Rattle.afdx_measure.specs.Wanted.{keeps_lists};
 ghost use Rattle.afdx_session.specs.Output.{rows_of};
-ghost use Rattle.afdx_paced.specs.Inner.Kept.{IsNoLater};
 ghost use Rattle.afdx_paced.specs.Paced.{arrivals, fresh_paced, put_refusal, not_of_memory, after_put, after_going, IsNextOut, IsNextSent, IsNext, HasTakenAll};
 
 use crate::feeder::{Feeder, place_of};
@@ -19,7 +18,7 @@ use afdx_port::Sent;
 use afdx_port::laws::{events_follow_the_line, lagging_ports_follow, service_is_of_items};
 use afdx_session::laws::later_arrivals_change_nothing;
 use afdx_table::Table;
-use afdx_units::Stamp;
+use afdx_units::{Stamp, earlier_of};
 use std::alloc::{AllocError, Allocator};
 use std::marker::Model;
 use thiserror::Error;
@@ -78,18 +77,6 @@ fn is_early(stamp: Stamp, reached: Stamp, last: Stamp) -> bool
     ensures { result ≡ (nat_lt stamp reached || nat_lt stamp last) }
 {
     stamp < reached || stamp < last
-}
-
-/// Returns the first of two instants, each of which may be missing.
-fn first_of(one: Option<Stamp>, other: Option<Stamp>) -> Option<Stamp>
-    ensures one { IsNoLater result one }
-    ensures other { IsNoLater result other }
-{
-    match (one, other) {
-        (Some(a), Some(b)) => Some(if a <= b { a } else { b }),
-        (Some(a), None) => Some(a),
-        (None, b) => b,
-    }
 }
 
 /// Returns the later of two instants.
@@ -209,7 +196,7 @@ impl<'a, A: Allocator + Copy> Paced<'a, A> {
         later_arrivals_change_nothing();
         lagging_ports_follow();
         events_follow_the_line();
-        let first = first_of(self.feeder.next_arrival(), self.feeder.next_start())?;
+        let first = earlier_of(self.feeder.next_arrival(), self.feeder.next_start())?;
         Some(later_of(first, self.reached))
     }
 

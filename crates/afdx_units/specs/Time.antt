@@ -1,5 +1,5 @@
 -- Instants of a capture and bandwidth allocation gaps, as numbers of nanoseconds.
-use Rattle.std.specs.Prelude.{ℕ, ◌*◌, ◌<◌}
+use Rattle.std.specs.Prelude.{ℕ, ◌*◌, ◌<◌, min, Option, Some, None}
 use Rattle.afdx_units.specs.declared.bag.Bag.{Bag}
 use Rattle.afdx_units.specs.declared.bag.Bag.TheVariants.{Ms1, Ms2, Ms4, Ms8, Ms16, Ms32, Ms64, Ms128}
 
@@ -22,6 +22,12 @@ last_second = 4294967295000000000
 -- an instant that pcap can hold
 abbrev pub IsInstant : ℕ → Type 0
 IsInstant ns = ns < stamp_end
+
+-- the earlier of two instants, each of which may be missing
+abbrev pub earlier_of : Option ℕ → Option ℕ → Option ℕ
+earlier_of None other = other
+earlier_of (Some one) None = Some one
+earlier_of (Some one) (Some other) = Some (min one other)
 
 -- ARINC 664 Part 7: the gaps that a link may have, in milliseconds
 abbrev pub bag_ms : Bag → ℕ

@@ -33,4 +33,4 @@ pub use bag::Bag;
 pub use line::{GREATEST_SIZE, LEAST_SIZE, Priority, Speed, cost, size};
 pub use link::{MAX_JITTER, MAX_LINK_ID};
 pub use police::Police;
-pub use stamp::{MICROSECOND, Stamp};
+pub use stamp::{MICROSECOND, Stamp, earlier_of};

@@ -1,7 +1,7 @@
 //! Instants of a capture.
 
 ghost use Rattle.std.specs.Prelude.{◌≡◌, ◌↔◌, ◌+◌, ◌*◌, ◌/◌, ◌%◌, ◌<◌, ◌≤◌, min, IsTrue, SomeIff};
-ghost use Rattle.afdx_units.specs.Time.{second, stamp_end, last_instant, last_second, IsInstant};
+ghost use Rattle.afdx_units.specs.Time.{second, stamp_end, last_instant, last_second, IsInstant, earlier_of};
 
 use std::marker::Model;
 
@@ -108,5 +108,16 @@ impl Stamp {
         ensures { IsTrue result ↔ (last_second ≤ self) }
     {
         LAST_SECOND <= self.ns
+    }
+}
+
+/// Returns the earlier of two instants, each of which may be missing; none if both are.
+pub fn earlier_of(one: Option<Stamp>, other: Option<Stamp>) -> Option<Stamp>
+    ensures { result ≡ earlier_of one other }
+{
+    match (one, other) {
+        (Some(one), Some(other)) => Some(one.min(other)),
+        (Some(one), None) => Some(one),
+        (None, other) => other,
     }
 }

@@ -1,12 +1,13 @@
 -- Captures are read, and their records taken as far as it is known whether they count.
 use Rattle.std.specs.Prelude.{◌≡◌, ℕ, Bool, List, Option, Some, slice_get}
 use Rattle.std.specs.List.{AllByRecursion}
+use Rattle.afdx_units.specs.Time.{earlier_of}
 use Rattle.afdx_table.specs.WellFormed.{IsWellFormed}
 use Rattle.afdx_merging.specs.declared.clock.Clock.{Clock}
 use Rattle.afdx_merging.specs.declared.merging.Merging.{Merging}
 use Rattle.afdx_merging.specs.Merge.{due_at, Arrival}
 use Rattle.afdx_merging.specs.Read.{AreMerged}
-use Rattle.afdx_merging.specs.Inner.Merging.{HasMerged, lesser, least_of as least_at_hand}
+use Rattle.afdx_merging.specs.Inner.Merging.{HasMerged, least_of as least_at_hand}
 use Rattle.afdx_recordings.specs.declared.recordings.Recordings.{Recordings}
 use Rattle.afdx_compare.specs.Comparison.{Comparison, IsBegun}
 use Rattle.afdx_compare.specs.Sources.{Sources, sources_of}
@@ -36,7 +37,7 @@ pub record HasRead {R Z : Type 0} (remaining : R → Option (List ℕ)) (r : Rec
   pub came : List Arrival
   pub merged : HasMerged remaining s.clocks first now m came
   pub clocked : AreClocked s.clocks came
-  pub least_is : lesser (least_of came) (least_at_hand m.lanes.items) ≡ least
+  pub least_is : earlier_of (least_of came) (least_at_hand m.lanes.items) ≡ least
   pub greatest_is : greatest ≡ greatest_of came
   pub taken : AreTaken r s.captures greatest came waits start c
 

@@ -1,8 +1,9 @@
 -- Captures that are read side by side.
-use Rattle.std.specs.Prelude.{◌≡◌, ℕ, ◌<◌, ◌≤◌, min, List, [], ◌∷◌, map, length, set, slice_get, Option, Some, None, nat_lt, if◌then◌else◌}
+use Rattle.std.specs.Prelude.{◌≡◌, ℕ, ◌<◌, ◌≤◌, List, [], ◌∷◌, map, length, set, slice_get, Option, Some, None, nat_lt, if◌then◌else◌}
 use Rattle.std.specs.List.{AllByRecursion}
 use Rattle.std.specs.Io.KnownBytes.{IsAtEnd}
 use Rattle.std.specs.Option.{option_map}
+use Rattle.afdx_units.specs.Time.{earlier_of}
 use Rattle.afdx_pcap.specs.declared.fault.PcapFault.{PcapFault}
 use Rattle.afdx_earliest.specs.Instants.{IsFirstUpTo}
 use Rattle.afdx_pairing.specs.Events.{Numbered}
@@ -26,16 +27,10 @@ dues_of lanes = map (λ l. due_of l) lanes
 abbrev pub stamp_of : {Z : Type 0} → Lane Z → Option ℕ
 stamp_of l = option_map (λ n. n.frame.stamp) l.head
 
--- of two stamps, if there are any, the lesser
-abbrev pub lesser : Option ℕ → Option ℕ → Option ℕ
-lesser None b = b
-lesser (Some a) None = Some a
-lesser (Some a) (Some b) = Some (min a b)
-
 -- the least stamp of the records that are at hand
 abbrev pub least_of : {Z : Type 0} → List (Lane Z) → Option ℕ
 least_of [] = None
-least_of (l ∷ lanes) = lesser (stamp_of l) (least_of lanes)
+least_of (l ∷ lanes) = earlier_of (stamp_of l) (least_of lanes)
 
 -- of two places with their instants the sooner, and of equal ones the former; this one may have none
 abbrev pub sooner : Option (ℕ × ℕ) → ℕ → Option ℕ → Option (ℕ × ℕ)

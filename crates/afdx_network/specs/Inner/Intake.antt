@@ -1,7 +1,7 @@
 -- What is given for a run, as far as it was read.
 use Rattle.std.specs.Prelude.{◌≡◌, ◌<◌, ◌≤◌, ◌+◌, ◌*◌, ◌∷◌, ◌++◌, ℕ, true, if◌then◌else◌, List, [], map, length, slice_get, Option, Some, None, All, Contains}
 use Rattle.std.specs.List.{AllByRecursion, position_or_len}
-use Rattle.afdx_units.specs.Time.{second, last_second}
+use Rattle.afdx_units.specs.Time.{second, last_second, earlier_of}
 use Rattle.afdx_pcap.specs.Record.{Record}
 use Rattle.afdx_pcap.specs.Capture.{IsCapture}
 use Rattle.afdx_session.specs.Texts.{Text}
@@ -10,7 +10,7 @@ use Rattle.afdx_merging.specs.declared.fault.MergeFault.{MergeFault}
 use Rattle.afdx_merging.specs.declared.fault.MergeFault.TheVariants as merge
 use Rattle.afdx_merging.specs.Merge.{Arrival, at_place, same_clock}
 use Rattle.afdx_merging.specs.Read.{AreMerged, HasFirstFault}
-use Rattle.afdx_merging.specs.Inner.Merging.{HasMerged, least_of, lesser}
+use Rattle.afdx_merging.specs.Inner.Merging.{HasMerged, least_of}
 use Rattle.afdx_table.specs.declared.rows.PortRow.{PortRow}
 use Rattle.afdx_table.specs.WellFormed.{IsWellFormed}
 use Rattle.afdx_wiring.specs.declared.layout.End.{End}
@@ -77,7 +77,7 @@ pub record IsNextIn {R : Type 0} (remaining : R → Option (List ℕ)) (net : Ne
   pub frame_is : frame ≡ arrival.head.frame
   pub taken : HasTaken remaining net first now new (came ++ arrival ∷ [])
   pub last : AllByRecursion (λ a. a.head.frame.stamp ≤ frame.stamp) came
-  pub least : lesser (Some frame.stamp) (next_of new) ≡ next_of old
+  pub least : earlier_of (Some frame.stamp) (next_of new) ≡ next_of old
   pub early : frame.stamp < last_second
 
 -- ---- the lines, when all were taken

@@ -1,9 +1,9 @@
 -- A network in the course of a run: what came in at each switch so far, and what left it.
-use Rattle.std.specs.Prelude.{◌≡◌, ◌+◌, ◌-◌, ◌*◌, ◌<◌, ◌≤◌, ◌∷◌, ◌++◌, nat_lt, Bool, false, if◌then◌else◌, min, ℕ, List, [], length, map, flat_map, set, slice_get, slice_set, Option, Some, None}
+use Rattle.std.specs.Prelude.{◌≡◌, ◌+◌, ◌-◌, ◌*◌, ◌<◌, ◌≤◌, ◌∷◌, ◌++◌, nat_lt, Bool, false, if◌then◌else◌, ℕ, List, [], length, map, flat_map, set, slice_get, slice_set, Option, Some, None}
 use Rattle.std.specs.Prelude.{option_and_then, All, Contains}
 use Rattle.std.specs.Prelude.{Result, MatchResult}
 use Rattle.std.specs.List.{AllByRecursion, position_or_len}
-use Rattle.afdx_units.specs.Time.{last_second}
+use Rattle.afdx_units.specs.Time.{last_second, earlier_of}
 use Rattle.afdx_units.specs.Line.{cost_of, least_size}
 use Rattle.afdx_pcap.specs.Record.{Record, IsWithinLimit}
 use Rattle.afdx_pcap.specs.Text.{record_text, capture_text, AreReadable}
@@ -35,11 +35,6 @@ pub record Site : Type 0 where
   pub left : List Text
   pub gone : List (List ℕ)
   pub next : Option ℕ
-
--- the earlier of two instants, of which the first may be missing
-abbrev pub earlier : Option ℕ → ℕ → ℕ
-earlier None n = n
-earlier (Some m) n = min m n
 
 abbrev pub end_at : ℕ → ℕ → End
 end_at switch port = record { switch = switch; port = port }
@@ -181,12 +176,6 @@ abbrev pub acts_before : ℕ → Option ℕ → Bool
 acts_before end None = false
 acts_before end (Some n) = nat_lt n end
 
--- the earlier of two instants, each of which may be missing
-abbrev pub earlier_of : Option ℕ → Option ℕ → Option ℕ
-earlier_of (Some a) (Some b) = Some (min a b)
-earlier_of (Some a) None = Some a
-earlier_of None other = other
-
 -- before this instant nothing can happen at these switches; nothing at all, if there is none
 abbrev pub IsFirst : List Site → Option ℕ → Type 0
 IsFirst sites None = All (λ s. s.next ≡ None) sites
@@ -209,7 +198,7 @@ pub record IsPortAt (sites : List Site) (e : End) (place : ℕ) : Type 0 where
 
 -- a record came in at a port
 abbrev pub after_putting : ℕ → Record → Site → Site
-after_putting port frame s = record { paced = after_put port frame s.paced; left = s.left; gone = s.gone; next = Some (earlier s.next frame.stamp) }
+after_putting port frame s = record { paced = after_put port frame s.paced; left = s.left; gone = s.gone; next = earlier_of s.next (Some frame.stamp) }
 
 -- a switch at which nothing came in, which keeps its lists or not
 pub record IsFresh (keeps : Bool) (t : Content) (s : Site) : Type 0 where

@@ -117,9 +117,3 @@ IsFirstHead lanes (Some n) = AllByRecursion (λ (l : Parts). AllByRecursion (λ 
 abbrev pub IsNextStart : Run → Option ℕ → Type 0
 IsNextStart r None = IsNextEvent r None
 IsNextStart r (Some n) = (at : ℕ) × IsNextEvent r (Some at) × ((n ≡ 0) ⊎ (n + r.table.latency ≤ at))
-
--- of two instants the first is no later; one that is missing is later than any other
-abbrev pub IsNoLater : Option ℕ → Option ℕ → Type 0
-IsNoLater None other = other ≡ None
-IsNoLater (Some n) None = Unit {0}
-IsNoLater (Some n) (Some m) = n ≤ m

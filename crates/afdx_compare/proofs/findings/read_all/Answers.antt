@@ -1,9 +1,10 @@
 use Rattle.std.proofs.Common.{◌≡◌, List, [], ◌∷◌, ◌++◌, length, Option, Some, None, sym, ap, subst, ◌∙◌}
 use Rattle.std.specs.Prelude.{IfSome, IfNone}
+use Rattle.afdx_units.specs.Time.{earlier_of}
 use Rattle.afdx_merging.specs.declared.clock.Clock.{Clock}
 use Rattle.afdx_merging.specs.Merge.{Arrival, IsAfter}
 use Rattle.afdx_merging.specs.Read.{AreMerged}
-use Rattle.afdx_merging.specs.Inner.Merging.{HasMerged, lesser, least_of}
+use Rattle.afdx_merging.specs.Inner.Merging.{HasMerged, least_of}
 use Rattle.afdx_merging.proofs.Failing.{of_error}
 use Rattle.afdx_compare.specs.declared.sources.CompareFault.TheVariants.{Memory}
 use Rattle.afdx_compare.specs.Sources.{Sources}
@@ -75,7 +76,7 @@ loop-record-preserved g c = λ first merged.
     let next = subst (λ (o : Option Arrival). IfSome o (λ x. (clocks : List Clock) (first : List g.row.R.Denot) (came : List Arrival) → HasMerged rem clocks first l.readers l.merging came
     → HasMerged rem clocks first c.next.new.readers c.next.new.self (came ++ x ∷ []) × IsAfter clocks came x)) c.in-Ok-Some.field-0-is c.in-Ok-Some.ensures.some in
     let on = next s.clocks first has.came has.merged in
-    let least = subst (λ (o : Option Arrival). IfSome o (λ x. lesser (Some x.head.frame.stamp) (least_of c.next.new.self.lanes.items) ≡ least_of l.merging.lanes.items))
+    let least = subst (λ (o : Option Arrival). IfSome o (λ x. earlier_of (Some x.head.frame.stamp) (least_of c.next.new.self.lanes.items) ≡ least_of l.merging.lanes.items))
     c.in-Ok-Some.field-0-is c.in-Ok-Some.ensures.least in
     next_read rem c.args.recordings.now s first l.readers c.next.new.readers l.merging c.next.new.self (least_of c.args.merging.now.lanes.items) l.held.greatest c.take_next.new.held.greatest
     l.held.records.items c.take_next.new.held.records.items c.args.comparison.now l.comparison c.take_next.new.comparison has a on.0 on.1 least

@@ -1,15 +1,16 @@
 use Rattle.std.proofs.Common.{◌++◌, [], ℕ, max, List, length, append_assoc, refl, ap, sym, ◌∙◌, arith, subst}
-use Rattle.afdx_units.specs.Time.{last_instant}
+use Rattle.afdx_units.specs.Time.{last_instant, earlier_of}
+use Rattle.afdx_units.proofs.Earlier.{neither}
 use Rattle.afdx_network.specs.declared.fault.NetworkRunFault.TheVariants as fault
 use Rattle.afdx_network.specs.declared.fault.Stop.TheVariants as stop
 use Rattle.afdx_network.specs.Inner.Intake.{HasTaken, next_of}
 use Rattle.afdx_network.specs.Inner.Outputs.{HaveGone}
-use Rattle.afdx_network.specs.Inner.Sites.{IsFirst, earlier_of}
+use Rattle.afdx_network.specs.Inner.Sites.{IsFirst}
 use Rattle.afdx_network.specs.Inner.Windows.{IsStop}
 use Rattle.afdx_network.proofs.Answering.{of_error}
 use Rattle.afdx_network.proofs.Choosing.{sooner, no_sooner}
 use Rattle.afdx_network.proofs.Going.{run_begins, way_later, opens_at, window_on, goes_then, going_handed, none_came_late, soon_before, run_is_quiet, run_ends, stops, next_early, none_then}
-use Rattle.afdx_network.proofs.Going.{none_first, gone_as_many, same_gone, reached_by, no_memory}
+use Rattle.afdx_network.proofs.Going.{gone_as_many, same_gone, reached_by, no_memory}
 use Rattle.afdx_network.proofs.Noting.{noted_handed}
 use Rattle.afdx_network.proofs.Rounds.{still_going}
 use Rattle.afdx_network.proofs.windows.go_through.Goals as goal
@@ -130,7 +131,7 @@ pub returns-in_default-clause-ok : goal.returns-in_default-clause-ok
 returns-in_default-clause-ok g c = λ first given w.
     let l = c.loop-alloc in
     let was = l.invariant.run.ok first given w in
-    let none = none_first c.first_of.result (next_of l.intake) (ap (earlier_of c.first_of.result) (sym c.least.ensures) ∙ sym c.in_default.ensures) in
+    let none = neither c.first_of.result (next_of l.intake) (ap (earlier_of c.first_of.result) (sym c.least.ensures) ∙ sym c.in_default.ensures) in
     run_is_quiet c.out_goes_on.ensures g.R.Read.remaining c.args.network.now first l.readers l.intake c.args.sites.now l.end l.sites was (subst (IsFirst l.sites) none.0 c.first_of.ensures) none.1
 
 pub returns-in_err-take_in-clause-err : goal.returns-in_err-take_in-clause-err

@@ -2,10 +2,11 @@ use Rattle.std.proofs.Common.{◌≡◌, List, [], ◌∷◌, ◌++◌, length, 
 use Rattle.std.specs.Prelude.{IfSome, IfNone}
 use Rattle.std.proofs.lemmas.List.{length-map}
 use Rattle.std.proofs.lemmas.Result.{IfOk-weaker, IfErr-weaker}
+use Rattle.afdx_units.specs.Time.{earlier_of}
 use Rattle.afdx_merging.specs.declared.clock.Clock.{Clock}
 use Rattle.afdx_merging.specs.Merge.{Arrival, IsAfter, same_clock}
 use Rattle.afdx_merging.specs.Read.{AreMerged}
-use Rattle.afdx_merging.specs.Inner.Merging.{HasMerged, lesser, least_of}
+use Rattle.afdx_merging.specs.Inner.Merging.{HasMerged, least_of}
 use Rattle.afdx_wiring.specs.declared.layout.End.{End}
 use Rattle.afdx_network_check.specs.Net.{Network}
 use Rattle.afdx_network.specs.Given.{open_ends}
@@ -33,7 +34,7 @@ loop-record-preserved g c = λ net first came taken.
     let next = subst (λ (o : Option Arrival). IfSome o (λ x. (clocks : List Clock) (first : List g.row.R.Denot) (came : List Arrival) → HasMerged rem clocks first l.readers l.self.merging came
     → HasMerged rem clocks first c.next.new.readers c.next.new.self (came ++ x ∷ []) × IsAfter clocks came x)) c.in-Ok-Some.field-0-is c.in-Ok-Some.ensures.some in
     let on = next (map (λ (e : End). same_clock) (open_ends net)) first (came ++ r.more) r.taken.merged in
-    let least = subst (λ (o : Option Arrival). IfSome o (λ x. lesser (Some x.head.frame.stamp) (least_of c.next.new.self.lanes.items) ≡ least_of l.self.merging.lanes.items))
+    let least = subst (λ (o : Option Arrival). IfSome o (λ x. earlier_of (Some x.head.frame.stamp) (least_of c.next.new.self.lanes.items) ≡ least_of l.self.merging.lanes.items))
     c.in-Ok-Some.field-0-is c.in-Ok-Some.ensures.least in
     let number = next_number rem (map (λ (e : End). same_clock) (open_ends net)) first c.next.new.readers c.next.new.self (came ++ r.more) c.in-Ok-Some.arrival on.0 in
     let old = l.self.lines in

@@ -2,9 +2,10 @@ use Rattle.std.proofs.Common.{◌≡◌, ◌<◌, List, [], ◌∷◌, ◌++◌,
 use Rattle.std.specs.Prelude.{IfSome}
 use Rattle.std.proofs.lemmas.List.{length-map}
 use Rattle.std.proofs.lemmas.Option.{slice_get_read}
+use Rattle.afdx_units.specs.Time.{earlier_of}
 use Rattle.afdx_merging.specs.declared.clock.Clock.{Clock}
 use Rattle.afdx_merging.specs.Merge.{Arrival, IsAfter, same_clock}
-use Rattle.afdx_merging.specs.Inner.Merging.{HasMerged, lesser, least_of}
+use Rattle.afdx_merging.specs.Inner.Merging.{HasMerged, least_of}
 use Rattle.afdx_wiring.specs.declared.layout.End.{End}
 use Rattle.afdx_network.specs.Given.{open_ends}
 use Rattle.afdx_network.specs.Inner.Intake.{AreMet}
@@ -40,7 +41,7 @@ returns-in_ok-frame-in-Ok-Some-clause-some g c = λ net first came taken.
     let next = subst (λ (o : Option Arrival). IfSome o (λ x. (clocks : List Clock) (first : List g.row.R.Denot) (came : List Arrival) → HasMerged rem clocks first c.args.readers.now old.merging came
     → HasMerged rem clocks first c.next.new.readers c.next.new.self (came ++ x ∷ []) × IsAfter clocks came x)) c.in-Ok-Some.field-0-is c.in-Ok-Some.ensures.some in
     let on = next (map (λ (e : End). same_clock) (open_ends net)) first came taken.merged in
-    let least = subst (λ (o : Option Arrival). IfSome o (λ x. lesser (Some x.head.frame.stamp) (least_of c.next.new.self.lanes.items) ≡ least_of old.merging.lanes.items))
+    let least = subst (λ (o : Option Arrival). IfSome o (λ x. earlier_of (Some x.head.frame.stamp) (least_of c.next.new.self.lanes.items) ≡ least_of old.merging.lanes.items))
     c.in-Ok-Some.field-0-is c.in-Ok-Some.ensures.least in
     let within = place_within rem net first c.next.new.readers old.ends.items c.next.new.self came a taken.ends on.0 in
     let number = next_number rem (map (λ (e : End). same_clock) (open_ends net)) first c.next.new.readers c.next.new.self came a on.0 in
