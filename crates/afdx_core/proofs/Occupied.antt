@@ -2,12 +2,12 @@
 use Rattle.std.proofs.Common.{◌≡◌, ℕ, ◌<◌, ◌≤◌, false, List, length, get_or, slice_get, option_map, ap, sym, ◌∙◌, arith, subst}
 use Rattle.std.proofs.lemmas.List.{length-map}
 use Rattle.std.proofs.lemmas.Option.{slice_get_past}
+use Rattle.afdx_units.specs.Time.{is_before}
 use Rattle.afdx_table.specs.declared.rows.PortRow.{PortRow}
 use Rattle.afdx_table.specs.Content.{Content}
 use Rattle.afdx_port.specs.Service.{Event, instant, reach, service}
 use Rattle.afdx_port.specs.Admission.{occupied}
 use Rattle.afdx_port.specs.Content.{done, advanced}
-use Rattle.afdx_port.specs.Course.{starts_before}
 use Rattle.afdx_port.specs.Lagging.{has_due}
 use Rattle.afdx_port.specs.Inner.Lagging.{AdvanceLeavesNothingDue}
 use Rattle.afdx_core.specs.declared.step.Row.{Row}
@@ -23,7 +23,7 @@ nothing_due : AdvanceLeavesNothingDue → (t : Content) (rows : List Row) (lates
 nothing_due leaves t rows latest o h =
     let c = o.content in
     let same : done c ≡ done (advanced latest c) = h.done_is ∙ sym (ap done (on_time t rows latest latest o h)) in
-    ap (λ (es : List Event). starts_before (reach c.settings latest) (option_map instant (slice_get (service c.settings 0 c.admitted) (length es)))) same
+    ap (λ (es : List Event). is_before (reach c.settings latest) (option_map instant (slice_get (service c.settings 0 c.admitted) (length es)))) same
     ∙ leaves c latest h.finished_is
 
 module _ {Z : Type 0} (e : Engine Z) (kept : IsKeptEngine e) (is_open : e.finished ≡ false) (place : ℕ) (os : List (OutletValue Z)) (same : os ≡ e.output_ports.items) where

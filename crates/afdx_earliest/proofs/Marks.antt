@@ -7,9 +7,9 @@ use Rattle.std.proofs.lemmas.Nat.{and-not, and_comm}
 use Rattle.std.proofs.lemmas.Nat.Bits.{bit_at-zero, bit_at-trailing_zeros, bit_at_set_same, bit_at_set_other, bit_at_clear_same, bit_at_clear_other, bit_at_above, bit_at_and, and_pow}
 use Rattle.std.proofs.lemmas.List.{get_or-replicate, length-set, get_or_past}
 use Rattle.std.proofs.lemmas.Bool.{cases_lt, cases_eq, lt-ltb, le-ltb}
-use Rattle.afdx_units.specs.Time.{stamp_end}
+use Rattle.afdx_units.specs.Time.{stamp_end, is_before}
 use Rattle.afdx_earliest.specs.Instants.{instant_at}
-use Rattle.afdx_earliest.specs.Dues.{is_before, AreMarked, IsTakenAt}
+use Rattle.afdx_earliest.specs.Dues.{AreMarked, IsTakenAt}
 use Rattle.afdx_earliest.specs.Inner.Groups.{none, instant_in, instants_in, AreKept}
 use Rattle.afdx_earliest.proofs.Firsts.{length-instants_in, instant_read, late, early}
 

@@ -1,11 +1,8 @@
 -- What is due at places before an instant: marks, of which bit 0 is for the first place.
-use Rattle.std.specs.Prelude.{◌≡◌, ◌≢◌, ℕ, ◌<◌, Bool, false, nat_lt, if◌then◌else◌, List, Option, Some, None}
+use Rattle.std.specs.Prelude.{◌≡◌, ◌≢◌, ℕ, ◌<◌, if◌then◌else◌, List, Option, Some, None}
 use Rattle.std.specs.Int.{bit_at}
+use Rattle.afdx_units.specs.Time.{is_before}
 use Rattle.afdx_earliest.specs.Instants.{instant_at}
-
-abbrev pub is_before : ℕ → Option ℕ → Bool
-is_before instant None = false
-is_before instant (Some t) = nat_lt t instant
 
 -- the marks are those of the places that have an instant before this one
 abbrev pub AreMarked : ℕ → List (Option ℕ) → ℕ → Type 0

@@ -12,13 +12,13 @@ use Rattle.std.proofs.lemmas.List.Elements.{All-more, All-weaker, All-append, Al
 use Rattle.std.proofs.lemmas.Map.Keys.{ge_from_not_lt}
 use Rattle.std.proofs.lemmas.Option.{same_Some, get_or_from_slice_get}
 use Rattle.afdx_units.specs.Line.{cost_of, least_size}
-use Rattle.afdx_units.specs.Time.{earlier_of}
+use Rattle.afdx_units.specs.Time.{earlier_of, is_before}
 use Rattle.afdx_table.specs.declared.rows.PortRow.{PortRow}
 use Rattle.afdx_table.specs.Content.{Content, port_row}
 use Rattle.afdx_wiring.specs.declared.layout.Wire.{Wire}
 use Rattle.afdx_wiring.specs.File.{is_end}
 use Rattle.afdx_network_check.specs.Net.{Network}
-use Rattle.afdx_network.specs.Inner.Sites.{Site, IsWithin, wire_place, acts_before, IsFirst}
+use Rattle.afdx_network.specs.Inner.Sites.{Site, IsWithin, wire_place, IsFirst}
 use Rattle.afdx_network.proofs.Rows.{is_itself}
 
 -- ---- the least of the times of all wires
@@ -67,27 +67,27 @@ is_first_place n place index is = (λ yes. is ∙ eqb-true place index yes, λ s
 
 -- ---- the first instant at which anything can happen
 
-acts_less : (m n : ℕ) (next : Option ℕ) → m ≤ n → acts_before n next ≡ false → acts_before m next ≡ false
+acts_less : (m n : ℕ) (next : Option ℕ) → m ≤ n → is_before n next ≡ false → is_before m next ≡ false
 acts_less m n None le none = refl
 acts_less m n (Some at) le none = let from = ltb-false at n none in le-ltb at m (omega (arith, le, from))
 
 pub first_more : (sites : List Site) (s : Site) (first : Option ℕ) → IsFirst sites first → IsFirst (sites ++ s ∷ []) (earlier_of first s.next)
 first_more sites s first all = by first s.next refl all where
-  more : (n : ℕ) → All (λ (x : Site). acts_before n x.next ≡ false) sites → acts_before n s.next ≡ false → All (λ (x : Site). acts_before n x.next ≡ false) (sites ++ s ∷ [])
+  more : (n : ℕ) → All (λ (x : Site). is_before n x.next ≡ false) sites → is_before n s.next ≡ false → All (λ (x : Site). is_before n x.next ≡ false) (sites ++ s ∷ [])
   more n before here =
-      All-append (λ (x : Site). acts_before n x.next ≡ false) sites (s ∷ []) before
-      (All-cons (λ (x : Site). acts_before n x.next ≡ false) s [] here (All-nil (λ (x : Site). acts_before n x.next ≡ false)))
+      All-append (λ (x : Site). is_before n x.next ≡ false) sites (s ∷ []) before
+      (All-cons (λ (x : Site). is_before n x.next ≡ false) s [] here (All-nil (λ (x : Site). is_before n x.next ≡ false)))
 
   by : (o next : Option ℕ) → s.next ≡ next → IsFirst sites o → IsFirst (sites ++ s ∷ []) (earlier_of o next)
   by None None is none =
       All-append (λ (x : Site). x.next ≡ None) sites (s ∷ []) none (All-cons (λ (x : Site). x.next ≡ None) s [] is (All-nil (λ (x : Site). x.next ≡ None)))
   by None (Some b) is none =
-      more b (All-weaker (λ (x : Site). x.next ≡ None) (λ (x : Site). acts_before b x.next ≡ false) (λ x no. ap (acts_before b) no) sites none)
-      (ap (acts_before b) is ∙ le-ltb b b (omega arith))
-  by (Some a) None is before = more a before (ap (acts_before a) is)
+      more b (All-weaker (λ (x : Site). x.next ≡ None) (λ (x : Site). is_before b x.next ≡ false) (λ x no. ap (is_before b) no) sites none)
+      (ap (is_before b) is ∙ le-ltb b b (omega arith))
+  by (Some a) None is before = more a before (ap (is_before a) is)
   by (Some a) (Some b) is before =
-      more (min a b) (All-weaker (λ (x : Site). acts_before a x.next ≡ false) (λ (x : Site). acts_before (min a b) x.next ≡ false) (λ x no. acts_less (min a b) a x.next (omega arith) no) sites before)
-      (ap (acts_before (min a b)) is ∙ le-ltb b (min a b) (omega arith))
+      more (min a b) (All-weaker (λ (x : Site). is_before a x.next ≡ false) (λ (x : Site). is_before (min a b) x.next ≡ false) (λ x no. acts_less (min a b) a x.next (omega arith) no) sites before)
+      (ap (is_before (min a b)) is ∙ le-ltb b (min a b) (omega arith))
 
 pub first_at : (sites : List Site) (k : ℕ) (d : Site) (first next : Option ℕ) → k < length sites → next ≡ (get_or sites k d).next → IsFirst (take k sites) first
     → IsFirst (take (k + 1) sites) (earlier_of first next)

@@ -9,7 +9,7 @@ use Rattle.std.proofs.lemmas.Bool.{le-ltb, ltb-false}
 use Rattle.std.proofs.lemmas.List.{append-nil, length-append, length-map}
 use Rattle.std.proofs.lemmas.List.Elements.{All-from_recursion, All-weaker}
 use Rattle.std.proofs.lemmas.Option.{same_Some, slice_get-map, slice_get_read, slice_get_within}
-use Rattle.afdx_units.specs.Time.{second, last_second, last_instant, earlier_of}
+use Rattle.afdx_units.specs.Time.{second, last_second, last_instant, earlier_of, is_before}
 use Rattle.afdx_pcap.specs.Record.{Record}
 use Rattle.afdx_pcap.proofs.Early.{first_early}
 use Rattle.afdx_pairing.specs.Events.{Numbered}
@@ -37,7 +37,7 @@ use Rattle.afdx_network.specs.Runs.{Given}
 use Rattle.afdx_network.specs.Given.{open_ends, NoneShareAPort, HasOrder, NoneComesLate, NoneIsLateAnywhere, IsWireFault}
 use Rattle.afdx_network.specs.Inner.Intake.{end_place, came_at, HasTaken, AreGivenSoFar, IsNotBefore, NoneCameLate, next_of}
 use Rattle.afdx_network.specs.Inner.Outputs.{HaveGone}
-use Rattle.afdx_network.specs.Inner.Sites.{Site, end_at, IsSite, IsCarried, HasCome, IsIn, IsLook, AreInWindow, HaveCome, acts_before, IsFirst, AreEarly, HandsOver, after_hops, gone_at}
+use Rattle.afdx_network.specs.Inner.Sites.{Site, end_at, IsSite, IsCarried, HasCome, IsIn, IsLook, AreInWindow, HaveCome, IsFirst, AreEarly, HandsOver, after_hops, gone_at}
 use Rattle.afdx_network.specs.Inner.Sites.{gone_of}
 use Rattle.afdx_network.specs.Inner.Windows.{IsOnWay, GoesOn, IsThrough, IsStop}
 use Rattle.afdx_network.proofs.Answering.{all_places}
@@ -80,14 +80,14 @@ no_later None None f sites is first = absurd (differ is) where
   differ e = cc
 no_later None (Some m) f sites is first =
     let same : m ≡ f = same_Some m f is in
-    (λ i d lt. ap (acts_before f) (first i d lt), omega (arith, same))
+    (λ i d lt. ap (is_before f) (first i d lt), omega (arith, same))
 no_later (Some n) None f sites is first =
     let same : n ≡ f = same_Some n f is in
     (subst (λ k. IsFirst sites (Some k)) same first, tt)
 no_later (Some n) (Some m) f sites is first =
     let same : min n m ≡ f = same_Some (min n m) f is in
     (λ i d lt. less n f (omega (arith, same)) _ (first i d lt), omega (arith, same)) where
-      less : (n f : ℕ) → f ≤ n → (next : Option ℕ) → acts_before n next ≡ false → acts_before f next ≡ false
+      less : (n f : ℕ) → f ≤ n → (next : Option ℕ) → is_before n next ≡ false → is_before f next ≡ false
       less n f le None none = refl
       less n f le (Some at) none = let from = ltb-false at n none in le-ltb at f (omega (arith, le, from))
 
@@ -102,7 +102,7 @@ way_later on remaining net first now i came given h f n a sites w none is at = r
     one_each = w.come.one_each;
     come = all_places (HasCome n) sites (λ k s there.
         (begins_in on s h f n n (w.come.carried.are.each k s there).running.next (at_site (HasCome h) sites k s w.come.come there)
-        (at_site (λ (x : Site). acts_before f x.next ≡ false) sites k s both.0 there) at (omega arith)).0);
+        (at_site (λ (x : Site). is_before f x.next ≡ false) sites k s both.0 there) at (omega arith)).0);
   };
   next = later (next_of i) both.1 w.next;
 } where
@@ -130,7 +130,7 @@ opens_at net given n most look sites w is_look le short = (
 )
 
 -- nothing comes before it
-pub not_before : (most : ℕ) (next : Option ℕ) → acts_before most next ≡ false → IsNotBefore most next
+pub not_before : (most : ℕ) (next : Option ℕ) → is_before most next ≡ false → IsNotBefore most next
 not_before most None none = tt
 not_before most (Some n) none = ltb-false n most none
 
@@ -239,7 +239,7 @@ goes_then remaining net first middle now i j came old sites then h m g further =
 -- a window after what was given came in
 pub window_on : {R : Type 0} → Unique
     → (remaining : R → Option (List ℕ)) (net : Network) (first now : List R) (i : Intake) (came : List Arrival) (given : Given) (n most look : ℕ) (sites new handed : List Site)
-    → IsOnWay remaining net first now i came given n sites → IsLook net look → n ≤ most → most ≤ n + look → acts_before most (next_of i) ≡ false
+    → IsOnWay remaining net first now i came given n sites → IsLook net look → n ≤ most → most ≤ n + look → is_before most (next_of i) ≡ false
     → ((w : AreInWindow net given n most sites) → All (λ (s : Site). s.paced.reached ≤ n) sites → AreInWindow net given n most new × All (HasCome most) new)
     → (AreInWindow net given n most sites → KeepEarly net given sites new)
     → AllZip HandsOver new handed → GoesOn remaining net first now i came sites most handed
@@ -464,6 +464,6 @@ one_taken_in remaining before start old now later i j sites then t all going rea
 }
 
 -- what comes before an instant is there
-pub there_is : (end : ℕ) (next : Option ℕ) → acts_before end next ≡ true → is_some next ≡ true
+pub there_is : (end : ℕ) (next : Option ℕ) → is_before end next ≡ true → is_some next ≡ true
 there_is end None before = absurd cc
 there_is end (Some n) before = refl

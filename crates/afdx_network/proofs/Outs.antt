@@ -2,7 +2,7 @@
 use Rattle.std.proofs.Common.{◌≡◌, ◌≤◌, ◌||◌, ℕ, nat_lt, min, Bool, true, false, cond, List, [], ◌∷◌, ◌++◌, map, length, Option, Some, None, refl, ap, sym, ◌∙◌, arith}
 use Rattle.std.proofs.lemmas.Bool.{le-ltb, ltb-false}
 use Rattle.std.proofs.lemmas.List.{length-append}
-use Rattle.afdx_units.specs.Time.{earlier_of}
+use Rattle.afdx_units.specs.Time.{earlier_of, is_before}
 use Rattle.afdx_pcap.specs.Record.{Record}
 use Rattle.afdx_pcap.specs.Fault.{last_stamp}
 use Rattle.afdx_table.specs.declared.rows.PortRow.{PortRow}
@@ -13,7 +13,6 @@ use Rattle.afdx_session.specs.Streams.{sent_up_to}
 use Rattle.afdx_paced.specs.declared.paced.PacedFault.TheVariants.{NoSuchPort, Early}
 use Rattle.afdx_paced.specs.Paced.{Lane, Paced, capture_of, out_up_to, lane_at, went_out, after_put, after_leaving, refusal_by, put_refusal, IsQuietUntil, IsNext}
 use Rattle.afdx_paced.specs.Laws.{LaterRecordsChangeNothing, OutGoesOn}
-use Rattle.afdx_network.specs.Inner.Sites.{acts_before}
 use Rattle.afdx_network.proofs.Lanes.{map_changed}
 
 abbrev pub out_of_all : Content → List Capture → Option ℕ → PortRow → List Record
@@ -40,7 +39,7 @@ shorter on v h n p le =
 -- ---- what is next
 
 -- up to an instant no later than what is next nothing leaves
-pub quiet_by : OutGoesOn → (v : Paced) (next : Option ℕ) (m : ℕ) → IsNext v next → v.reached ≤ m → acts_before m next ≡ false → IsQuietUntil v (Some m)
+pub quiet_by : OutGoesOn → (v : Paced) (next : Option ℕ) (m : ℕ) → IsNext v next → v.reached ≤ m → is_before m next ≡ false → IsQuietUntil v (Some m)
 quiet_by on v None m is from none p among =
     let first = on.until v v.reached m p from in
     let all = on.in_the_end v m p in

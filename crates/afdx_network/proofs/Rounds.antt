@@ -7,7 +7,7 @@ use Rattle.std.proofs.lemmas.Bool.{cases_eq}
 use Rattle.std.proofs.lemmas.List.{length-map, length-set}
 use Rattle.std.proofs.lemmas.List.Elements.{All-set}
 use Rattle.std.proofs.lemmas.Option.{same_Some, slice_get-map, slice_get_within}
-use Rattle.afdx_units.specs.Time.{last_second, last_instant}
+use Rattle.afdx_units.specs.Time.{last_second, last_instant, is_before}
 use Rattle.afdx_pcap.specs.Record.{Record}
 use Rattle.afdx_pcap.specs.Text.{capture_text}
 use Rattle.afdx_table.specs.declared.rows.PortRow.{PortRow}
@@ -22,7 +22,7 @@ use Rattle.afdx_paced.specs.Laws.{OutGoesOn}
 use Rattle.afdx_wiring.specs.declared.layout.End.{End}
 use Rattle.afdx_network_check.specs.Net.{Network}
 use Rattle.afdx_network.specs.Runs.{Given}
-use Rattle.afdx_network.specs.Inner.Sites.{Site, end_at, left_texts, IsSite, HasSent, HasSentAt, HasCome, AreCarried, IsIn, AreInWindow, acts_before, IsFirst, gone_at}
+use Rattle.afdx_network.specs.Inner.Sites.{Site, end_at, left_texts, IsSite, HasSent, HasSentAt, HasCome, AreCarried, IsIn, AreInWindow, IsFirst, gone_at}
 use Rattle.afdx_network.specs.Inner.Sites.{IsPortAt, WentTo, SendsOn, SendOn, Carries, Visits, after_hops, AreEarly}
 use Rattle.afdx_network.proofs.Answering.{all_places}
 use Rattle.afdx_network.proofs.Carried.{AreWritten}
@@ -253,7 +253,7 @@ visited net given begin end switch old new v before n s is = elim (cases_eq n sw
 ]
 
 pub skipped : OutGoesOn → (net : Network) (given : Given) (begin end switch : ℕ) (sites : List Site) (here : Site) → AreInWindow net given begin end sites → begin ≤ end
-    → slice_get sites switch ≡ Some here → acts_before end here.next ≡ false → AreGone begin end switch sites → AreGone begin end (switch + 1) sites
+    → slice_get sites switch ≡ Some here → is_before end here.next ≡ false → AreGone begin end switch sites → AreGone begin end (switch + 1) sites
 skipped on net given begin end switch sites here w within at none before n s is = elim (cases_eq n switch) [
   | inl same ↦
       let it = same_Some here s (sym at ∙ ap (slice_get sites) (sym same) ∙ is) in (
@@ -312,7 +312,7 @@ window_goes_on net end old k sites new c long v = record {
 }
 
 pub window_passes : OutGoesOn → (net : Network) (end : ℕ) (old : List Site) (k : ℕ) (sites : List Site) (here : Site) → OnWindow net end old k sites → slice_get sites k ≡ Some here
-    → acts_before end here.next ≡ false → OnWindow net end old (k + 1) sites
+    → is_before end here.next ≡ false → OnWindow net end old (k + 1) sites
 window_passes on net end old k sites here c at none = record {
   going = c.going;
   all = c.all;

@@ -3,7 +3,7 @@ use Rattle.std.proofs.Common.{◌≡◌, ◌<◌, ◌≤◌, ◌==◌, ℕ, max,
 use Rattle.std.specs.Prelude.{Contains}
 use Rattle.std.specs.List.{AllByRecursion}
 use Rattle.std.proofs.lemmas.Bool.{cases_lt}
-use Rattle.afdx_units.specs.Time.{last_second, last_instant}
+use Rattle.afdx_units.specs.Time.{last_second, last_instant, is_before}
 use Rattle.afdx_table.specs.declared.rows.PortRow.{PortRow}
 use Rattle.afdx_table.specs.Content.{port_row}
 use Rattle.afdx_core.specs.Merge.{Arrival}
@@ -13,7 +13,7 @@ use Rattle.afdx_paced.specs.Paced.{Paced, arrivals, IsNext}
 use Rattle.afdx_paced.specs.Laws.{OutGoesOn}
 use Rattle.afdx_network_check.specs.Net.{Network}
 use Rattle.afdx_network.specs.Runs.{Given}
-use Rattle.afdx_network.specs.Inner.Sites.{Site, IsSite, HasSent, IsIn, HasCome, acts_before, SendsOn}
+use Rattle.afdx_network.specs.Inner.Sites.{Site, IsSite, HasSent, IsIn, HasCome, SendsOn}
 use Rattle.afdx_network.proofs.Found.{found_passes}
 use Rattle.afdx_network.proofs.Outs.{quiet_by, shorter}
 
@@ -24,14 +24,14 @@ row_among : (v : Paced) (port : ℕ) (p : PortRow) → port_row v.table port ≡
 row_among v port p is = (found_passes (λ (q : PortRow). q.id == port) v.table.ports p is).1
 
 -- up to an instant before which nothing happens all has left
-quiet_sent : OutGoesOn → (s : Site) (begin n : ℕ) → IsNext s.paced s.next → s.paced.reached ≤ begin → s.paced.reached ≤ n → acts_before n s.next ≡ false → HasSent (Some begin) s → HasSent (Some n) s
+quiet_sent : OutGoesOn → (s : Site) (begin n : ℕ) → IsNext s.paced s.next → s.paced.reached ≤ begin → s.paced.reached ≤ n → is_before n s.next ≡ false → HasSent (Some begin) s → HasSent (Some n) s
 quiet_sent on s begin n next from later none sent port p l row found =
     let same = ap length (quiet_by on s.paced s.next n next later none p (row_among s.paced port p row)) in
     let first = shorter on s.paced s.paced.reached begin p from in
     let few = sent port p l row found in
     omega (arith, same, first, few)
 
-pub begins_in : OutGoesOn → (s : Site) (end first n most : ℕ) → IsNext s.paced s.next → HasCome end s → acts_before first s.next ≡ false → n ≡ max first end → n ≤ most
+pub begins_in : OutGoesOn → (s : Site) (end first n most : ℕ) → IsNext s.paced s.next → HasCome end s → is_before first s.next ≡ false → n ≡ max first end → n ≤ most
     → IsIn n most s × (s.paced.reached ≤ n)
 begins_in on s end first n most next come none is le =
     let reached = come.reached in
@@ -52,7 +52,7 @@ begins_in on s end first n most next come none is le =
     ]
 
 -- where nothing happens within the window, it has come to its end
-pub stays_away : OutGoesOn → (s : Site) (begin end : ℕ) → IsNext s.paced s.next → s.paced.reached ≤ begin → begin ≤ end → IsIn begin end s → acts_before end s.next ≡ false → HasCome end s
+pub stays_away : OutGoesOn → (s : Site) (begin end : ℕ) → IsNext s.paced s.next → s.paced.reached ≤ begin → begin ≤ end → IsIn begin end s → is_before end s.next ≡ false → HasCome end s
 stays_away on s begin end next from le inside none = record {
   reached = inside.reached;
   sent = quiet_sent on s begin end next from inside.reached none inside.sent;

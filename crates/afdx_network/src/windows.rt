@@ -3,7 +3,7 @@
 ghost use Rattle.std.specs.Prelude.{◌≡◌, ◌+◌, ◌*◌, ◌<◌, ◌≤◌, ◌↔◌, ◌∷◌, ◌++◌, ℕ, IsTrue, Bool, MatchOption, IfOk, IfErr, IfSome, OnOk, All, Option, None, Some};
 ghost use Rattle.std.specs.Prelude.{true, false, is_some, List, [], length, map, max, slice_get, position};
 ghost use Rattle.std.specs.List.{AllZip};
-ghost use Rattle.afdx_units.specs.Time.{last_instant, last_second};
+ghost use Rattle.afdx_units.specs.Time.{last_instant, last_second, is_before};
 ghost use Rattle.afdx_units.specs.Line.{cost_of, least_size};
 ghost use Rattle.afdx_pcap.specs.Record.{IsWithinLimit};
 ghost use Rattle.afdx_table.specs.declared.rows.PortRow.{PortRow as Row};
@@ -19,7 +19,7 @@ ghost use Rattle.afdx_network.specs.Runs.{Given};
 ghost use Rattle.afdx_network.specs.Given.{all_ends, IsWireFault};
 ghost use Rattle.afdx_network.specs.Inner.Intake.{HasTaken, AreGivenSoFar, next_of};
 ghost use Rattle.afdx_network.specs.Inner.Outputs.{HaveGone};
-ghost use Rattle.afdx_network.specs.Inner.Sites.{IsLook, IsFirst, acts_before, wire_place, GoesOver, HasSent, HasCome, AreInWindow, HaveCome};
+ghost use Rattle.afdx_network.specs.Inner.Sites.{IsLook, IsFirst, wire_place, GoesOver, HasSent, HasCome, AreInWindow, HaveCome};
 ghost use Rattle.afdx_network.specs.Inner.Sites.{HandsOver, gone_at, gone_of, texts_of, counts_at};
 ghost use Rattle.afdx_network.specs.Inner.Sites.{CanCome, CameOver, IsLateFault, AreEarly, StayEarly, IsPortAt, waits_at, Carries, Visits};
 ghost use Rattle.afdx_network.specs.Inner.Windows.{IsOnWay, GoesOn, IsThrough, IsStop};
@@ -299,12 +299,12 @@ fn first_of(sites: &[Site]) -> Option<Stamp>
     first
 }
 
-/// Returns whether something can happen at a switch before an instant.
-fn acts_before(site: &Site, end: Stamp) -> bool
-    ensures { result ≡ acts_before end site.now.next }
+/// Returns whether there is an instant that lies before another one.
+fn is_before(instant: Option<Stamp>, end: Stamp) -> bool
+    ensures { result ≡ is_before end instant }
 {
-    match site.next() {
-        Some(next) => next < end,
+    match instant {
+        Some(instant) => instant < end,
         None => false,
     }
 }
@@ -330,7 +330,7 @@ fn window(
 {
     out_goes_on();
     for switch in 0..sites.len() {
-        if acts_before(&sites[switch], end) {
+        if is_before(sites[switch].next(), end) {
             visit(alloc, network, sites, origins, switch, end)?;
         }
     }
@@ -349,16 +349,6 @@ fn end_of(last: Stamp, first: Stamp, look: u64) -> Stamp
     match begin.plus(look) {
         Some(end) => end,
         None => Stamp::LAST,
-    }
-}
-
-/// Returns whether there is an instant that lies before another one.
-fn is_before(instant: Option<Stamp>, end: Stamp) -> bool
-    ensures { result ≡ acts_before end instant }
-{
-    match instant {
-        Some(instant) => instant < end,
-        None => false,
     }
 }
 
@@ -412,7 +402,7 @@ fn take_in<R: Read>(
     ensures on { (net : Net) (first : List R) (came : List Arrival) → HasTaken R.remaining net first readers.old intake.old came
         → OnOk result ((more : List Arrival) × HasTaken R.remaining net first readers.new intake.new (came ++ more)) }
     ensures ok { (net : Net) (first : List R) (came : List Arrival) (given : Given) (h : ℕ) → IsOnWay R.remaining net first readers.old intake.old came given h sites.old
-        → OnOk result (GoesOn R.remaining net first readers.new intake.new came sites.old h sites.new × (acts_before end (next_of intake.new) ≡ false)) }
+        → OnOk result (GoesOn R.remaining net first readers.new intake.new came sites.old h sites.new × (is_before end (next_of intake.new) ≡ false)) }
     ensures err { (net : Net) (first : List R) (came : List Arrival) (given : Given) (h : ℕ) → IsOnWay R.remaining net first readers.old intake.old came given h sites.old
         → IfErr result (IsStop R.remaining net first readers.new intake.new) }
 {

@@ -6,14 +6,13 @@ use Rattle.std.specs.Option.{option_map}
 use Rattle.std.specs.List.{AllByRecursion}
 use Rattle.std.proofs.lemmas.Bool.{cases_lt, ltb-false, le-ltb}
 use Rattle.std.proofs.lemmas.List.{append-nil}
-use Rattle.afdx_units.specs.Time.{earlier_of}
+use Rattle.afdx_units.specs.Time.{earlier_of, is_before}
 use Rattle.afdx_units.proofs.Earlier.{neither, no_later}
 use Rattle.afdx_pcap.specs.Record.{Record}
 use Rattle.afdx_table.specs.declared.rows.PortRow.{PortRow}
 use Rattle.afdx_table.specs.Content.{Content}
 use Rattle.afdx_port.specs.declared.Sent.{Sent}
 use Rattle.afdx_port.specs.Service.{Event, instant, reach, service, before, sent_of}
-use Rattle.afdx_port.specs.Course.{starts_before}
 use Rattle.afdx_port.specs.Content.{Content as PortContent, done, due, advanced}
 use Rattle.afdx_port.specs.Lagging.{has_due}
 use Rattle.afdx_port.specs.Inner.Lagging.{NothingDueStays}
@@ -59,15 +58,15 @@ sent_all t given s p is =
     ∙ ap (λ (rows : List Row). all (port_after t rows s.run.latest s.run.finished p)) is.rows
 
 -- nothing is due before an instant that is no later than the first that is due
-none_due_by : (at n : ℕ) (o : Option ℕ) → starts_before at o ≡ false → n ≤ at → starts_before n o ≡ false
+none_due_by : (at n : ℕ) (o : Option ℕ) → is_before at o ≡ false → n ≤ at → is_before n o ≡ false
 none_due_by at n None none le = refl
 none_due_by at n (Some b) none le = let late = ltb-false b at none in le-ltb b n (omega (arith, late, le))
 
 none_due : (r : Run) (n : ℕ) (p : PortRow) → IsNextStart r None ⊎ ((m : ℕ) × IsNextStart r (Some m) × (n ≤ m)) → 0 < n → Contains r.table.ports p → has_due n (port_in r p) ≡ false
 unfolding reach
-none_due r n p (inl none) positive among = ap (λ (o : Option ℕ). starts_before (n + r.table.latency) o) (none p among)
+none_due r n p (inl none) positive among = ap (λ (o : Option ℕ). is_before (n + r.table.latency) o) (none p among)
 none_due r n p (inr (m, start, le)) positive among = by_start start.2 where
-  by_start : (m ≡ 0) ⊎ (m + r.table.latency ≤ start.0) → starts_before (n + r.table.latency) (due (port_in r p)) ≡ false
+  by_start : (m ≡ 0) ⊎ (m + r.table.latency ≤ start.0) → is_before (n + r.table.latency) (due (port_in r p)) ≡ false
   by_start (inl at_zero) = absurd (omega (arith, at_zero, le, positive))
   by_start (inr latest) = none_due_by start.0 (n + r.table.latency) (due (port_in r p)) (start.1.none_before p among) (omega (arith, latest, le))
 

@@ -7,12 +7,12 @@ use Rattle.std.proofs.lemmas.List.Elements.{All-head, All-tail, All-cons, All-pu
 use Rattle.afdx_units.specs.declared.line.Speed.{Speed}
 use Rattle.afdx_units.specs.declared.line.Speed.TheVariants.{Ten, Hundred, Thousand}
 use Rattle.afdx_units.specs.Line.{cost_of}
+use Rattle.afdx_units.specs.Time.{is_before}
 use Rattle.afdx_port.specs.declared.Settings.{Settings}
 use Rattle.afdx_port.specs.declared.Item.{Item}
 use Rattle.afdx_port.specs.Service.{free_after, fate, before}
 use Rattle.afdx_port.specs.Inner.Progress.{LineState}
 use Rattle.afdx_port.specs.Inner.Order.{in_line}
-use Rattle.afdx_port.specs.Course.{starts_before}
 use Rattle.afdx_port.specs.Inner.Course.{next_in_line, after_next, rest_in_line, first_start}
 use Rattle.afdx_port.proofs.Turns.{instant-fate, free_after-fate}
 use Rattle.afdx_port.proofs.Earlier.{before-cons_out, before-cons_in}
@@ -25,7 +25,7 @@ in_line_late s t b (x ∷ items) le =
     ∙ in_line_late s t (free_after (fate s b x)) items (omega (arith, free_after-fate s b x))
 
 -- a step that lies before t moves the first event from what is to do to what was done
-pub before_split : (s s' : Settings) (t b : ℕ) (items : List Item) (q : LineState) → starts_before t (first_start b items) ≡ true → q ≡ after_next s b items → s' ≡ s → before t (in_line s b items)
+pub before_split : (s s' : Settings) (t b : ℕ) (items : List Item) (q : LineState) → is_before t (first_start b items) ≡ true → q ≡ after_next s b items → s' ≡ s → before t (in_line s b items)
     ≡ next_in_line s b items ++ before t (in_line s' q.free q.waiting)
 before_split s s' t b [] q due is same = rw (same, is) refl
 before_split s s' t b (x ∷ items) q due is same = rw (same, is) (before-cons_in t (fate s b x) (in_line s (free_after (fate s b x)) items) (omega (arith, instant-fate s b x, ltb-true b t due)))
@@ -34,21 +34,21 @@ pub all_split : (s s' : Settings) (b : ℕ) (items : List Item) (q : LineState) 
 all_split s s' b [] q is same = rw (same, is) refl
 all_split s s' b (x ∷ items) q is same = rw (same, is) refl
 
-pub rest_split : (s s' : Settings) (t b : ℕ) (items : List Item) (q goal : LineState) → starts_before t (first_start b items) ≡ true → q ≡ after_next s b items → s' ≡ s → rest_in_line s t b items
+pub rest_split : (s s' : Settings) (t b : ℕ) (items : List Item) (q goal : LineState) → is_before t (first_start b items) ≡ true → q ≡ after_next s b items → s' ≡ s → rest_in_line s t b items
     ≡ goal → rest_in_line s' t q.free q.waiting ≡ goal
 rest_split s s' t b [] q goal due is same so_far = rw (same, is) so_far
 rest_split s s' t b (x ∷ items) q goal due is same so_far = rw (same, is) (sym (ap (λ v. cond v (rest_in_line s t (free_after (fate s b x)) items) (record { free = b; waiting = x ∷ items })) due)
     ∙ so_far)
 
-pub before_stop : (s : Settings) (t b : ℕ) (items : List Item) → starts_before t (first_start b items) ≡ false → before t (in_line s b items) ≡ []
+pub before_stop : (s : Settings) (t b : ℕ) (items : List Item) → is_before t (first_start b items) ≡ false → before t (in_line s b items) ≡ []
 before_stop s t b [] due = refl
 before_stop s t b (x ∷ items) due = in_line_late s t b (x ∷ items) (ltb-false b t due)
 
-pub rest_stop : (s : Settings) (t b : ℕ) (items : List Item) → starts_before t (first_start b items) ≡ false → rest_in_line s t b items ≡ record { free = b; waiting = items }
+pub rest_stop : (s : Settings) (t b : ℕ) (items : List Item) → is_before t (first_start b items) ≡ false → rest_in_line s t b items ≡ record { free = b; waiting = items }
 rest_stop s t b [] due = refl
 rest_stop s t b (x ∷ items) due = ap (λ v. cond v (rest_in_line s t (free_after (fate s b x)) items) (record { free = b; waiting = x ∷ items })) due
 
-pub due_waits : (t b : ℕ) (hs ls : List Item) → starts_before t (first_start b (hs ++ ls)) ≡ true → 0 < length hs + length ls
+pub due_waits : (t b : ℕ) (hs ls : List Item) → is_before t (first_start b (hs ++ ls)) ≡ true → 0 < length hs + length ls
 due_waits t b [] [] due = (cc)
 due_waits t b [] (x ∷ ls) due = omega arith
 due_waits t b (x ∷ hs) ls due = omega arith
@@ -59,7 +59,7 @@ some_waits b [] (x ∷ ls) some = refl
 some_waits b (x ∷ hs) ls some = refl
 
 -- where items wait and none is due before t, the next start is at t or later
-pub waits_from : (t b : ℕ) (hs ls : List Item) → 0 < length hs + length ls → starts_before t (first_start b (hs ++ ls)) ≡ false → t ≤ b
+pub waits_from : (t b : ℕ) (hs ls : List Item) → 0 < length hs + length ls → is_before t (first_start b (hs ++ ls)) ≡ false → t ≤ b
 waits_from t b [] [] some late = absurd (omega (arith, some))
 waits_from t b [] (x ∷ ls) some late = ltb-false b t late
 waits_from t b (x ∷ hs) ls some late = ltb-false b t late

@@ -3,12 +3,12 @@ use Rattle.std.proofs.Common.{◌≡◌, ℕ, ◌≤◌, Bool, true, false, cond
 use Rattle.std.specs.Prelude.{slice_get}
 use Rattle.std.specs.Option.{option_map}
 use Rattle.std.proofs.lemmas.Bool.{ltb-false}
+use Rattle.afdx_units.specs.Time.{is_before}
 use Rattle.afdx_port.specs.declared.Settings.{Settings}
 use Rattle.afdx_port.specs.declared.Item.{Item}
 use Rattle.afdx_port.specs.Service.{Event, instant, reach, service, before}
 use Rattle.afdx_port.specs.Admission.{fits}
 use Rattle.afdx_port.specs.Inner.Progress.{left, is_due}
-use Rattle.afdx_port.specs.Course.{starts_before}
 use Rattle.afdx_port.specs.Content.{Content, done, due, offered, advanced, closed}
 use Rattle.afdx_port.specs.Lagging.{has_due}
 use Rattle.afdx_port.proofs.Choices.{not_below}
@@ -19,7 +19,7 @@ use Rattle.afdx_port.proofs.Working.{left_waits, due_no}
 use Rattle.afdx_port.proofs.Picked.{reach-le, done_open}
 use Rattle.afdx_port.proofs.AtLine.{due_at}
 
-none_before : (s : Settings) (u free : ℕ) (ws : List Item) → starts_before u (option_map instant (slice_get (service s free ws) 0)) ≡ false → before u (service s free ws) ≡ []
+none_before : (s : Settings) (u free : ℕ) (ws : List Item) → is_before u (option_map instant (slice_get (service s free ws) 0)) ≡ false → before u (service s free ws) ≡ []
 none_before s u free [] late = refl
 none_before s u free (first ∷ rest) late = late_start s u free first rest (omega (arith, ltb-false _ u late, instant-next s free first rest))
 
@@ -47,10 +47,10 @@ nothing_due c to open' le none =
     let first : due c ≡ option_map instant (slice_get rest 0) =
     ap (λ es. option_map instant (slice_get all (length es))) (open_is c open') ∙ ap (λ es. option_map instant (slice_get es (length (before t all)))) (split s t 0 c.admitted)
     ∙ due_at (before t all) rest in
-    let none_left = none_before s u q.free q.waiting (ap (starts_before u) (sym first) ∙ none) in
+    let none_left = none_before s u q.free q.waiting (ap (is_before u) (sym first) ∙ none) in
     advance_parts c to open' le ∙ ap (λ es. done c ++ es) none_left ∙ append-nil (done c)
 
-first_late : (s : Settings) (u free : ℕ) (ws : List Item) → is_due s u free ws ≡ false → starts_before u (option_map instant (slice_get (service s free ws) 0)) ≡ false
+first_late : (s : Settings) (u free : ℕ) (ws : List Item) → is_due s u free ws ≡ false → is_before u (option_map instant (slice_get (service s free ws) 0)) ≡ false
 first_late s u free [] late = refl
 first_late s u free (first ∷ rest) late = let ge = due_no s u free first rest late in not_below _ u (omega (arith, ge, instant-next s free first rest))
 
@@ -64,7 +64,7 @@ none_due_after c to open' =
     let first : due (advanced to c) ≡ option_map instant (slice_get rest 0) =
     ap (λ es. option_map instant (slice_get all (length es))) (done_open s c.admitted to c.finished open')
     ∙ ap (λ es. option_map instant (slice_get es (length (before u all)))) (split s u 0 c.admitted) ∙ due_at (before u all) rest in
-    ap (starts_before u) first ∙ first_late s u q.free q.waiting (left_waits s u 0 c.admitted)
+    ap (is_before u) first ∙ first_late s u q.free q.waiting (left_waits s u 0 c.admitted)
 
 finished_cases : (c : Content) (b : Bool) → c.finished ≡ b → (more : List Event) × (done (closed c) ≡ done c ++ more)
 finished_cases c true is = ([], ap (λ b. cond b (service c.settings 0 c.admitted) (before (reach c.settings c.horizon) (service c.settings 0 c.admitted))) (sym is) ∙ sym (append-nil (done c)))

@@ -1,5 +1,5 @@
 -- Instants of a capture and bandwidth allocation gaps, as numbers of nanoseconds.
-use Rattle.std.specs.Prelude.{ℕ, ◌*◌, ◌<◌, min, Option, Some, None}
+use Rattle.std.specs.Prelude.{ℕ, ◌*◌, ◌<◌, min, nat_lt, Bool, false, Option, Some, None}
 use Rattle.afdx_units.specs.declared.bag.Bag.{Bag}
 use Rattle.afdx_units.specs.declared.bag.Bag.TheVariants.{Ms1, Ms2, Ms4, Ms8, Ms16, Ms32, Ms64, Ms128}
 
@@ -28,6 +28,11 @@ abbrev pub earlier_of : Option ℕ → Option ℕ → Option ℕ
 earlier_of None other = other
 earlier_of (Some one) None = Some one
 earlier_of (Some one) (Some other) = Some (min one other)
+
+-- whether there is an instant that lies before this one
+abbrev pub is_before : ℕ → Option ℕ → Bool
+is_before end None = false
+is_before end (Some instant) = nat_lt instant end
 
 -- ARINC 664 Part 7: the gaps that a link may have, in milliseconds
 abbrev pub bag_ms : Bag → ℕ

@@ -1,9 +1,9 @@
 -- A network in the course of a run: what came in at each switch so far, and what left it.
-use Rattle.std.specs.Prelude.{◌≡◌, ◌+◌, ◌-◌, ◌*◌, ◌<◌, ◌≤◌, ◌∷◌, ◌++◌, nat_lt, Bool, false, if◌then◌else◌, ℕ, List, [], length, map, flat_map, set, slice_get, slice_set, Option, Some, None}
+use Rattle.std.specs.Prelude.{◌≡◌, ◌+◌, ◌-◌, ◌*◌, ◌<◌, ◌≤◌, ◌∷◌, ◌++◌, Bool, false, if◌then◌else◌, ℕ, List, [], length, map, flat_map, set, slice_get, slice_set, Option, Some, None}
 use Rattle.std.specs.Prelude.{option_and_then, All, Contains}
 use Rattle.std.specs.Prelude.{Result, MatchResult}
 use Rattle.std.specs.List.{AllByRecursion, position_or_len}
-use Rattle.afdx_units.specs.Time.{last_second, earlier_of}
+use Rattle.afdx_units.specs.Time.{last_second, earlier_of, is_before}
 use Rattle.afdx_units.specs.Line.{cost_of, least_size}
 use Rattle.afdx_pcap.specs.Record.{Record, IsWithinLimit}
 use Rattle.afdx_pcap.specs.Text.{record_text, capture_text, AreReadable}
@@ -171,15 +171,10 @@ pub record AreInCarry (net : Network) (given : Given) (begin end : ℕ) (from : 
   pub inside : All (IsIn begin end) sites
   pub wires : All (IsPending sites from frame net.layout.wires k) net.layout.wires
 
--- something can happen before this instant
-abbrev pub acts_before : ℕ → Option ℕ → Bool
-acts_before end None = false
-acts_before end (Some n) = nat_lt n end
-
 -- before this instant nothing can happen at these switches; nothing at all, if there is none
 abbrev pub IsFirst : List Site → Option ℕ → Type 0
 IsFirst sites None = All (λ s. s.next ≡ None) sites
-IsFirst sites (Some n) = All (λ s. acts_before n s.next ≡ false) sites
+IsFirst sites (Some n) = All (λ s. is_before n s.next ≡ false) sites
 
 -- the switches between two windows: all have come to an instant, and what was given so far came in
 pub record HaveCome (net : Network) (given : Given) (h : ℕ) (sites : List Site) : Type 0 where

@@ -1,6 +1,6 @@
 use Rattle.std.proofs.Common.{rules, ◌+◌, ◌<◌, ◌≡◌, true, false, length, get_or, refl, sym, arith, ap, ◌∙◌, subst}
+use Rattle.afdx_units.specs.Time.{is_before}
 use Rattle.afdx_port.specs.Content.{due, advanced}
-use Rattle.afdx_port.specs.Course.{starts_before}
 use Rattle.afdx_earliest.specs.Dues.{AreMarked}
 use Rattle.afdx_core.specs.Inner.OutputPorts.{Out, seen}
 use Rattle.afdx_core.specs.Inner.Copies.{newly_aged}
@@ -66,8 +66,8 @@ loop-place-preserved g c =
     let items = newly_aged o.port.content o'.port.content in
     let same = due_copies c.events_follow_the_line.ensures.parts c.each_has_one_event.ensures c.events_come_in_parts.ensures.sent c.events_come_in_parts.ensures.aged
     c.lagging_ports_follow.ensures.advance o o' at (l.invariant.can k d lt) seen_is in
-    let late : starts_before until c.due.result ≡ false =
-    ap (starts_before until) (c.due.ensures ∙ ap (λ (r : Out). due r.content) c.carry.ensures.seen)
+    let late : is_before until c.due.result ≡ false =
+    ap (is_before until) (c.due.ensures ∙ ap (λ (r : Out). due r.content) c.carry.ensures.seen)
     ∙ sym (reached c.args.latency at (advanced at o.port.content) (l.invariant.latency k d lt))
     ∙ c.lagging_ports_follow.ensures.none_due o.port.content at (l.invariant.can k d lt).still_open in
     record {

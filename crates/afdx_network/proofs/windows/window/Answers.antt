@@ -1,5 +1,6 @@
 use Rattle.std.proofs.Common.{◌≡◌, ◌+◌, List, get_or, length, sym, ◌∙◌, ap, arith, subst}
 use Rattle.std.proofs.lemmas.Option.{slice_get-get_or}
+use Rattle.afdx_units.specs.Time.{is_before}
 use Rattle.afdx_network.specs.declared.fault.NetworkRunFault.TheVariants as fault
 use Rattle.afdx_network.specs.Given.{IsWireFault}
 use Rattle.afdx_network.specs.Inner.Sites.{Site, AreEarly}
@@ -7,7 +8,7 @@ use Rattle.afdx_network.proofs.Answering.{of_error, match_error}
 use Rattle.afdx_network.proofs.Noting.{noted_both}
 use Rattle.afdx_network.proofs.Rounds.{OnWindow, window_begins, window_goes_on, window_passes, all_gone, still_going}
 use Rattle.afdx_network.proofs.windows.window.Goals as goal
-use Rattle.afdx_network.proofs.windows.window.Goals.{then-acts_before+in_ok-visit, else-acts_before}
+use Rattle.afdx_network.proofs.windows.window.Goals.{then-is_before+in_ok-visit, else-is_before}
 
 pub loop-switch-init : goal.loop-switch-init
 loop-switch-init c = record {
@@ -27,13 +28,13 @@ loop-switch-preserved c =
     let end = c.args.end in
     let k = c.loop-switch.switch in
     let sites = c.loop-switch.sites in
-    elim c.if-acts_before.branch [
-      | then-acts_before+in_ok-visit w ↦
+    elim c.if-is_before.branch [
+      | then-is_before+in_ok-visit w ↦
           let now = w.in_ok-visit.ensures in
           record {
             on = subst (OnWindow net end c.args.sites.now (k + 1)) (sym w.sites-is)
                 (window_goes_on net end c.args.sites.now k sites w.visit.new.sites c.loop-switch.invariant.on
-                (ap (λ (xs : List Site). length xs) (sym w.sites-is) ∙ c.if-acts_before.auto.sites) (record {
+                (ap (λ (xs : List Site). length xs) (sym w.sites-is) ∙ c.if-is_before.auto.sites) (record {
                   going = now.going;
                   gone = now.gone;
                   ok = now.ok;
@@ -42,12 +43,12 @@ loop-switch-preserved c =
             noted = λ keeps known. noted_both net keeps w.visit.new.origins _ w.visit.new.sites _ w.origins-is w.sites-is
                 (now.noted keeps (c.loop-switch.invariant.noted keeps known));
           }
-      | else-acts_before w ↦
+      | else-is_before w ↦
           record {
             on = subst (OnWindow net end c.args.sites.now (k + 1)) (sym w.sites-is)
                 (window_passes c.out_goes_on.ensures net end c.args.sites.now k sites (get_or sites k c.index-sites-switch.result) c.loop-switch.invariant.on
                 (slice_get-get_or sites k c.index-sites-switch.result (let same = c.loop-switch.auto.sites in let lt = c.loop-switch-test.true in omega (arith, same, lt)))
-                (sym c.acts_before.ensures ∙ w.if-acts_before.false));
+                (sym (c.is_before.ensures ∙ ap (is_before end) c.next.ensures) ∙ w.if-is_before.false));
             noted = λ keeps known. noted_both net keeps c.loop-switch.origins _ sites _ w.origins-is w.sites-is
                 (c.loop-switch.invariant.noted keeps known);
           }

@@ -1,5 +1,5 @@
 use Rattle.std.proofs.Common.{◌≡◌, ◌<◌, ℕ, false, List, length, get_or, Option, Some, None, All, arith, subst}
-use Rattle.afdx_port.specs.Course.{starts_before}
+use Rattle.afdx_units.specs.Time.{is_before}
 use Rattle.afdx_core.proofs.FirstDue.{none_before}
 use Rattle.afdx_core.proofs.NextEvent.{all_due, none_due, one_due}
 use Rattle.afdx_core.specs.Inner.Engine.{run_of}
@@ -10,7 +10,7 @@ returns g c =
     let e = c.args.self.now in
     let kept = c.requires.kept in
     let first = c.in_ok-first.first in
-    let late : Option ℕ → Type 0 = λ due. starts_before first.1 due ≡ false in
+    let late : Option ℕ → Type 0 = λ due. is_before first.1 due ≡ false in
     let is = c.in_ok-first.ensures in
     let dues = kept.dues c.requires.still_open in
     record {
