@@ -1,6 +1,6 @@
 //! What a run asks for: which captures are to be given, and that no two wires go to one port.
 
-ghost use Rattle.std.specs.Prelude.{◌≡◌, ◌++◌, map, filter, All, IfErr, IfOk, OnOk, Some, IsTrue, ◌↔◌};
+ghost use Rattle.std.specs.Prelude.{◌≡◌, ◌++◌, map, filter, All, IfErr, IfOk, OnOk, Some};
 ghost use Rattle.afdx_network_check.specs.Net.{wire_to};
 ghost use Rattle.afdx_network.specs.declared.fault.NetworkRunFault.TheVariants.{WrongWires};
 ghost use Rattle.afdx_network.specs.Given.{is_open, open_ends, all_ends, NoneShareAPort};
@@ -9,7 +9,7 @@ ghost use Rattle.afdx_network.specs.Inner.Sites.{end_at};
 use crate::fault::NetworkRunFault;
 use afdx_network_check::Network;
 use afdx_table::Table;
-use afdx_wiring::{End, Wire};
+use afdx_wiring::End;
 use std::alloc::{AllocError, Global};
 
 /// Returns whether no wire goes to this port of the switch at this place, so that its capture is one of those that are given. O(wires).
@@ -76,16 +76,6 @@ pub fn all_ends(alloc: Global, network: &Network) -> Result<Vec<End>, AllocError
     Ok(ends)
 }
 
-/// Returns whether this is the first wire that goes to its port. O(wires).
-fn is_first(network: &Network, wire: &Wire) -> bool
-    ensures { IsTrue result ↔ (wire_to network.now wire.now.to ≡ Some wire.now) }
-{
-    match network.wire_to(wire.to) {
-        Some(first) => first == wire,
-        None => false,
-    }
-}
-
 /// Fails with `WrongWires` if a wire goes to a port to which another one goes that is before it. O(wires^2).
 pub(crate) fn check_wires(network: &Network) -> Result<(), NetworkRunFault>
     ensures ok { OnOk result (All (λ w. wire_to network.now w.to ≡ Some w) network.now.layout.wires) }
@@ -93,7 +83,7 @@ pub(crate) fn check_wires(network: &Network) -> Result<(), NetworkRunFault>
 {
     let wires = network.layout().wires.as_slice();
     for wire in wires {
-        if !is_first(network, wire) {
+        if !network.is_first(wire) {
             return Err(NetworkRunFault::WrongWires);
         }
     }

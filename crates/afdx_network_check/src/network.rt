@@ -1,6 +1,6 @@
 //! A network: its wiring and the tables of its switches.
 
-ghost use Rattle.std.specs.Prelude.{◌≡◌, ◌<◌, ◌≤◌, ℕ, MatchResult, Ok, Err, option_map, option_copied, slice_get, find};
+ghost use Rattle.std.specs.Prelude.{◌≡◌, ◌<◌, ◌≤◌, ◌↔◌, ℕ, IsTrue, MatchResult, Ok, Err, Some, option_map, option_copied, slice_get, find};
 ghost use Rattle.afdx_grouping.specs.Lined.{rounding_in};
 ghost use Rattle.afdx_wiring.specs.File.{is_end};
 ghost use Rattle.afdx_network_check.specs.Net.{port_at, row_at, ingress, wire_to, rounding_at, stated_least, least_at, scatter_at};
@@ -196,6 +196,16 @@ impl Network {
         ensures { option_copied result ≡ wire_to self.now end }
     {
         self.layout.wires.iter().find(|wire| is_end(wire.to, end))
+    }
+
+    /// Returns whether a wire is the first that goes to its port. O(wires).
+    pub fn is_first(&self, wire: &Wire) -> bool
+        ensures { IsTrue result ↔ (wire_to self.now wire.now.to ≡ Some wire.now) }
+    {
+        match self.wire_to(wire.to) {
+            Some(first) => first == wire,
+            None => false,
+        }
     }
 
     /// Returns to within how many nanoseconds frames come one after the other at a port, if that is known. O(wires).

@@ -1,6 +1,6 @@
 //! The delays of a network's links from end to end.
 
-ghost use Rattle.std.specs.Prelude.{◌≡◌, ◌<◌, ℕ, [], ◌==◌, List, length, slice_get, position, option_map, option_copied, IfOk, IfSome, MatchOption, IsTrue, OnOk, Some, None, Contains, ◌↔◌};
+ghost use Rattle.std.specs.Prelude.{◌≡◌, ◌<◌, ℕ, [], ◌==◌, List, length, slice_get, position, option_map, option_copied, IfOk, IfSome, MatchOption, OnOk, Some, None, Contains};
 ghost use Rattle.afdx_port.specs.declared.Sent.{Sent as Copy};
 ghost use Rattle.afdx_table.specs.Link.{Link};
 ghost use Rattle.afdx_network_check.specs.Net.{Row as Line, row_at, wire_to};
@@ -122,16 +122,6 @@ fn bring(
     switches[wire.to.switch].add(place, Coming { at, first })
 }
 
-/// Returns whether a wire is the first that goes to its port. O(wires).
-fn is_first(network: &Network, wire: &Wire) -> bool
-    ensures { IsTrue result ↔ (wire_to network.now wire.now.to ≡ Some wire.now) }
-{
-    match network.wire_to(wire.to) {
-        Some(first) => first == wire,
-        None => false,
-    }
-}
-
 /// Notes as `bring` does that a frame is on its way over a wire, if the wire begins at a port and is the first that goes to its end.
 /// O(wires).
 fn bring_from(
@@ -149,7 +139,7 @@ fn bring_from(
     if !is_end(wire.from, from) {
         return Ok(());
     }
-    if !is_first(network, wire) {
+    if !network.is_first(wire) {
         return Ok(());
     }
     bring(network, switches, wire, link, end, first)
