@@ -5,14 +5,11 @@ ghost use Rattle.slab.specs.Slab.{ContainsKey, Updates, slab_len};
 ghost use Rattle.afdx_held_frames.specs.Inner.Kept.{key_at, NoneHeld};
 ghost use Rattle.afdx_held_frames.specs.Seen.{is_held, one_less, newcomer, frame_at};
 
-use afdx_past::History;
+use afdx_past::{AT_ONCE, History};
 use afdx_pcap::Record;
 use slab::Slab;
 use std::alloc::{AllocError, Allocator};
 use std::marker::Model;
-
-/// For how many arrivals room is made at once (profile): so many that most find room, and so few that their room is a few KB.
-const ARRIVALS_AT_ONCE: usize = 64;
 
 /// The key of an arrival of which nothing is held; no slot has it.
 const NO_KEY: u32 = u32::MAX;
@@ -135,12 +132,12 @@ impl<'a, A: Allocator + Copy> Store<'a, A> {
         ensures ok { OnOk result (0 < self.new.room) }
         ensures held { self.new.held ≡ self.old.held }
     {
-        self.slots.reserve(ARRIVALS_AT_ONCE)?;
-        self.keys.reserve(ARRIVALS_AT_ONCE)?;
+        self.slots.reserve(AT_ONCE)?;
+        self.keys.reserve(AT_ONCE)?;
         if self.slots.capacity() > NO_KEY as usize {
             return Err(AllocError);
         }
-        self.room = ARRIVALS_AT_ONCE;
+        self.room = AT_ONCE;
         Ok(())
     }
 
