@@ -1,9 +1,10 @@
 //! By which clock the records of a capture are compared with those of others.
 
-ghost use Rattle.std.specs.Prelude.{◌≡◌};
-ghost use Rattle.afdx_merging.specs.Merge.{moved, due_at};
+ghost use Rattle.std.specs.Prelude.{◌≡◌, map, IfOk};
+ghost use Rattle.afdx_merging.specs.Merge.{moved, due_at, same_clock};
 
 use afdx_units::Stamp;
+use std::alloc::{AllocError, Allocator};
 
 /// What makes the stamps of a capture those of the clock that all records are compared by. All is in nanoseconds, and every call is O(1).
 #[derive(Clone, Copy, Debug, PartialEq, Eq)]
@@ -31,4 +32,24 @@ impl Clock {
     {
         u128::from(stamp.ns()) + u128::from(self.delay)
     }
+}
+
+/// Makes a clock for the capture of each of these ports, by which stamps stay as they are. O(ports).
+///
+/// An error says that memory ran out.
+pub fn same_clocks<T, A: Allocator + Copy>(
+    alloc: A,
+    ports: &[T],
+) -> Result<Vec<Clock, A>, AllocError>
+    ensures { IfOk result (λ clocks. clocks.items ≡ map (λ p. same_clock) ports.now) }
+{
+    let mut clocks = Vec::with_capacity(alloc, ports.len())?;
+    for _port in ports {
+        clocks.push(Clock {
+            later: 0,
+            sooner: 0,
+            delay: 0,
+        })?;
+    }
+    Ok(clocks)
 }

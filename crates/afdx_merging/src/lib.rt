@@ -21,7 +21,7 @@ mod lane;
 mod merging;
 mod stop;
 
-pub use clock::Clock;
+pub use clock::{Clock, same_clocks};
 pub use fault::MergeFault;
 pub use head::Head;
 pub use merging::{Arrival, Merging};

@@ -1,11 +1,8 @@
 -- Lists of ports and of clocks that a loop makes: of one more.
-use Rattle.std.proofs.Common.{◌≡◌, ◌<◌, ◌+◌, ℕ, suc, List, [], ◌∷◌, ◌++◌, length, map, drop, get_or, ap, sym, ◌∙◌, arith, append_assoc}
+use Rattle.std.proofs.Common.{◌≡◌, ◌<◌, ◌+◌, ℕ, suc, List, ◌∷◌, ◌++◌, length, map, drop, get_or, ap, sym, ◌∙◌, arith, append_assoc}
 use Rattle.std.proofs.Math.Seq.{drop-cons}
 use Rattle.afdx_table.specs.declared.rows.PortRow.{PortRow}
 use Rattle.afdx_table.specs.Content.{Content}
-use Rattle.afdx_merging.specs.declared.clock.Clock.{Clock}
-use Rattle.afdx_merging.specs.Merge.{same_clock}
-use Rattle.afdx_merging.proofs.Timed.{there_at}
 use Rattle.afdx_wiring.specs.declared.layout.End.{End}
 use Rattle.afdx_network.specs.Given.{all_from}
 use Rattle.afdx_network.specs.Inner.Sites.{end_at}
@@ -20,12 +17,3 @@ all_next items n t ends new lt is so_far more =
     so_far ∙ ap (λ (ts : List Content). ends ++ all_from n ts) (drop-cons items n t lt ∙ ap (λ (u : Content). u ∷ drop (suc n) items) (sym is))
     ∙ sym (append_assoc ends (map (λ (p : PortRow). end_at n p.id) t.ports) (all_from (n + 1) (drop (suc n) items)))
     ∙ ap (λ (es : List End). es ++ all_from (n + 1) (drop (suc n) items)) (sym more) ∙ ap (λ (k : ℕ). new ++ all_from (n + 1) (drop k items)) (next_number n)
-
--- the clock of one capture more
-pub clocks_next : (ends : List End) (n : ℕ) (clocks new : List Clock) → n < length ends → map (λ (e : End). same_clock) ends ≡ clocks ++ map (λ (e : End). same_clock) (drop n ends)
-    → new ≡ clocks ++ same_clock ∷ [] → map (λ (e : End). same_clock) ends ≡ new ++ map (λ (e : End). same_clock) (drop (n + 1) ends)
-clocks_next ends n clocks new lt so_far more =
-    let e = (there_at ends n lt).0 in
-    so_far ∙ ap (λ (es : List End). clocks ++ map (λ (x : End). same_clock) es) (drop-cons ends n e lt)
-    ∙ sym (append_assoc clocks (same_clock ∷ []) (map (λ (x : End). same_clock) (drop (suc n) ends)))
-    ∙ ap (λ (cs : List Clock). cs ++ map (λ (x : End). same_clock) (drop (suc n) ends)) (sym more) ∙ ap (λ (k : ℕ). new ++ map (λ (x : End). same_clock) (drop k ends)) (next_number n)

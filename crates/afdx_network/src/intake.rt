@@ -1,7 +1,7 @@
 //! What is given for a run: captures that readers give, of the ports to which no wire goes.
 
-ghost use Rattle.std.specs.Prelude.{◌≡◌, ◌++◌, [], List, None, length, map, IfOk, IfErr, OnOk, IfSome, IfNone};
-ghost use Rattle.afdx_merging.specs.Merge.{Arrival as Came, same_clock};
+ghost use Rattle.std.specs.Prelude.{◌≡◌, ◌++◌, [], List, None, length, IfOk, IfErr, OnOk, IfSome, IfNone};
+ghost use Rattle.afdx_merging.specs.Merge.{Arrival as Came};
 ghost use Rattle.afdx_network_check.specs.Net.{Network as Net};
 ghost use Rattle.afdx_network.specs.Given.{open_ends};
 ghost use Rattle.afdx_network.specs.Inner.Intake.{HasTaken, next_of, IsNextIn, HasTakenAll, AreMet, AreOverLines, IsLineFault, IsAmong, IsFaultAt, IsIntakeFault};
@@ -10,12 +10,12 @@ use crate::fault::NetworkRunFault;
 use crate::given::open_ends;
 use crate::line::Line;
 use crate::one_line::{first_breach, given_lines, meet};
-use afdx_merging::{Clock, MergeFault, Merging};
+use afdx_merging::{MergeFault, Merging, same_clocks};
 use afdx_network_check::Network;
 use afdx_pcap::Record;
 use afdx_units::Stamp;
 use afdx_wiring::End;
-use std::alloc::{AllocError, Global};
+use std::alloc::Global;
 use std::io::Read;
 
 /// The captures that are given, of each of which the next record is at hand; the port of each, and its line if the network file says that end
@@ -25,21 +25,6 @@ pub(crate) struct Intake {
     pub(crate) ends: Vec<End>,
     pub(crate) lines: Vec<Line>,
     pub(crate) merging: Merging<Global>,
-}
-
-/// Makes the clock of a capture at each of these ports: stamps stay as they are.
-fn clocks_of(alloc: Global, ends: &[End]) -> Result<Vec<Clock>, AllocError>
-    ensures { IfOk result (λ clocks. clocks.items ≡ map (λ e. same_clock) ends.now) }
-{
-    let mut clocks = Vec::with_capacity(alloc, ends.len())?;
-    for _end in ends {
-        clocks.push(Clock {
-            later: 0,
-            sooner: 0,
-            delay: 0,
-        })?;
-    }
-    Ok(clocks)
 }
 
 /// Says of a port what a merge says of a place.
@@ -75,7 +60,7 @@ impl Intake {
     {
         let ends = open_ends(alloc, network)?;
         let lines = given_lines(alloc, network)?;
-        let clocks = clocks_of(alloc, &ends)?;
+        let clocks = same_clocks(alloc, &ends)?;
         match Merging::open(alloc, &clocks, readers) {
             Ok(merging) => Ok(Intake {
                 ends,

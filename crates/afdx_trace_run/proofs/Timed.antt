@@ -1,8 +1,8 @@
 -- When the records of captures that are read side by side came.
-use Rattle.std.proofs.Common.{◌≡◌, ◌<◌, ◌+◌, ℕ, List, [], ◌∷◌, ◌++◌, length, map, take, Option, sym, ap, ◌∙◌, arith, subst}
+use Rattle.std.proofs.Common.{◌<◌, ◌+◌, ℕ, List, [], ◌∷◌, ◌++◌, length, map, Option, sym, ap, ◌∙◌, arith, subst}
 use Rattle.std.specs.List.{AllByRecursion}
 use Rattle.std.specs.Option.{option_map}
-use Rattle.std.proofs.lemmas.List.{length-map, map_more}
+use Rattle.std.proofs.lemmas.List.{length-map}
 use Rattle.std.proofs.lemmas.Option.{slice_get-map}
 use Rattle.afdx_units.specs.Time.{last_second}
 use Rattle.afdx_pcap.specs.Record.{Record}
@@ -18,12 +18,6 @@ use Rattle.afdx_trace_run.specs.Inner.Running.{clocks_of}
 pub all_but_last : {X : Type 0} (P : X → Type 0) (xs : List X) (x : X) → AllByRecursion P (xs ++ x ∷ []) → AllByRecursion P xs
 all_but_last P [] x all = tt
 all_but_last P (y ∷ xs) x all = (all.0, all_but_last P xs x all.1)
-
--- ---- the clocks of captures
-
--- one more is the same
-pub clocks_next : (ports : List PortRow) (i : ℕ) → i < length ports → clocks_of (take (i + 1) ports) ≡ clocks_of (take i ports) ++ same_clock ∷ []
-clocks_next ports i lt = let p = there_at ports i lt in map_more (λ (x : PortRow). same_clock) ports i p.0 lt
 
 -- ---- arrivals, once all were read
 

@@ -6,29 +6,11 @@ ghost use Rattle.afdx_merging.specs.Inner.Merging.{HasMerged};
 ghost use Rattle.afdx_session.specs.Sources.{IsSourceFault};
 ghost use Rattle.afdx_trace_run.specs.Inner.Running.{clocks_of, source_fault, IsAmong};
 
-use afdx_merging::{Clock, MergeFault, Merging};
+use afdx_merging::{MergeFault, Merging, same_clocks};
 use afdx_session::SourceFault;
 use afdx_table::PortRow;
-use std::alloc::{AllocError, Allocator};
+use std::alloc::Allocator;
 use std::io::Read;
-
-/// Makes the clock of a capture at each of these ports: stamps are as they are.
-pub(crate) fn clocks_of<A: Allocator + Copy>(
-    alloc: A,
-    ports: &[PortRow],
-) -> Result<Vec<Clock, A>, AllocError>
-    ensures { IfOk result (λ clocks. clocks.items ≡ clocks_of ports.now) }
-{
-    let mut clocks = Vec::with_capacity(alloc, ports.len())?;
-    for _port in ports {
-        clocks.push(Clock {
-            later: 0,
-            sooner: 0,
-            delay: 0,
-        })?;
-    }
-    Ok(clocks)
-}
 
 /// Opens the captures that readers give, one of each of these ports, and reads their first records.
 pub(crate) fn opened<A: Allocator + Copy, R: Read>(
@@ -40,7 +22,7 @@ pub(crate) fn opened<A: Allocator + Copy, R: Read>(
     ensures ok { IfOk result (λ m. HasMerged R.remaining (clocks_of ports.now) readers.old readers.new m []) }
     ensures err { IfErr result (λ fault. (t : Content) → t.ports ≡ ports.now → IsSourceFault R.remaining t readers.old fault) }
 {
-    let clocks = clocks_of(alloc, ports)?;
+    let clocks = same_clocks(alloc, ports)?;
     match Merging::open(alloc, &clocks, readers) {
         Ok(merging) => Ok(merging),
         Err(fault) => Err(source_fault(ports, fault)),
