@@ -1,12 +1,12 @@
 //! A switch that tells what becomes of each arrival and of each copy, while a run goes on.
 
-ghost use Rattle.std.specs.Prelude.{◌≡◌, ◌≢◌, ℕ, ◌<◌, ◌≤◌, ◌==◌, if◌then◌else◌, ◌∷◌, [], ◌++◌, List, All, None, Some, length, map, nat_eq, slice_get, slice_index_or, position, IfSome, IfOk};
+ghost use Rattle.std.specs.Prelude.{◌≡◌, ◌≢◌, ℕ, ◌<◌, ◌≤◌, ◌==◌, if◌then◌else◌, ◌∷◌, [], ◌++◌, List, All, None, Some, length, map, nat_eq, slice_get, position, IfSome, IfOk};
 ghost use Rattle.std.specs.Prelude.{IfErr, OnOk};
 ghost use Rattle.std.specs.List.{IsDistinct};
 ghost use Rattle.afdx_units.specs.Time.{last_second};
 ghost use Rattle.afdx_units.specs.Line.{least_size, greatest_size};
 ghost use Rattle.afdx_table.specs.Content.{Content};
-ghost use Rattle.afdx_table.specs.WellFormed.{IsPort, IsLink, IsWellFormed};
+ghost use Rattle.afdx_table.specs.WellFormed.{IsLink, IsWellFormed};
 ghost use Rattle.afdx_port.specs.Content.{answers_full};
 ghost use Rattle.afdx_filter.specs.Place.{place_named};
 ghost use Rattle.afdx_core.specs.declared.step.Row.{Row as Arrived};
@@ -31,16 +31,15 @@ use crate::traced_port::TracedPort;
 use crate::tracer::{put_fate, put_frame, verdict_word};
 use afdx_account::{Account, early_by};
 use afdx_core::laws::filtered_touch_no_account;
-use afdx_core::{Row, accounts_of, police};
-use afdx_filter::judge;
+use afdx_core::{Row, accounts_of, judged, place_of, places_of, police};
 use afdx_folder::NewFile;
 use afdx_past::Gone;
 use afdx_pcap::Record;
 use afdx_port::laws::feeds_are_admitted_in_parts;
 use afdx_port::{Item, Offer};
 use afdx_table::laws::{links_are_at_their_places, links_are_found, ports_are_distinct};
-use afdx_table::{LinkRow, PortRow, Table, port_place};
-use afdx_units::{Stamp, size};
+use afdx_table::{LinkRow, Table};
+use afdx_units::Stamp;
 use arrayvec::ArrayVec;
 use std::alloc::{AllocError, Allocator};
 
@@ -74,22 +73,6 @@ pub struct Tracing<'s, A: Allocator> {
     pub(crate) rows: Gone<Row>,
     pub(crate) count: usize,
     pub(crate) lines: Lines<A>,
-}
-
-/// Returns the row of a frame that came in at a port, and the place of its link if the frame is clean.
-fn judged<A: Allocator>(table: &Table, in_port: u8, frame: &Record<'_, A>) -> (Row, Option<usize>)
-    ensures row { result.0 ≡ row_of table.now in_port frame.now }
-    ensures place { result.1 ≡ place_named table.now result.0.verdict }
-{
-    let judged = judge(table, in_port, frame);
-    let row = Row {
-        stamp: frame.stamp(),
-        size: size(frame.bytes().len() as u32),
-        verdict: judged.verdict,
-        link: judged.link,
-        in_port,
-    };
-    (row, judged.place)
 }
 
 /// Offers a frame to the account of its link, at this place. Returns the link if the frame is passed, else the nanoseconds by which it came
@@ -146,28 +129,6 @@ fn count(records: &mut [usize; 256], row: &Row) -> Result<usize, AllocError>
     };
     *records = number;
     Ok(number)
-}
-
-/// Returns the places of these ports, by their numbers. O(ports) for each number that there may be.
-fn places_of(ports: &[PortRow]) -> [Option<usize>; 25]
-    requires { All IsPort ports.now }
-    ensures { (port : ℕ) → slice_index_or result port None ≡ position (λ p. p.id == port) ports.now }
-{
-    let mut places = [None; 25];
-    for number in 0..25u8 {
-        places[number as usize] = port_place(ports, number);
-    }
-    places
-}
-
-/// Returns the place of the port with a number, if there is one. O(1).
-fn place_of(places: &[Option<usize>; 25], port: u8) -> Option<usize>
-    ensures { result ≡ slice_index_or places.now port None }
-{
-    match places.get(port as usize) {
-        Some(place) => *place,
-        None => None,
-    }
 }
 
 /// Finds the place of the port with a number among these ports, if there is one. O(1).
