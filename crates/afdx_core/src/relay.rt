@@ -1,6 +1,6 @@
 //! A switch that lets go of what has left it, and what is left of it once it is finished.
 
-ghost use Rattle.std.specs.Prelude.{◌≡◌, ◌+◌, ◌<◌, ◌≤◌, None, slice_get, true, false, All, IsTrue, IfOk, IfErr, OnOk, OnErr};
+ghost use Rattle.std.specs.Prelude.{◌≡◌, ◌+◌, ◌<◌, ◌≤◌, None, slice_get, true, false, All, IfOk, IfErr, OnOk, OnErr};
 ghost use Rattle.afdx_units.specs.Time.{last_second};
 ghost use Rattle.afdx_table.specs.Content.{port_row};
 ghost use Rattle.afdx_load.specs.Accepted.{IsAccepted};
@@ -87,14 +87,6 @@ impl<'a, A: Allocator + Copy> Relay<'a, A> {
     {
         let engine = Engine::new(alloc, cleared.into_table(), true, keeps)?;
         Ok(Relay { engine })
-    }
-
-    /// Returns whether its table was checked and accepted: whether [`Relay::cleared`] made it. O(1).
-    pub fn accepted(&self) -> bool
-        ensures accepted { result ≡ self.now.accepted }
-        ensures known { IsTrue result → IsAccepted self.now.run.table }
-    {
-        self.engine.accepted
     }
 
     /// Takes an arrival, as [`Switch::arrive`](crate::Switch::arrive) does, with its refusals and its cost.

@@ -10,7 +10,6 @@ use Rattle.afdx_core.specs.declared.step.Fate.{Fate}
 use Rattle.afdx_core.specs.declared.step.Fate.TheVariants.{Filtered, Policed, Passed}
 use Rattle.afdx_core.specs.Step.{Step}
 use Rattle.afdx_core.specs.State.{Run, sent_in, aged_in}
-use Rattle.afdx_count.specs.declared.counters.InCount.{InCount}
 use Rattle.afdx_count.specs.declared.counters.LinkCount.{LinkCount}
 use Rattle.afdx_count.specs.declared.counters.OutCount.{OutCount}
 use Rattle.afdx_count.specs.declared.ports.PortTally.{PortTally}
@@ -46,9 +45,6 @@ link_in id links = find (λ link. link.id == id) links
 abbrev pub out_of : Priority → PortTally → OutCount
 out_of High p = p.high
 out_of Low p = p.low
-
-abbrev pub input_of : ℕ → Tally → Option InCount
-input_of id t = option_map (λ p. p.input) (port_in id t.ports)
 
 abbrev pub count_of : ℕ → Tally → Option LinkCount
 count_of id t = option_map (λ l. l.count) (link_in id t.links)

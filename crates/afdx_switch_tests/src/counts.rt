@@ -2,11 +2,10 @@
 
 use crate::traffic::switch_of;
 use afdx_core::{Fate, Offers, Step};
-use afdx_count::Counts;
+use afdx_count::{Counts, PortTally};
 use afdx_port::Offer;
 use afdx_samples::{Link, Port, Sample, large, link, port, record, single, small, table};
 use afdx_table::read;
-use afdx_units::Priority;
 use std::alloc::Global;
 use std::test::*;
 
@@ -58,18 +57,23 @@ fn counts_of(alloc: Global, text: &str, arrivals: &[(u8, Sample)]) -> Result<Cou
     Ok(counts)
 }
 
+/// Returns the counters of a port, if there are some.
+fn port_of(counts: &Counts<Global>, port: u8) -> Option<&PortTally> {
+    counts.ports().iter().find(|tally| tally.id == port)
+}
+
 /// Returns what the readers give of these counters.
 fn numbers_of(counts: &Counts<Global>) -> [Option<u64>; 9] {
     [
-        counts.input(1).map(|count| count.clean),
-        counts.input(3).map(|count| count.clean),
+        port_of(counts, 1).map(|tally| tally.input.clean),
+        port_of(counts, 3).map(|tally| tally.input.clean),
         counts.link(10).map(|count| count.policed),
         counts.link(11).map(|count| count.policed),
-        counts.output(2, Priority::Low).map(|count| count.offered),
-        counts.output(2, Priority::Low).map(|count| count.full),
-        counts.output(2, Priority::Low).map(|count| count.aged),
-        counts.output(2, Priority::High).map(|count| count.sent),
-        counts.output(3, Priority::High).map(|count| count.sent),
+        port_of(counts, 2).map(|tally| tally.low.offered),
+        port_of(counts, 2).map(|tally| tally.low.full),
+        port_of(counts, 2).map(|tally| tally.low.aged),
+        port_of(counts, 2).map(|tally| tally.high.sent),
+        port_of(counts, 3).map(|tally| tally.high.sent),
     ]
 }
 
