@@ -1,24 +1,16 @@
 //! Which frames of a capture are a link's own.
 
 ghost use Rattle.std.specs.Prelude.{◌≡◌, ◌≤◌, length};
-ghost use Rattle.afdx_units.specs.Line.{size_of};
 ghost use Rattle.afdx_alone.specs.Own.{is_addressed, is_own};
 
 use crate::link::Alone;
 use afdx_frame::view;
 use afdx_pcap::Record;
-use afdx_units::{GREATEST_SIZE, LEAST_SIZE, size};
+use afdx_units::{GREATEST_SIZE, LEAST_SIZE};
 use std::alloc::Allocator;
 
 /// The constant field of every link (profile).
 const CONSTANT: [u8; 4] = [3, 0, 0, 0];
-
-/// Returns the size in bytes of a captured frame.
-pub(crate) fn frame_size<A: Allocator>(frame: &Record<'_, A>) -> u32
-    ensures { result ≡ size_of (length frame.now.bytes) }
-{
-    size(frame.bytes().len() as u32)
-}
 
 /// Returns whether the destination address is that of the link of this number.
 fn is_addressed(bytes: &[u8], id: u16) -> bool
@@ -35,7 +27,7 @@ pub(crate) fn is_own<A: Allocator>(link: &Alone, frame: &Record<'_, A>) -> bool
     ensures { result ≡ is_own link.now frame.now }
 {
     let bytes = frame.bytes();
-    let size = frame_size(frame);
+    let size = frame.size();
     frame.original() as usize <= bytes.len()
         && LEAST_SIZE <= size
         && size <= GREATEST_SIZE

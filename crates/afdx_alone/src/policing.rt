@@ -12,7 +12,7 @@ ghost use Rattle.afdx_alone.specs.Inner.Polices.{Polices, HasOffered, Leaves, Is
 
 use crate::fault::AloneFault;
 use crate::link::Alone;
-use crate::own::{frame_size, is_own};
+use crate::own::is_own;
 use afdx_account::laws::{next_joins_where_it_conforms, passed_by_their_frames};
 use afdx_account::{ByteAccount, Meter};
 use afdx_pcap::laws::{
@@ -45,7 +45,7 @@ fn passes<A: Allocator>(link: &Alone, account: &mut ByteAccount, frame: &Record<
     // A frame that is not is not passed, and the account is left alone.
     ensures others { is_own link.now frame.now ≡ false → (result ≡ false) × (account.new ≡ account.old) }
 {
-    is_own(link, frame) && account.offer(frame.stamp(), frame_size(frame))
+    is_own(link, frame) && account.offer(frame.stamp(), frame.size())
 }
 
 /// Gathers the laws of the crates below on which the policing of a capture rests.

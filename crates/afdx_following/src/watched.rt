@@ -18,7 +18,7 @@ use afdx_account::{Account, Meter};
 use afdx_levels::laws::told_is_allowed;
 use afdx_levels::{Levels, MAX_TOLERANCE, Outlook};
 use afdx_pairing::Numbered;
-use afdx_units::{Stamp, size};
+use afdx_units::Stamp;
 use std::alloc::{AllocError, Allocator};
 use std::collections::VecDeque;
 use std::marker::Model;
@@ -117,7 +117,7 @@ impl<'a, A: Allocator + Copy> Watched<'a, A> {
     pub(crate) fn fits(&self, frame: &Numbered<'a, A>) -> bool
         ensures { result ≡ nat_le ((account_terms self.now.account).price (frame_size frame.now)) (account_terms self.now.account).cap }
     {
-        let size = size(frame.bytes().len() as u32);
+        let size = frame.size();
         self.account.price(size) <= self.account.cap()
     }
 
@@ -247,7 +247,7 @@ impl<'a, A: Allocator + Copy> Watched<'a, A> {
         ensures outlook { result ≡ outlook_at self.now frame.now }
         ensures known { self.now.levels.least ≤ self.now.levels.most }
     {
-        let size = size(frame.bytes().len() as u32);
+        let size = frame.size();
         self.levels
             .outlook(&self.account, self.tolerance, frame.stamp(), size)
     }
@@ -285,7 +285,7 @@ impl<'a, A: Allocator + Copy> Watched<'a, A> {
         ensures { (n : Seen) (ns : List Seen) → self.old.undecided ≡ n ∷ ns → OnOk result (self.new ≡ with_fate n passes (record self.old { undecided = ns })) }
     {
         if let Some(frame) = self.undecided.pop_front() {
-            let size = size(frame.bytes().len() as u32);
+            let size = frame.size();
             let account = self.account;
             let tolerance = self.tolerance;
             self.levels

@@ -33,7 +33,7 @@ use afdx_port::Sent;
 use afdx_spells::Spell;
 use afdx_table::Table;
 use afdx_table::laws::ports_are_distinct;
-use afdx_units::{Stamp, size};
+use afdx_units::Stamp;
 use std::alloc::{AllocError, Allocator};
 use std::marker::Model;
 
@@ -306,7 +306,7 @@ impl<'a, A: Allocator + Copy> Measuring<'a, A> {
     {
         calls_make_runs();
         let at = arrived.stamp();
-        let size = size(arrived.bytes().len() as u32);
+        let size = arrived.size();
         match self.relay.arrive(in_port, arrived) {
             Ok(step) => {
                 note_arrival(&mut self.gauges, &self.relay, at, &step);

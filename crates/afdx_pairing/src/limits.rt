@@ -5,7 +5,7 @@ ghost use Rattle.afdx_units.specs.Line.{tick_of};
 ghost use Rattle.afdx_pairing.specs.Limits.{left_at, most_of, soonest, is_early, is_late};
 
 use crate::numbered::Numbered;
-use afdx_units::{Speed, cost, size};
+use afdx_units::{Speed, cost};
 use std::alloc::Allocator;
 
 /// The limits of one link at one output port, and of the recorders (profile). Every call is O(1) and takes no memory.
@@ -54,7 +54,7 @@ impl Limits {
     pub fn soonest<A: Allocator>(&self, came: &Numbered<'_, A>) -> u128
         ensures { result ≡ soonest self.now came.now.frame }
     {
-        let line = cost(self.speed, size(came.bytes().len() as u32));
+        let line = cost(self.speed, came.size());
         let first = u128::from(came.stamp().ns()) + u128::from(self.least) + u128::from(line);
         first.saturating_sub(u128::from(self.tolerance))
     }

@@ -1,6 +1,7 @@
 //! Records with their numbers.
 
 ghost use Rattle.std.specs.Prelude.{◌≡◌, ◌≤◌, length, IfOk};
+ghost use Rattle.afdx_units.specs.Line.{size_of};
 ghost use Rattle.afdx_pcap.specs.Record.{captured_limit};
 ghost use Rattle.afdx_pairing.specs.Events.{mark_of, numbered_of};
 
@@ -43,6 +44,13 @@ impl<'a, A: Allocator> Numbered<'a, A> {
         ensures limit { length self.now.frame.bytes ≤ captured_limit }
     {
         self.frame.bytes()
+    }
+
+    /// Returns the size in bytes that counts of its frame. O(1).
+    pub fn size(&self) -> u32
+        ensures { result ≡ size_of (length self.now.frame.bytes) }
+    {
+        self.frame.size()
     }
 
     /// Returns its number and its instant. O(1).

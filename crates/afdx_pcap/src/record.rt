@@ -1,11 +1,12 @@
 //! Records.
 
 ghost use Rattle.std.specs.Prelude.{◌≡◌, ◌<◌, ◌≤◌, length, IfOk, IfErr, IfSome, IfNone};
+ghost use Rattle.afdx_units.specs.Line.{size_of};
 ghost use Rattle.afdx_pcap.specs.Bytes.{plain_bytes};
 ghost use Rattle.afdx_pcap.specs.Record.{captured_limit, IsWithinLimit};
 
 use crate::bytes::Bytes;
-use afdx_units::Stamp;
+use afdx_units::{Stamp, size};
 use std::alloc::Allocator;
 use std::marker::Model;
 
@@ -103,5 +104,13 @@ impl<'a, A: Allocator> Record<'a, A> {
         ensures limit { IsWithinLimit self.now }
     {
         self.bytes.as_slice()
+    }
+
+    /// Returns the size in bytes that counts of the frame, by the bytes that were captured. O(1).
+    #[inline(always)]
+    pub fn size(&self) -> u32
+        ensures { result ≡ size_of (length self.now.bytes) }
+    {
+        size(self.bytes().len() as u32)
     }
 }
