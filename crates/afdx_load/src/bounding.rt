@@ -11,6 +11,13 @@ use afdx_units::Speed;
 /// The whole of a line, in the parts in which rates are given.
 pub const PARTS: u64 = 2_048_000_000;
 
+/// Returns how long so many bytes are on a line of this speed, in parts of a nanosecond.
+pub(crate) fn byte_time(speed: Speed, bytes: u32) -> u128
+    ensures { result ≡ byte_time speed bytes }
+{
+    u128::from(PARTS) * u128::from(speed.tick()) * u128::from(bytes)
+}
+
 /// Returns what may wait and be on the line at once, in parts of a nanosecond, if the links ask for so much at once.
 pub(crate) fn backlog(load: &Load, burst: u128) -> u128
     requires { burst ≤ 2 ^ 82 }

@@ -4,7 +4,7 @@ ghost use Rattle.std.specs.Prelude.{◌≡◌, nat_lt, false};
 ghost use Rattle.std.specs.Option.{option_map_or};
 ghost use Rattle.afdx_load.specs.Fits.{is_broken};
 
-use crate::bounding::{PARTS, backlog, bounds};
+use crate::bounding::{PARTS, backlog, bounds, byte_time};
 use crate::fault::Rule;
 use crate::port_load::Load;
 use afdx_table::PortRow;
@@ -28,10 +28,7 @@ pub fn breaks(row: &PortRow, load: &Load, rule: Rule) -> bool
 {
     match rule {
         Rule::Rate => load.rate() > PARTS,
-        Rule::Buffer => {
-            let room = u128::from(PARTS) * u128::from(row.speed.tick()) * u128::from(row.buffer);
-            backlog(load, load.burst()) > room
-        }
+        Rule::Buffer => backlog(load, load.burst()) > byte_time(row.speed, row.buffer),
         Rule::HighDelay => is_above(bounds(load).high, row.max_delay),
         Rule::LowDelay => is_above(bounds(load).low, row.max_delay),
     }

@@ -4,7 +4,7 @@ ghost use Rattle.std.specs.Prelude.{◌≡◌, ◌≤◌, ◌*◌, ◌^◌, Matc
 ghost use Rattle.afdx_load.specs.Inner.Slots.{AreLoads};
 ghost use Rattle.afdx_load.specs.Accepted.{past, past_bound, fault_at, first_fault, IsAccepted};
 
-use crate::bounding::{PARTS, backlog, bounds_with};
+use crate::bounding::{PARTS, backlog, bounds_with, byte_time};
 use crate::bursts::Bursts;
 use crate::cleared::Cleared;
 use crate::fault::{LoadFault, Rule};
@@ -48,7 +48,7 @@ pub fn fault_with(row: &PortRow, load: &Load, bursts: Bursts) -> Option<LoadFaul
     ensures { result ≡ fault_at row.now (record load.now { burst = bursts.all; high_burst = bursts.high }) }
 {
     let parts = u128::from(PARTS);
-    let room = parts * u128::from(row.speed.tick()) * u128::from(row.buffer);
+    let room = byte_time(row.speed, row.buffer);
     let delay = u128::from(row.max_delay);
     let bounds = bounds_with(load, bursts);
     past(row.id, Rule::Rate, parts, u128::from(load.rate()))
