@@ -15,12 +15,9 @@ use crate::group::{KnownLine, group_at};
 use crate::laws::no_more_is_paid_for;
 use afdx_load::{Bounds, Bursts, Load, Loads, PARTS, bounds_with, loads};
 use afdx_table::laws::ports_are_found;
-use afdx_table::{PortRow, Table};
+use afdx_table::{PORT_PLACES, PortRow, Table};
 use arrayvec::ArrayVec;
 use std::alloc::{AllocError, Global};
-
-/// One more than the greatest number of a port, so that each number is a place.
-pub const PLACES: usize = 25;
 
 /// The curves of a port's groups: of all links, and of the high ones.
 #[derive(Drop)]
@@ -30,7 +27,7 @@ struct Curves {
 }
 
 /// Returns the line at a port, if frames are known to come over it one after the other.
-fn line_at(roundings: &[Option<u16>; PLACES], from: &PortRow) -> Option<KnownLine>
+fn line_at(roundings: &[Option<u16>; PORT_PLACES], from: &PortRow) -> Option<KnownLine>
     requires { from.now.id < 25 }
     ensures { result ≡ line_at (rounding_in roundings.now) from.now }
 {
@@ -44,7 +41,7 @@ fn line_at(roundings: &[Option<u16>; PLACES], from: &PortRow) -> Option<KnownLin
 /// Makes the curves of the groups of a port, one for each port of the table, with latencies that differ by so many nanoseconds.
 fn group_curves(
     table: &Table,
-    roundings: &[Option<u16>; PLACES],
+    roundings: &[Option<u16>; PORT_PLACES],
     scatter: u64,
     to: &PortRow,
 ) -> Curves
@@ -73,7 +70,7 @@ fn group_curves(
 /// O(p n + p^2) for p ports and n links. It takes no memory.
 pub fn lesser_bursts(
     table: &Table,
-    roundings: &[Option<u16>; PLACES],
+    roundings: &[Option<u16>; PORT_PLACES],
     scatter: u64,
     to: &PortRow,
 ) -> Bursts
@@ -112,7 +109,7 @@ pub(crate) fn load_at(loads: &Loads<'_>, to: &PortRow) -> Load
 pub fn lesser_bounds(
     alloc: Global,
     table: &Table,
-    roundings: &[Option<u16>; PLACES],
+    roundings: &[Option<u16>; PORT_PLACES],
     scatter: u64,
 ) -> Result<Vec<Bounds>, AllocError>
     requires { scatter ≤ 100000 }

@@ -6,7 +6,7 @@
 //! From `crates/afdx_rule_tests/src/bursts.rt`:
 //!
 //! ```
-//! let mut roundings = [None; PLACES];
+//! let mut roundings = [None; PORT_PLACES];
 //! roundings[1] = first;
 //! roundings[3] = third;
 //! let row = table.port(2)?;
@@ -21,5 +21,5 @@ pub mod laws;
 mod lessening;
 mod scattering;
 
-pub use lessening::{PLACES, lesser_bounds, lesser_bursts};
+pub use lessening::{lesser_bounds, lesser_bursts};
 pub use scattering::{first_scattered_fault, scattered};

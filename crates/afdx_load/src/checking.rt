@@ -10,8 +10,7 @@ use crate::cleared::Cleared;
 use crate::fault::{LoadFault, Rule};
 use crate::loading::slots;
 use crate::port_load::Load;
-use crate::port_loads::SLOTS;
-use afdx_table::{PortRow, Table};
+use afdx_table::{PORT_PLACES, PortRow, Table};
 
 /// Returns the fault of a need, if it is past its limit.
 fn past(port: u8, rule: Rule, limit: u128, need: u128) -> Option<LoadFault>
@@ -58,7 +57,7 @@ pub fn fault_with(row: &PortRow, load: &Load, bursts: Bursts) -> Option<LoadFaul
 }
 
 /// Returns the fault of the first port that has one; none if no port has.
-fn first_fault_in(table: &Table, slots: &[Load; SLOTS]) -> Option<LoadFault>
+fn first_fault_in(table: &Table, slots: &[Load; PORT_PLACES]) -> Option<LoadFault>
     requires { AreLoads table.now.links table.now.ports slots.now }
     ensures { result ≡ first_fault table.now.latency table.now.links table.now.ports }
 {

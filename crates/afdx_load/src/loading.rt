@@ -8,8 +8,8 @@ ghost use Rattle.afdx_load.specs.Load.{Load, port_load};
 ghost use Rattle.afdx_load.specs.Inner.Slots.{are_slots, HasSpeeds, AreLoads, HaveRoom, with_routed};
 
 use crate::port_load::Load;
-use crate::port_loads::{Loads, SLOTS};
-use afdx_table::{LinkRow, PortRow, Table};
+use crate::port_loads::Loads;
+use afdx_table::{LinkRow, PORT_PLACES, PortRow, Table};
 use afdx_units::Speed;
 
 /// Returns the link at a place in file order.
@@ -23,12 +23,12 @@ fn link_at(table: &Table, index: usize) -> &LinkRow
 }
 
 /// Returns the speed of each port, in the place of its number.
-fn speeds(ports: &[PortRow]) -> [Speed; SLOTS]
+fn speeds(ports: &[PortRow]) -> [Speed; PORT_PLACES]
     requires numbers { AllByRecursion IsPort ports.now }
     requires order { Rises ports.now }
     ensures { HasSpeeds result ports.now }
 {
-    let mut speeds = [Speed::Ten; SLOTS];
+    let mut speeds = [Speed::Ten; PORT_PLACES];
     for row in ports {
         speeds[usize::from(row.id)] = row.speed;
     }
@@ -36,7 +36,7 @@ fn speeds(ports: &[PortRow]) -> [Speed; SLOTS]
 }
 
 /// Adds a link to the load of each port that it leads to.
-fn add_link(loads: &mut [Load; SLOTS], speeds: &[Speed; SLOTS], link: &LinkRow)
+fn add_link(loads: &mut [Load; PORT_PLACES], speeds: &[Speed; PORT_PLACES], link: &LinkRow)
     requires room { HaveRoom loads.old }
     requires members { are_slots link.now.to ≡ true }
     requires size { link.now.max_size ≤ greatest_size }
@@ -50,11 +50,11 @@ fn add_link(loads: &mut [Load; SLOTS], speeds: &[Speed; SLOTS], link: &LinkRow)
 }
 
 /// Returns the load of each port, in the place of its number, from one pass over the links.
-pub(crate) fn slots(table: &Table) -> [Load; SLOTS]
+pub(crate) fn slots(table: &Table) -> [Load; PORT_PLACES]
     ensures { AreLoads table.now.links table.now.ports result }
 {
     let speeds = speeds(table.ports());
-    let mut slots = [Load::none(); SLOTS];
+    let mut slots = [Load::none(); PORT_PLACES];
     for index in 0..table.link_count() {
         add_link(&mut slots, &speeds, link_at(table, index));
     }

@@ -5,11 +5,8 @@ ghost use Rattle.afdx_load.specs.Load.{port_load};
 ghost use Rattle.afdx_load.specs.Inner.Slots.{AreLoads};
 
 use crate::port_load::Load;
-use afdx_table::Table;
+use afdx_table::{PORT_PLACES, Table};
 use std::marker::Model;
-
-/// One more than the greatest number of a port, so that each number is a place.
-pub(crate) const SLOTS: usize = 25;
 
 /// The loads of all ports of a table. [`loads`](crate::loads) makes it.
 ///
@@ -18,7 +15,7 @@ pub(crate) const SLOTS: usize = 25;
 pub struct Loads<'a> {
     pub(crate) table: &'a Table,
     /// Each port's load is in the place of its number.
-    pub(crate) slots: [Load; SLOTS],
+    pub(crate) slots: [Load; PORT_PLACES],
 }
 
 impl<'a> Model for Loads<'a> {
@@ -34,7 +31,7 @@ impl<'a> Model for Loads<'a> {
 
 /// Returns the load of the port of a number, of those in their places; none if there is no such port.
 #[tactic(auto, using(crate::proofs::SlotLemmas::slot_found))]
-fn load_in(table: &Table, slots: &[Load; SLOTS], port: u8) -> Option<Load>
+fn load_in(table: &Table, slots: &[Load; PORT_PLACES], port: u8) -> Option<Load>
     requires { AreLoads table.now.links table.now.ports slots.now }
     ensures { result ≡ port_load table.now port }
 {

@@ -7,8 +7,7 @@ ghost use Rattle.afdx_network_check.specs.Net.{port_at, row_at, ingress, wire_to
 ghost use Rattle.afdx_network_check.specs.Order.{row_of, is_port, lost_port, lost_latency, leading, row_before};
 
 use crate::row::Row;
-use afdx_grouping::PLACES;
-use afdx_table::{PortRow, Table};
+use afdx_table::{PORT_PLACES, PortRow, Table};
 use afdx_wiring::{At, End, Layout, NetworkFault, Wire, is_end};
 use std::marker::Model;
 
@@ -223,11 +222,11 @@ impl Network {
 
     /// Returns to within how many nanoseconds frames come one after the other at each port of a switch, if that is known: in
     /// the place of the port's number. O(wires) for each place.
-    pub(crate) fn roundings(&self, switch: usize) -> [Option<u16>; PLACES]
+    pub(crate) fn roundings(&self, switch: usize) -> [Option<u16>; PORT_PLACES]
         ensures { (port : ℕ) → port < 25 → rounding_in result port ≡ rounding_at self.now switch port }
     {
-        let mut roundings: [Option<u16>; PLACES] = [None; PLACES];
-        for port in 0..PLACES {
+        let mut roundings: [Option<u16>; PORT_PLACES] = [None; PORT_PLACES];
+        for port in 0..PORT_PLACES {
             let end = End {
                 switch,
                 port: port as u8,

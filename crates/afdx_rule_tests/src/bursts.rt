@@ -1,9 +1,9 @@
 //! Lesser bursts, each reckoned by hand.
 
-use afdx_grouping::{PLACES, first_scattered_fault, lesser_bursts};
+use afdx_grouping::{first_scattered_fault, lesser_bursts};
 use afdx_load::{LoadFault, Rule, check};
 use afdx_samples::{FRAMED, HIGH, LOW, Link, Port, later, port, table};
-use afdx_table::{Table, read};
+use afdx_table::{PORT_PLACES, Table, read};
 use std::alloc::Global;
 use std::test::Fail;
 
@@ -46,7 +46,7 @@ fn bursts(
         return None;
     }
     // example of afdx_grouping
-    let mut roundings = [None; PLACES];
+    let mut roundings = [None; PORT_PLACES];
     roundings[1] = first;
     roundings[3] = third;
     let row = table.port(2)?;

@@ -31,5 +31,6 @@ mod top;
 mod values;
 
 pub use fault::{At, Key, TableFault};
+pub use limits::PORT_PLACES;
 pub use rows::{LinkRow, PortRow, port_place};
 pub use table::{Table, read};

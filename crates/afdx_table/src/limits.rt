@@ -12,6 +12,9 @@ pub(crate) const MAX_PORTS: usize = 24;
 /// Ports are numbered from 1 to this.
 pub(crate) const MAX_PORT_ID: u8 = 24;
 
+/// One more than the greatest number of a port, so that each number is a place.
+pub const PORT_PLACES: usize = 25;
+
 /// The most links of a table.
 pub(crate) const MAX_LINKS: usize = 4096;
 

@@ -38,7 +38,7 @@ use afdx_pcap::Record;
 use afdx_port::laws::feeds_are_admitted_in_parts;
 use afdx_port::{Item, Offer};
 use afdx_table::laws::{links_are_at_their_places, links_are_found, ports_are_distinct};
-use afdx_table::{LinkRow, Table};
+use afdx_table::{LinkRow, PORT_PLACES, Table};
 use afdx_units::Stamp;
 use arrayvec::ArrayVec;
 use std::alloc::{AllocError, Allocator};
@@ -68,7 +68,7 @@ pub struct Tracing<'s, A: Allocator> {
     /// By rising number.
     pub(crate) ports: Vec<TracedPort<A>, A>,
     /// The place of each port, by its number.
-    pub(crate) places: [Option<usize>; 25],
+    pub(crate) places: [Option<usize>; PORT_PLACES],
     /// The arrivals so far.
     pub(crate) rows: Gone<Row>,
     pub(crate) count: usize,
@@ -134,7 +134,7 @@ fn count(records: &mut [usize; 256], row: &Row) -> Result<usize, AllocError>
 /// Finds the place of the port with a number among these ports, if there is one. O(1).
 fn find_port<A: Allocator>(
     ports: &[TracedPort<A>],
-    places: &[Option<usize>; 25],
+    places: &[Option<usize>; PORT_PLACES],
     port: u8,
 ) -> Option<usize>
     requires { PlacesAre places.now ports.now }
@@ -147,7 +147,7 @@ fn find_port<A: Allocator>(
 /// Offers a copy to the port with a number, and returns its answer; `Full` if there is no such port.
 fn offer_to<A: Allocator + Copy, F: NewFile>(
     ports: &mut [TracedPort<A>],
-    places: &[Option<usize>; 25],
+    places: &[Option<usize>; PORT_PLACES],
     shown: &Shown<'_>,
     item: &Item,
     port: u8,
@@ -185,7 +185,7 @@ fn note(full: &mut Full, port: u8, answer: Offer)
 /// Offers a copy to these ports, and returns those that had no room for it.
 fn offer_all<A: Allocator + Copy, F: NewFile>(
     ports: &mut [TracedPort<A>],
-    places: &[Option<usize>; 25],
+    places: &[Option<usize>; PORT_PLACES],
     shown: &Shown<'_>,
     item: &Item,
     to: &[u8],
