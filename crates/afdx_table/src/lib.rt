@@ -30,6 +30,7 @@ mod table;
 mod top;
 mod values;
 
+pub use arrays::tables_of;
 pub use fault::{At, Key, TableFault};
 pub use limits::PORT_PLACES;
 pub use rows::{LinkRow, PortRow, port_place};

@@ -1,15 +1,11 @@
--- Lists that a loop reads member by member, and the keys of a table.
-use Rattle.std.proofs.Common.{◌≡◌, ◌&&◌, List, [], ◌∷◌, ◌++◌, Option, option_map, String, Global, string_bytes, refl, ap}
+-- The keys of a table.
+use Rattle.std.proofs.Common.{◌≡◌, ◌&&◌, List, [], ◌∷◌, String, Global, string_bytes, refl, ap}
 use Rattle.std.specs.List.{list_all}
 use Rattle.std.specs.Map.{keys_of}
 use Rattle.toml.specs.View.{members_view}
 use Rattle.toml.specs.declared.value.Value.{Value}
 use Rattle.afdx_wiring.specs.declared.fault.Key.{Key}
 use Rattle.afdx_wiring.specs.Fields.{are_known, is_one_of}
-
--- what was found, and what is still to come
-abbrev pub with_prefix : {A : Type 0} → List A → Option (List A) → Option (List A)
-with_prefix prefix rest = option_map (λ xs. prefix ++ xs) rest
 
 -- the keys of a map are those of its members
 pub are_known-keys : (ks : List Key) (es : List (String Global × Value)) → list_all (λ (s : String Global). is_one_of ks (string_bytes s)) (keys_of es) ≡ are_known ks (members_view es)

@@ -10,8 +10,8 @@ ghost use Rattle.afdx_wiring.specs.Names.{key_text};
 ghost use Rattle.afdx_wiring.specs.Refusal.{Gives};
 ghost use Rattle.afdx_wiring.specs.Fields.{is_one_of, are_known, known_at, number_in, optional_number_at, flag_at, text_at, tables_at};
 
-use crate::arrays::tables_of;
 use crate::fault::{At, Key, NetworkFault};
+use afdx_table::tables_of;
 use std::alloc::Global;
 use toml::{Table, Value};
 

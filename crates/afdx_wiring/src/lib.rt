@@ -16,7 +16,6 @@
 //! ```
 #![tactic(auto)]
 
-mod arrays;
 mod fault;
 mod fields;
 pub mod laws;
