@@ -16,7 +16,7 @@ use afdx_wiring::{At, Key, NetworkFault, Short};
 use std::alloc::{AllocError, Global};
 
 /// The most rows that have a line each.
-const MOST_ROWS: usize = 100;
+const MOST_ROW_LINES: usize = 100;
 
 /// Appends the switch of this name, if there is one.
 fn put_switch(text: &mut String, name: Option<&str>) -> Result<(), AllocError>
@@ -247,10 +247,10 @@ fn rows_lines(
 ) -> Result<String, AllocError>
     ensures { IfOk result (λ lines. string_bytes lines ≡ rows_lines rule (map string_bytes names.now) shorts.now) }
 {
-    let (first, _) = shorts.split_at(MOST_ROWS.min(shorts.len()));
+    let (first, _) = shorts.split_at(MOST_ROW_LINES.min(shorts.len()));
     let mut lines = String::new(alloc);
     push_rows(&mut lines, alloc, rule, names, first)?;
-    push_rest(&mut lines, rule, shorts.len().saturating_sub(MOST_ROWS))?;
+    push_rest(&mut lines, rule, shorts.len().saturating_sub(MOST_ROW_LINES))?;
     Ok(lines)
 }
 
