@@ -25,7 +25,7 @@ EarlyIsLeast = (t : Terms) (passed : List Frame) (f : Frame) → 0 < t.rate → 
     → NoneLater passed f.stamp
     → (ns : ℕ) → Conforms t passed (later_by ns f) ↔ (early_by t passed f ≤ ns)
 
--- it is the time in which what the level lacks is credited
+-- how early a frame came is the time in which what the level lacks is credited
 abbrev pub EarlyByTheLevel : Type 0
 EarlyByTheLevel = (t : Terms) (frames : List Frame) (f : Frame) → 0 < t.rate → NoneLater frames f.stamp
     → early_by t (passed_frames t frames) f ≡ credit_time t (t.price f.size - headroom t (passed_frames t frames) f.stamp)

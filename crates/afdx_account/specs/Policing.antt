@@ -51,7 +51,7 @@ abbrev pub terms_by : Police → ℕ → Bag → ℕ → Terms
 terms_by Byte max_size bag jitter = byte_terms max_size bag jitter
 terms_by ByFrames max_size bag jitter = frame_terms bag jitter
 
--- and what a unit of them is worth
+-- what a unit of these terms is worth on a line of this speed, in parts of a ns, by the kind of the policing
 abbrev pub weight_by : Police → ℕ → Bag → Speed → ℕ
 weight_by Byte max_size bag speed = byte_weight bag speed
 weight_by ByFrames max_size bag speed = frame_weight max_size bag speed
@@ -72,22 +72,22 @@ Conforms t passed f = (before : List Frame) (first : Frame) (after : List Frame)
     → passed ++ f ∷ [] ≡ before ++ first ∷ after
     → paid t (first ∷ after) ≤ allowance t (f.stamp - first.stamp)
 
--- the same as a test
+-- a test of whether a frame conforms to the frames passed before it
 abbrev pub conforms : Terms → List Frame → Frame → Bool
 conforms t [] f = nat_le (t.price f.size) (allowance t 0)
 conforms t (g ∷ gs) f = nat_le (paid t (g ∷ gs) + t.price f.size) (allowance t (f.stamp - g.stamp)) && conforms t gs f
 
--- profile: those of a list, taken in order, whose frames conform to the frames passed before them; some were passed already
+-- profile: the elements of a list, taken in order, whose frames conform to the frames passed before them; some were passed already
 abbrev pub passed_after : {A : Type 0} → (A → Frame) → Terms → List Frame → List A → List A
 passed_after frame_of t passed [] = []
 passed_after frame_of t passed (x ∷ xs) =
     let joins = conforms t passed (frame_of x) in
     (if joins then x ∷ [] else []) ++ passed_after frame_of t (if joins then passed ++ frame_of x ∷ [] else passed) xs
 
--- those of a list, in order, whose frames are passed
+-- the elements of a list whose frames are passed, in order
 abbrev pub passed_of : {A : Type 0} → (A → Frame) → Terms → List A → List A
 passed_of frame_of t xs = passed_after frame_of t [] xs
 
--- the frames that are passed
+-- the frames of a list that are passed, in order
 abbrev pub passed_frames : Terms → List Frame → List Frame
 passed_frames t frames = passed_of (λ f. f) t frames

@@ -9,10 +9,11 @@ use Rattle.afdx_filter.specs.Frame.{frame_of}
 use Rattle.afdx_alone.specs.declared.link.Alone.{Alone}
 use Rattle.afdx_alone.specs.Own.{is_own}
 
+-- the terms of the link's account, which is kept by bytes
 abbrev pub account_terms : Alone → Terms
 account_terms link = byte_terms link.max_size link.bag link.jitter
 
--- those of a capture's frames that are the link's own and that its account passes
+-- the frames of a capture that are the link's own and that its account passes
 abbrev pub passed_of_link : Alone → List Record → List Record
 passed_of_link link rs = passed_of frame_of (account_terms link) (filter (is_own link) rs)
 
@@ -20,6 +21,6 @@ passed_of_link link rs = passed_of frame_of (account_terms link) (filter (is_own
 abbrev pub IsAnswer : Alone → List ℕ → List ℕ → Type 0
 IsAnswer link input answer = (rs : List Record) × IsCapture input rs × (answer ≡ capture_text (passed_of_link link rs))
 
--- the same of all that a reader gives
+-- the answer to all that a reader gives, if that is a capture
 abbrev pub IsAnswerTo : Option (List ℕ) → Alone → List ℕ → Type 0
 IsAnswerTo input link answer = (bytes : List ℕ) × AreGiven input bytes × IsAnswer link bytes answer

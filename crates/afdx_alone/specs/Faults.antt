@@ -9,6 +9,7 @@ use Rattle.afdx_alone.specs.declared.fault.AloneFault.TheVariants.{Memory, Captu
 use Rattle.afdx_alone.specs.declared.fault.ReadFault.{ReadFault}
 use Rattle.afdx_alone.specs.declared.fault.ReadFault.TheVariants.{Device, Alone}
 
+-- the fault that a capture's fault is reported as
 abbrev pub fault_of : PcapFault → AloneFault
 fault_of pcap.Memory = Memory
 fault_of fault = Capture fault
@@ -18,7 +19,7 @@ abbrev pub IsFaultOf : List ℕ → AloneFault → Type 0
 IsFaultOf input Memory = ⊤
 IsFaultOf input (Capture fault) = IsFault input fault
 
--- the same of all that a reader gives, which may fail besides
+-- the first thing that is wrong with what a reader gives; or memory ran out, or the reader failed
 abbrev pub IsReadFault : Option (List ℕ) → ReadFault → Type 0
 IsReadFault input Device = ⊤
 IsReadFault input (Alone Memory) = ⊤

@@ -13,6 +13,7 @@ number_rule name = record (new_rule name) { long = Some name; value_names = 1; r
 abbrev pub path_rule : Text → Rule
 path_rule name = record (new_rule name) { required = true }
 
+-- an option without a value, which is set if it is there
 abbrev pub flag_rule : Text → Rule
 flag_rule name = record (new_rule name) { long = Some name; action = Some SetTrue }
 
@@ -93,6 +94,7 @@ network_app = new_app (codes "network")
 abbrev pub bare_program : App
 bare_program = with_rule (on_top (λ s. record s { subcommand_required = true; has_version = true }) (new_app (codes "afdx"))) (flag_rule (codes "explain"))
 
+-- afdx COMMAND: all commands but those of networks, which are there by their name alone
 unfoldable pub program : App
 program =
     with_subcommand
@@ -134,15 +136,18 @@ network_inputs_app name =
 abbrev pub bare_network : App
 bare_network = on_top (λ s. record s { subcommand_required = true }) (new_app (codes "network"))
 
--- with check and size, then with jitter and run, then with measure and survey
+-- afdx network check and size
 abbrev pub network_checks : App
 network_checks = with_subcommand (with_subcommand bare_network (network_path_app (codes "check")).top) (network_path_app (codes "size")).top
 
+-- afdx network check, size, jitter and run
 abbrev pub network_runs : App
 network_runs = with_subcommand (with_subcommand network_checks (network_path_app (codes "jitter")).top) network_run_app.top
 
+-- afdx network check, size, jitter, run, measure and survey
 abbrev pub network_answers : App
 network_answers = with_subcommand (with_subcommand network_runs (network_inputs_app (codes "measure")).top) (network_inputs_app (codes "survey")).top
 
+-- all commands of afdx network
 unfoldable pub network_program : App
 network_program = with_subcommand network_answers (network_paths_app (codes "trace")).top

@@ -13,7 +13,7 @@ HasEntry rows entry = (code : Text) × (first_of (codes "CODE") rows ≡ Some co
 abbrev pub is_flag_at : ℕ → List Text → Bool
 is_flag_at place arguments = option_map_or (λ w. bytes_eq w (codes "--explain")) (slice_get arguments place) false
 
--- the first one after the program's name is
+-- the flag is the first argument after the program's name
 abbrev pub is_explained : List Text → Bool
 is_explained arguments = is_flag_at 1 arguments
 

@@ -44,11 +44,12 @@ HasNumber name rows n = (t : Text) × (one_of name rows ≡ Some t) × ParsesUns
 abbrev pub is_set : Text → List Row → Bool
 is_set name rows = option_map_or (λ t. bytes_eq t (codes "true")) (first_of name rows) false
 
--- the form of what is written: lines, unless the flag is set
+-- the form of what is written: lines, or comma-separated values if the flag is set
 abbrev pub form_by : Bool → Form
 form_by false = Lines
 form_by true = Csv
 
+-- the form that the entries of --csv ask for
 abbrev pub form_in : List Row → Form
 form_in rows = form_by (is_set (codes "csv") rows)
 
@@ -73,7 +74,7 @@ pub record HasPaths (rows : List Row) (paths : Paths) : Type 0 where
   pub has_output : paths.output.now ≢ []
   pub unchecked : paths.unchecked ≡ is_set (codes "unchecked") rows
 
--- the same of a run of which nothing is put
+-- the entries name the files of a run of which nothing is put, and whether it is unchecked
 pub record HasInputs (rows : List Row) (inputs : Inputs) : Type 0 where
   pub table : first_of (codes "TABLE") rows ≡ Some inputs.table.now
   pub input : first_of (codes "IN") rows ≡ Some inputs.input.now
@@ -101,30 +102,30 @@ pub record HasTraceOptions (rows : List Row) (options : TraceOptions) : Type 0 w
 abbrev pub HasOptional : Text → List Row → Option ℕ → Type 0
 HasOptional name rows n = MatchOption n ((m : ℕ) → HasNumber name rows m → ⊥) (HasNumber name rows)
 
--- the number of such an option, of which this is the greatest; 0 if it is left out
+-- the number of an option that may be left out, of which this is the greatest; 0 if it is left out
 pub record HasUpTo (name : Text) (most : ℕ) (rows : List Row) (n : ℕ) : Type 0 where
   pub entry : Option ℕ
   pub has_entry : HasOptional name rows entry
   pub is : n ≡ unwrap_or entry 0
   pub limit : n ≤ most
 
--- the instant of such an option, if it is there
+-- the instant of an option that may be left out, if it is there
 pub record HasInstant (name : Text) (rows : List Row) (instant : Option ℕ) : Type 0 where
   pub entry : HasOptional name rows instant
   pub limit : IfSome instant IsInstant
 
--- the ends of last bits if nothing is said of stamps
+-- what stamps are: the ends of last bits if nothing is said of them
 abbrev pub ChoosesStamps : Option Text → Stamps → Type 0
 ChoosesStamps None stamps = stamps ≡ End
 ChoosesStamps (Some text) End = text ≡ codes "end"
 ChoosesStamps (Some text) Free = text ≡ codes "free"
 
--- no offset if nothing is said of them
+-- what is added to stamps: nothing if no offset is said
 abbrev pub ChoosesOffsets : Option Text → Offsets → Type 0
 ChoosesOffsets None offsets = offsets ≡ no_offsets
 ChoosesOffsets (Some text) offsets = AreOffsetsOf text offsets
 
--- all ports if none is named
+-- which output ports were recorded: all if none is named
 abbrev pub ChoosesOutputs : Option Text → Outputs → Type 0
 ChoosesOutputs None outputs = outputs ≡ all_outputs
 ChoosesOutputs (Some text) outputs = AreOutputsOf text outputs
@@ -202,11 +203,12 @@ AsksFor (Some (name, rows)) (request.Network r) = ⊥
 abbrev pub is_network : List Text → Bool
 is_network arguments = option_map_or (λ w. bytes_eq w (codes "network")) (slice_get arguments 1) false
 
--- what `clap` says against arguments
+-- what `clap` says against the arguments of a network's command (true), or of another
 abbrev pub fault_in : Bool → List Text → Kinds
 fault_in true arguments = fault_of network_program (drop 1 arguments)
 fault_in false arguments = fault_of program arguments
 
+-- what `clap` says against arguments
 abbrev pub faults_of : List Text → Kinds
 faults_of arguments = fault_in (is_network arguments) arguments
 
@@ -249,11 +251,11 @@ Reads arguments (Err Memory) = Unit {0}
 
 -- ---- what one program makes of arguments
 
--- `clap` gives matches of them, with this subcommand and its entries
+-- `clap` gives matches of the arguments, with this subcommand and its entries
 abbrev pub HasMatches : App → List Text → Option (Text × List Row) → Type 0
 HasMatches app arguments sub = (fault_of app arguments ≡ []) × (sub ≡ subcommand_of app arguments)
 
--- or none, for a fault of one of these kinds
+-- `clap` gives no matches of the arguments, for a fault of one of these kinds
 abbrev pub HasNoMatches : Kinds → NoRequest → Type 0
 HasNoMatches kinds (Help text) = (kind : ErrorKind) × IsAmong kind kinds × IsShown kind
 HasNoMatches kinds Usage = (kind : ErrorKind) × IsAmong kind kinds × (IsShown kind → ⊥)

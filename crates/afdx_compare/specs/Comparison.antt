@@ -35,12 +35,15 @@ pub record Port : Type 0 where
   pub foreign : ℕ
   pub rows : List Mark
 
+-- a port at which nothing was recorded yet
 abbrev pub no_records : Port
 no_records = record { seen = 0; foreign = 0; rows = [] }
 
+-- a port after one more record that counts
 abbrev pub with_seen : Port → Port
 with_seen p = record p { seen = up p.seen }
 
+-- a port after one more record that is of no link that leads there, which is noted if such are kept
 abbrev pub with_foreign : Bool → Mark → Port → Port
 with_foreign keeps mark p = record p { foreign = up p.foreign; rows = p.rows ++ (if keeps then mark ∷ [] else []) }
 
@@ -54,10 +57,11 @@ pub record Comparison : Type 0 where
 
 -- ---- at first
 
--- what is known of the recorders and of the switch, if the recordings begin with it at rest, or else at an instant
+-- what is known of the switch where the recordings begin: it was at rest, or they begin at an instant in its course
 abbrev pub start_of : Bool → ℕ → Start
 start_of rest from = if rest then Rest else Cut from
 
+-- what is known of the recorders and of the switch, if the recordings begin at this instant; times in ns
 abbrev pub watch_of : Content → Recordings → ℕ → Watch
 watch_of t r from = record {
   least = r.least;
@@ -72,12 +76,12 @@ watch_of t r from = record {
 abbrev pub bound_in : ℕ → Content → PortRow → Priority → ℕ
 bound_in scatter t p priority = min (option_map_or (λ b. b) (bound_of (scattered scatter (load_of t.latency p.speed p.id t.links)) priority) 0) 18446744073709551615
 
--- a port of a link of this priority, at which nothing has left
+-- a port to which a link of this priority leads, before anything has left there; none if the table has no such port
 abbrev pub output_first : Watch → Content → Bool → Priority → ℕ → Option PortRow → List Output
 output_first w t keeps priority port None = []
 output_first w t keeps priority port (Some row) = output_at port (limits_of w (bound_in w.scatter t row priority) row.speed) keeps ∷ []
 
--- of these ports those that were recorded
+-- the ports to which a link leads and that were recorded, in the link's order, before anything has left there
 abbrev pub outputs_first : Watch → Content → Outputs → Bool → Priority → List ℕ → List Output
 outputs_first w t recorded keeps priority [] = []
 outputs_first w t recorded keeps priority (port ∷ ports) =
@@ -89,7 +93,7 @@ pub record IsFirstOf (w : Watch) (t : Content) (recorded : Outputs) (keeps : Boo
   pub terms : account_terms account ≡ terms_of l
   pub first : f ≡ at_first account w.tolerance (unknown_since w) (outputs_first w t recorded keeps l.priority l.to)
 
--- one for each link
+-- nothing came of any link of the table, and nothing left: the links are in the table's order
 abbrev pub AreFirstOf : Watch → Content → Outputs → Bool → List Link → List Watched → Type 0
 AreFirstOf w t recorded keeps [] [] = Unit {0}
 AreFirstOf w t recorded keeps [] (f ∷ fs) = ⊥
@@ -110,10 +114,12 @@ pub record IsBegun (t : Content) (r : Recordings) (from : ℕ) (keeping : Bool) 
 abbrev pub place_of_own : Content → ℕ → Record → Option ℕ
 place_of_own t port r = place_named t (verdict_of t port r)
 
+-- a comparison after a frame came that is a link's own, or no link's
 abbrev pub own_came : Option ℕ → Numbered → Comparison → Comparison
 own_came None n c = c
 own_came (Some place) n c = record c { links = changed_at place (with_own n) c.links }
 
+-- a comparison after a frame came at the port of a number: it is handed to its link, if it counts
 abbrev pub with_came : ℕ → Numbered → Comparison → Comparison
 with_came port n c = if has_frame c.watch n.frame.stamp then own_came (place_of_own c.table port n.frame) n c else c
 
@@ -123,27 +129,32 @@ with_came port n c = if has_frame c.watch n.frame.stamp then own_came (place_of_
 abbrev pub place_of_named : Content → List ℕ → Option ℕ
 place_of_named t bytes = if nat_le 6 (length bytes) then link_place t (link_of bytes) else None
 
--- the link at a place leads to the port, which is at this place among its ports that were recorded
+-- the link at a place with the place of the port among those of the link's ports that were recorded
 abbrev pub led_to : ℕ → Option ℕ → Option (ℕ × ℕ)
 led_to link None = None
 led_to link (Some place) = Some (link, place)
 
+-- the two places of a link and of the port of this number; none if the link does not lead there
 abbrev pub output_among : ℕ → ℕ → Option Watched → Option (ℕ × ℕ)
 output_among port link None = None
 output_among port link (Some f) = led_to link (position (λ o. o.port == port) f.outputs)
 
--- the place of the link that a record at the port of a number is of, and the port's place there; none if it is of no link that leads to the port
+-- the place of the link that a record at the port of a number is of, and the port's place there; none if it is of no link that leads to the
+-- port
 abbrev pub link_among : ℕ → List Watched → Option ℕ → Option (ℕ × ℕ)
 link_among port links None = None
 link_among port links (Some link) = output_among port link (slice_get links link)
 
+-- the two places of a record that left at the port of a number, by its bytes
 abbrev pub link_at : ℕ → List ℕ → Comparison → Option (ℕ × ℕ)
 link_at port bytes c = link_among port c.links (place_of_named c.table bytes)
 
+-- a comparison after a record left at the port at a place: it is handed to its link, or else counted as foreign
 abbrev pub record_left : ℕ → Option (ℕ × ℕ) → Numbered → Comparison → Comparison
 record_left place None n c = record c { ports = changed_at place (with_foreign c.keeps (mark_of n)) c.ports }
 record_left place (Some (link, output)) n c = record c { links = changed_at link (with_record output n) c.links }
 
+-- a comparison after a record left at a capture's port, if it counts
 abbrev pub with_left : Source → Numbered → Comparison → Comparison
 with_left s n c =
     if has_record c.watch n.frame.stamp
@@ -152,9 +163,11 @@ with_left s n c =
 
 -- ---- the end
 
+-- a comparison whose recordings' end is known by now
 abbrev pub with_until : ℕ → Comparison → Comparison
 with_until at c = record c { watch = record c.watch { until = Some at } }
 
+-- a comparison after the end of the recordings: each link tells what became of the frames that still wait
 abbrev pub with_end : Comparison → Comparison
 with_end c = record c { links = map (with_ends (last_record c.watch)) c.links }
 

@@ -14,11 +14,13 @@ use Rattle.afdx_compare.specs.declared.row.Row.{Row}
 use Rattle.afdx_compare.specs.Comparison.{Port, Comparison}
 use Rattle.afdx_compare.specs.Rows.{rows_at}
 
+-- the first line: the names of the columns
 abbrev pub heading : List ℕ
 heading = codes "port,link,kind,record_in,stamp_in,record_out,stamp_out,delay,bound\n"
 
 -- ---- columns
 
+-- the word for what speaks against the switch
 abbrev pub kind_text : Kind → List ℕ
 kind_text Missing = codes "missing"
 kind_text Extra = codes "extra"
@@ -63,15 +65,16 @@ bound_columns r = column (optional r.delay) ++ column (optional r.bound) ++ code
 abbrev pub row_line : ℤ → ℕ → Row → List ℕ
 row_line offset port r = kind_columns port r ++ mark_columns r.came ++ mark_columns (option_map (without offset) r.left) ++ bound_columns r
 
+-- the rows of a port, in the order in which they were found
 abbrev pub port_rows : Offsets → Comparison → PortRow → Port → List ℕ
 port_rows offsets c row p = flat_map (row_line (offset_at offsets row.id) row.id) (rows_at row.id c p)
 
--- those of the port at a place of the table
+-- the rows of the port at a place of the table
 abbrev pub place_rows : Offsets → Comparison → Option PortRow → Port → List ℕ
 place_rows offsets c None p = []
 place_rows offsets c (Some row) p = port_rows offsets c row p
 
--- those of ports that are in the table from this place on
+-- the rows of ports that are in the table from this place on
 abbrev pub all_rows : Offsets → Comparison → ℕ → List Port → List ℕ
 all_rows offsets c place [] = []
 all_rows offsets c place (p ∷ ps) = place_rows offsets c (slice_get c.table.ports place) p ++ all_rows offsets c (place + 1) ps

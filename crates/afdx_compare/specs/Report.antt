@@ -24,6 +24,7 @@ output_line link unsure o =
     ∷ (codes " before ", Some t.before) ∷ (codes " after ", Some t.after) ∷ (codes " unsure ", Some unsure)
     ∷ (codes " least ", option_map (λ r. r.least) t.delays) ∷ (codes " greatest ", option_map (λ r. r.greatest) t.delays) ∷ (codes " bound ", Some o.limits.bound) ∷ [])
 
+-- what is reported of a link at a port, in either form
 abbrev pub output_text : Form → ℕ → ℕ → Output → List ℕ
 output_text Lines = output_line
 output_text Csv = output_row
@@ -32,12 +33,12 @@ output_text Csv = output_row
 abbrev pub link_text : Form → ℕ → Watched → List ℕ
 link_text form link f = flat_map (output_text form link f.unsure) f.outputs
 
--- that of the link at a place of the table
+-- the text of the link at a place of the table
 abbrev pub row_text : Form → Option Link → Watched → List ℕ
 row_text form None f = []
 row_text form (Some l) f = link_text form l.id f
 
--- those of links that are in the table from this place on
+-- the texts of links that are in the table from this place on
 abbrev pub links_from : Form → List Link → ℕ → List Watched → List ℕ
 links_from form ls place [] = []
 links_from form ls place (f ∷ fs) = row_text form (slice_get ls place) f ++ links_from form ls (place + 1) fs
@@ -46,13 +47,16 @@ links_from form ls place (f ∷ fs) = row_text form (slice_get ls place) f ++ li
 abbrev pub port_line : PortRow → Port → List ℕ
 port_line row p = line ((codes "out ", Some row.id) ∷ (codes " seen ", Some p.seen) ∷ (codes " foreign ", Some p.foreign) ∷ [])
 
+-- what is reported of an output port, in either form
 abbrev pub port_text : Form → PortRow → Port → List ℕ
 port_text Lines = port_line
 port_text Csv = port_row
 
+-- what is reported of a port: nothing, unless what left there was recorded
 abbrev pub recorded_text : Form → Outputs → PortRow → Port → List ℕ
 recorded_text form recorded row p = if is_recorded recorded row.id then port_text form row p else []
 
+-- what is reported of the port in this row of the table, if there is one
 abbrev pub port_row_text : Form → Outputs → Option PortRow → Port → List ℕ
 port_row_text form recorded None p = []
 port_row_text form recorded (Some row) p = recorded_text form recorded row p
@@ -66,13 +70,16 @@ ports_from form recorded rows place (p ∷ ps) = port_row_text form recorded (sl
 abbrev pub span_line : ℕ → ℕ → List ℕ
 span_line from until = line ((codes "span ", Some from) ∷ (codes " to ", Some until) ∷ [])
 
+-- the span in either form: as values it comes after the heading
 abbrev pub span_text : Form → ℕ → ℕ → List ℕ
 span_text Lines from until = span_line from until
 span_text Csv from until = report_heading ++ span_row from until
 
+-- the line of the verdict: conforms, or differs
 abbrev pub verdict_line : Bool → List ℕ
 verdict_line conforms = verdict_word conforms ++ codes "\n"
 
+-- the verdict in either form
 abbrev pub verdict_text : Form → Bool → List ℕ
 verdict_text Lines = verdict_line
 verdict_text Csv = verdict_row

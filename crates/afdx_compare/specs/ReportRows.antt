@@ -9,11 +9,13 @@ use Rattle.afdx_csv.specs.Csv.{optional, heading, row}
 use Rattle.afdx_csv.specs.Slack.{slack_text, share_text}
 use Rattle.afdx_compare.specs.Comparison.{Port}
 
+-- the columns of all kinds of rows: what a row does not say is left empty
 abbrev pub report_columns : List (List ℕ)
 report_columns = codes "kind" ∷ codes "link" ∷ codes "port" ∷ codes "passed" ∷ codes "seen" ∷ codes "missing" ∷ codes "extra" ∷ codes "early" ∷ codes "late"
     ∷ codes "before" ∷ codes "after" ∷ codes "unsure" ∷ codes "least" ∷ codes "greatest" ∷ codes "bound" ∷ codes "slack" ∷ codes "slack_per_mille"
     ∷ codes "foreign" ∷ codes "from" ∷ codes "until" ∷ codes "verdict" ∷ []
 
+-- the first line, with their names
 abbrev pub report_heading : List ℕ
 report_heading = heading report_columns
 
@@ -35,6 +37,7 @@ tally_row link port unsure bound t =
     ∷ (codes "least", optional (option_map (λ r. r.least) t.delays)) ∷ (codes "greatest", optional (option_map (λ r. r.greatest) t.delays))
     ∷ (codes "bound", decimal bound) ∷ (codes "slack", slack_text (greatest_of t) (Some bound)) ∷ (codes "slack_per_mille", share_text (greatest_of t) (Some bound)) ∷ [])
 
+-- the row of a link at a port, of what was found out there
 abbrev pub output_row : ℕ → ℕ → Output → List ℕ
 output_row link unsure o = tally_row link o.port unsure o.limits.bound o.found.tally
 
@@ -43,8 +46,10 @@ abbrev pub port_row : PortRow → Port → List ℕ
 port_row p seen = row report_columns ((codes "kind", codes "out") ∷ (codes "port", decimal p.id) ∷ (codes "seen", decimal seen.seen)
     ∷ (codes "foreign", decimal seen.foreign) ∷ [])
 
+-- the word for whether nothing speaks against the switch
 abbrev pub verdict_word : Bool → List ℕ
 verdict_word conforms = if conforms then codes "conforms" else codes "differs"
 
+-- the row of the verdict, which is the last
 abbrev pub verdict_row : Bool → List ℕ
 verdict_row conforms = row report_columns ((codes "kind", codes "verdict") ∷ (codes "verdict", verdict_word conforms) ∷ [])

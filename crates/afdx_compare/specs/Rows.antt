@@ -34,24 +34,24 @@ foreign_row left = record { link = None; kind = kind.Foreign; came = None; left 
 
 -- ---- the rows of a port
 
--- those of what was found of a link
+-- the rows of what was found of a link
 abbrev pub event_rows : ℕ → ℕ → List Event → List Row
 event_rows link bound events = flat_map (λ e. option_to_list (row_of link bound e)) events
 
--- those of a link at an output port, if it is the one of this number
+-- the rows of a link at an output port, if it is the one of this number
 abbrev pub output_rows : ℕ → ℕ → Output → List Row
 output_rows port link o = if o.port == port then event_rows link o.limits.bound o.found.differences else []
 
--- those of a link at the port of a number, which is among its own if it was recorded and the link leads there
+-- the rows of a link at the port of a number, which is among its own if it was recorded and the link leads there
 abbrev pub link_rows : ℕ → ℕ → Watched → List Row
 link_rows port link f = flat_map (output_rows port link) f.outputs
 
--- those of the link at a place of the table
+-- the rows of the link at a place of the table
 abbrev pub row_rows : ℕ → Option Link → Watched → List Row
 row_rows port None f = []
 row_rows port (Some l) f = link_rows port l.id f
 
--- those of links that are in the table from this place on
+-- the rows of links that are in the table from this place on
 abbrev pub links_rows : ℕ → List Link → ℕ → List Watched → List Row
 links_rows port ls place [] = []
 links_rows port ls place (f ∷ fs) = row_rows port (slice_get ls place) f ++ links_rows port ls (place + 1) fs

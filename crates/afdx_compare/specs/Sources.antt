@@ -25,11 +25,12 @@ pub record Sources : Type 0 where
 abbrev pub input_clock : Clock
 input_clock = record { later = 0; sooner = 0; delay = 0 }
 
--- by how much an offset makes stamps later, or sooner
+-- by how many ns an offset makes stamps later
 abbrev pub later_by : ℤ → ℕ
 later_by (pos ns) = ns
 later_by (negsuc ns) = 0
 
+-- by how many ns an offset makes stamps sooner
 abbrev pub sooner_by : ℤ → ℕ
 sooner_by (pos ns) = 0
 sooner_by (negsuc ns) = ns + 1
@@ -44,25 +45,30 @@ output_clock r p = record {
 
 -- ---- captures
 
+-- the capture of the port at a place: of what left there (true), or of what came
 abbrev pub source_of : ℕ → Bool → PortRow → Source
 source_of place leaves p = record { port = p.id; place = place; leaves = leaves }
 
--- those of ports that are in the table from this place on
+-- the captures of what came at ports, which are in the table from this place on
 abbrev pub inputs_from : ℕ → List PortRow → List Source
 inputs_from place [] = []
 inputs_from place (p ∷ ps) = source_of place false p ∷ inputs_from (place + 1) ps
 
+-- the captures of what left at those of them that were recorded
 abbrev pub outputs_from : Outputs → ℕ → List PortRow → List Source
 outputs_from recorded place [] = []
 outputs_from recorded place (p ∷ ps) = (if is_recorded recorded p.id then source_of place true p ∷ [] else []) ++ outputs_from recorded (place + 1) ps
 
+-- the clocks of these captures, in the same order
 abbrev pub output_clocks : Recordings → List PortRow → List Clock
 output_clocks r [] = []
 output_clocks r (p ∷ ps) = (if is_recorded r.outputs p.id then output_clock r p ∷ [] else []) ++ output_clocks r ps
 
+-- all captures of what came, for a run of our own switch
 abbrev pub inputs_of : Content → Sources
 inputs_of t = record { captures = inputs_from 0 t.ports; clocks = map (λ p. input_clock) t.ports }
 
+-- all captures that are compared: of what came at each port, and then of what left at each that was recorded
 abbrev pub sources_of : Content → Recordings → Sources
 sources_of t r = record {
   captures = inputs_from 0 t.ports ++ outputs_from r.outputs 0 t.ports;

@@ -22,11 +22,12 @@ use Rattle.afdx_core.specs.Merge.{Capture}
 use Rattle.afdx_session.specs.Headline.{own_records, records_for}
 use Rattle.afdx_grouping.specs.Scatter.{scattered}
 
--- what is known of a link's account at the instant from which on its frames count
+-- what is known of an account from which on its frames count: at rest it was full, else nothing is known at an instant
 abbrev pub levels_since : Terms → ℕ → Option ℕ → Levels
 levels_since terms tolerance None = at_rest terms tolerance
 levels_since terms tolerance (Some since) = unknown terms tolerance since
 
+-- what is known of a link's account from which on its frames count
 abbrev pub levels_of : Watch → Link → Levels
 levels_of w l = levels_since (terms_of l) w.tolerance (unknown_since w)
 

@@ -27,12 +27,13 @@ pub record IsExact (w : Watch) : Type 0 where
   pub rest : w.start ≡ Rest
   pub exact : w.tolerance ≡ 0
 
--- of a link with these own frames, after all arrived: each frame leaves each port after it came, whatever the stamps are off by. And frames of the
--- same bytes came at least the port's bound and the tolerance apart, or all is exact
+-- a link whose own frames these are, after all arrived: each leaves each port after it came, whatever the stamps are off by; and frames of
+-- the same bytes came at least the port's bound and the tolerance apart, or all is exact
 pub record IsClear (w : Watch) (own : List Record) (f : Watched) : Type 0 where
   pub later : AllByRecursion (λ o. AllByRecursion (LeavesLater o.limits) own) f.outputs
   pub apart : AllByRecursion (λ o. AllDiffer (most_of o.limits) own) f.outputs ⊎ IsExact w
 
+-- each link is clear, by its own frames that count
 abbrev pub AreClear : Watch → Content → List (List Record) → Comparison → Type 0
 AreClear w t captures all = (place : ℕ) (l : Link) (f : Watched) → slice_get t.links place ≡ Some l → slice_get all.links place ≡ Some f
     → IsClear w (own_within w t l (came_in t.ports captures)) f

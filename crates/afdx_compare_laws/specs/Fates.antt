@@ -17,10 +17,11 @@ pub record Recorded : Type 0 where
   pub last : Option ℕ
   pub out : List Record
 
--- a record at the port may be of the frame, or one at any of these ports
+-- a record that left at the port may be of the frame
 abbrev pub is_seen_at : Record → Recorded → Bool
 is_seen_at f p = list_any (λ r. in_bound p.limits f r) p.out
 
+-- a record that left at any of these ports may be of the frame
 abbrev pub is_seen : List Recorded → Record → Bool
 is_seen ports f = list_any (λ p. is_seen_at f p) ports
 
@@ -37,15 +38,16 @@ abbrev pub AllDiffer : ℕ → List Record → Type 0
 AllDiffer time [] = Unit {0}
 AllDiffer time (f ∷ own) = AllByRecursion (λ g. f.bytes ≡ g.bytes → f.stamp + time ≤ g.stamp) own × AllDiffer time own
 
+-- frames came in the order of their stamps
 abbrev pub OwnInOrder : List Record → Type 0
 OwnInOrder [] = Unit {0}
 OwnInOrder (f ∷ own) = AllByRecursion (λ g. f.stamp ≤ g.stamp) own × OwnInOrder own
 
--- each frame leaves the port after it came, whatever the stamps are off by; and frames of the same bytes came at least the port's bound and the
--- tolerance apart
+-- each frame leaves the port after it came, whatever the stamps are off by
 abbrev pub LeaveLater : List Record → Recorded → Type 0
 LeaveLater own p = AllByRecursion (LeavesLater p.limits) own
 
+-- frames of the same bytes came at least the port's bound and the tolerance apart
 abbrev pub AreApart : List Record → Recorded → Type 0
 AreApart own p = AllDiffer (most_of p.limits) own
 

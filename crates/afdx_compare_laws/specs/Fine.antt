@@ -17,7 +17,7 @@ abbrev pub IsByEnd : Limits → Option ℕ → ℕ → Type 0
 IsByEnd m None at = Unit {0}
 IsByEnd m (Some last) at = at ≤ last + most_of m
 
--- each record left by then; and each instant that is told, before which nothing leaves any more, is no later
+-- each record left at most a bound and the tolerance past the end; and each instant before which nothing leaves any more is no later
 abbrev pub AreByEnd : Limits → Option ℕ → List Sight → Type 0
 AreByEnd m last [] = Unit {0}
 AreByEnd m last (Came n passes ∷ sights) = AreByEnd m last sights

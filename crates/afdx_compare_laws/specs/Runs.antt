@@ -49,6 +49,7 @@ pub record AreOurs (t : Content) (r : Recordings) : Type 0 where
 abbrev pub captures_of : Content → Recordings → List Capture → List (List Record)
 captures_of t r read = map (λ c. c.records) read ++ map (λ p. output_of t (merged read) p) (recorded_ports t r)
 
+-- no record of these captures is later than an instant
 abbrev pub AreBy : ℕ → List (List Record) → Type 0
 AreBy at captures = AllByRecursion (AllByRecursion (λ x. x.stamp ≤ at)) captures
 
@@ -63,8 +64,8 @@ pub record AreWhole (r : Recordings) (until : ℕ) (captures : List (List Record
   pub exact : r.tolerance ≡ 0
   pub by_end : AreBy until captures
 
--- or they are any span: its beginning and the tolerance come to an instant that pcap can hold, its end is no less than the tolerance, and each link's
--- own frames of the same bytes came apart
+-- recordings are any span: its beginning and the tolerance come to an instant that pcap can hold, its end is no less than the tolerance,
+-- and each link's own frames of the same bytes came apart
 pub record AreOfSpan (t : Content) (r : Recordings) (read : List Capture) (from until : ℕ) : Type 0 where
   pub in_time : from + r.tolerance ≤ last_instant
   pub long : r.tolerance ≤ until

@@ -24,18 +24,18 @@ use Rattle.afdx_compare_laws.specs.Less.{varying, off_by}
 abbrev pub cut : Start → Option ℕ → Watch → Watch
 cut start until w = record w { start = start; until = until }
 
--- they begin no sooner
+-- a span begins no sooner than the recordings
 abbrev pub BeginsWithin : Start → Start → Type 0
 BeginsWithin Rest now = Unit {0}
 BeginsWithin (Cut from) Rest = ⊥
 BeginsWithin (Cut from) (Cut now) = from ≤ now
 
--- and so early that frames can count: the instant from which on they do is one that pcap can hold
+-- recordings begin so early that frames can count: the instant from which on they do is one that pcap can hold
 abbrev pub BeginsInTime : ℕ → Start → Type 0
 BeginsInTime tolerance Rest = Unit {0}
 BeginsInTime tolerance (Cut from) = from + tolerance ≤ last_instant
 
--- and end no later; their end is no less than the tolerance
+-- a span ends no later than the recordings, and its end is no less than the tolerance
 abbrev pub EndsWithin : ℕ → Option ℕ → Option ℕ → Type 0
 EndsWithin tolerance None None = Unit {0}
 EndsWithin tolerance (Some until) None = ⊥

@@ -39,15 +39,15 @@ abbrev pub copy_by : Option Link → List Row → Row → List Item
 copy_by None before row = []
 copy_by (Some l) before row = copy_of l before row ∷ []
 
--- those of all clean frames, each numbered by the arrivals before it
+-- the copies of all clean frames, each numbered by the arrivals before it
 unfoldable pub clean_copies : Content → List Row → List Item
 clean_copies t rows = each_after (λ before row. copy_by (named t row.verdict) before row) [] rows
 
--- those of a link's own frames that its policing passes
+-- the copies of a link's own frames that its policing passes
 abbrev pub passed_copies : Content → Link → List Row → List Item
 passed_copies t l rows = passed_of frame_of_item (terms_of l) (own l.id (clean_copies t rows))
 
--- their frames are the link's passed frames
+-- the frames of these copies are the link's passed frames
 abbrev pub PassedCopiesArePassedFrames : Type 0
 PassedCopiesArePassedFrames = (t : Content) (l : Link) (rows : List Row) → IsWellFormed t → Contains t.links l
     → map frame_of_item (passed_copies t l rows) ≡ passed_frames (terms_of l) (account_frames l.id rows)
@@ -58,6 +58,8 @@ sent_copies r p l = own l.id (map (λ (s : Sent). s.item) (sent_in r (Some p)))
 
 -- ---- the theorem
 
+-- the headline of a switch: no copy was lost, each that was sent was in its bound, and what left for each link is what its policing passes,
+-- in order
 pub record IsIsolatedRun (r : Run) : Type 0 where
   -- no copy was refused by a full buffer: each port admitted all that it was offered
   pub none_full : (p : PortRow) → Contains r.table.ports p → (port_in r p).admitted ≡ feed_of r.table p.id r.rows
@@ -72,6 +74,7 @@ pub record IsIsolatedRun (r : Run) : Type 0 where
   pub all_passed_once_finished : r.finished ≡ true → (p : PortRow) → Contains r.table.ports p → (l : Link) → Contains r.table.links l → leads_to p.id l ≡ true
       → sent_copies r p l ≡ passed_copies r.table l r.rows
 
+-- the headline holds of each switch over an accepted table
 abbrev pub AcceptedTablesIsolate : Type 0
 AcceptedTablesIsolate = (r : Run) → IsRun r → IsWellFormed r.table → IsAccepted r.table → IsIsolatedRun r
 
@@ -84,9 +87,8 @@ NoStepIsFull = (r : Run) (port : ℕ) (frame : Record) → IsRun r → refusal_o
 abbrev pub with_bytes : (ℕ → List ℕ) → Item → Frame × List ℕ
 with_bytes bytes x = (frame_of_item x, bytes x.number)
 
--- two worlds: two finished switches of two accepted tables. If a link of the one and a link of the other have the same terms and the same
--- own frames, with the same bytes, then the same frames with the same bytes leave for them in the same order at each of their ports,
--- whatever else the tables have and whatever else came
+-- two worlds: if links of two finished switches, each of an accepted table, have the same terms and the same own frames with the same
+-- bytes, then the same frames with the same bytes leave for them in order at each of their ports, whatever else there is
 abbrev pub OthersChangeNothing : Type 0
 OthersChangeNothing = (r r' : Run) (bytes bytes' : ℕ → List ℕ) → IsRun r → IsRun r' → IsWellFormed r.table → IsWellFormed r'.table → IsAccepted r.table → IsAccepted r'.table
     → r.finished ≡ true → r'.finished ≡ true
@@ -97,17 +99,22 @@ OthersChangeNothing = (r r' : Run) (bytes bytes' : ℕ → List ℕ) → IsRun r
 
 -- ---- each call makes a run of a run
 
+-- a switch that took nothing is a run
 abbrev pub RunsBegin : Type 0
 RunsBegin = (t : Content) → IsRun (fresh_run t)
 
+-- a run is one still after an arrival that is not refused
 abbrev pub RunsTakeArrivals : Type 0
 RunsTakeArrivals = (r : Run) (port : ℕ) (frame : Record) → refusal_of r port frame.stamp ≡ None → IsRun r → IsRun (after_row (row_of r.table port frame) r)
 
+-- a run is one still after an advance
 abbrev pub RunsAdvance : Type 0
 RunsAdvance = (r : Run) (to : ℕ) → r.latest ≤ to → IsRun r → IsRun (after_advance to r)
 
+-- a run is one still after a frame was handed out
 abbrev pub RunsHandOut : Type 0
 RunsHandOut = (r : Run) (place : ℕ) → IsRun r → IsRun (after_handing place r)
 
+-- a run is one still once it is finished
 abbrev pub RunsFinish : Type 0
 RunsFinish = (r : Run) → IsRun r → IsRun (after_finish r)

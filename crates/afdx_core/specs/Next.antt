@@ -10,7 +10,7 @@ pub record IsFirstEvent (r : Run) (at : ℕ) : Type 0 where
   pub none_before : (p : PortRow) → Contains r.table.ports p → is_before at (due (port_in r p)) ≡ false
   pub one_then : Any (λ p. due (port_in r p) ≡ Some at) r.table.ports
 
--- the same, if there is such an instant; if there is none, each event was carried out
+-- the first instant at which an output port has such an event; if there is none, each event was carried out
 abbrev pub IsNextEvent : Run → Option ℕ → Type 0
 IsNextEvent r None = (p : PortRow) → Contains r.table.ports p → due (port_in r p) ≡ None
 IsNextEvent r (Some at) = IsFirstEvent r at

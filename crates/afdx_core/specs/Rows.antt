@@ -29,6 +29,7 @@ row_of t port frame = record {
 
 -- ---- one link
 
+-- the verdict says that the frame is a clean one of the link of this number
 abbrev pub says_clean : ℕ → Verdict → Bool
 says_clean i (Clean j) = i == j
 says_clean i Cut = false
@@ -43,10 +44,11 @@ says_clean i TooBig = false
 abbrev pub own_frames : ℕ → List Row → List Row
 own_frames i rows = filter (λ row. says_clean i row.verdict) rows
 
+-- an arrival as an account sees it: its stamp in ns and its size in bytes
 abbrev pub frame_of_row : Row → Frame
 frame_of_row row = record { stamp = row.stamp; size = row.size }
 
--- these, as the link's account sees them
+-- a link's own frames, as its account sees them
 unfoldable pub account_frames : ℕ → List Row → List Frame
 account_frames i rows = map frame_of_row (own_frames i rows)
 
@@ -67,11 +69,12 @@ named t NoLink = None
 named t WrongPort = None
 named t TooBig = None
 
--- what becomes of a frame, by its link
+-- what becomes of a frame, after these arrivals, by the link that the filter found it clean for
 abbrev pub fate_by : Option Link → List Row → Row → Fate
 fate_by None before row = Filtered row.verdict
 fate_by (Some l) before row = if passes l before row then Passed l.id else Policed l.id
 
+-- what becomes of a frame: the filter drops it, or the policing of its link does, or it is passed
 abbrev pub fate_of : Content → List Row → Row → Fate
 fate_of t before row = fate_by (named t row.verdict) before row
 
@@ -79,11 +82,12 @@ fate_of t before row = fate_by (named t row.verdict) before row
 abbrev pub copy_of : Link → List Row → Row → Item
 copy_of l before row = record { number = length before; link = l.id; stamp = row.stamp; size = row.size; priority = l.priority }
 
--- the copy of a frame that a port is offered, if any: that of a passed frame whose link leads there
+-- the copy that a port is offered of a frame of this link, if any: that of a passed frame whose link leads there
 abbrev pub copies_by : Option Link → ℕ → List Row → Row → List Item
 copies_by None port before row = []
 copies_by (Some l) port before row = if passes l before row && leads_to port l then copy_of l before row ∷ [] else []
 
+-- the copy that a port is offered of a frame, if any
 abbrev pub copies : Content → ℕ → List Row → Row → List Item
 copies t port before row = copies_by (named t row.verdict) port before row
 
@@ -94,6 +98,7 @@ abbrev pub each_after : {X Y : Type 0} → (List X → X → List Y) → List X 
 each_after f before [] = []
 each_after f before (x ∷ xs) = f before x ++ each_after f (before ++ x ∷ []) xs
 
+-- what becomes of all frames, in order of arrival
 unfoldable pub fates_of : Content → List Row → List Fate
 fates_of t rows = each_after (λ before row. fate_of t before row ∷ []) [] rows
 

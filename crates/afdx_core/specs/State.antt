@@ -34,6 +34,7 @@ pub record Run : Type 0 where
   pub handed : List ℕ
   pub finished : Bool
 
+-- the whole of what contracts see of a switch
 pub record State : Type 0 where
   pub run : Run
   -- the frame of each arrival, as far as it is kept
@@ -55,23 +56,26 @@ fresh_state accepted keeps t = record { run = fresh_run t; frames = []; accepted
 abbrev pub port_after : Content → List Row → ℕ → Bool → PortRow → PortContent
 port_after t rows latest finished p = record { settings = settings_of t.latency p; admitted = admitted (settings_of t.latency p) (feed_of t p.id rows); horizon = latest; finished = finished }
 
+-- an output port as it is after the arrivals so far
 abbrev pub port_in : Run → PortRow → PortContent
 port_in r p = port_after r.table r.rows r.latest r.finished p
 
--- what the port of a number admitted so far, what it sent, and what it discarded
+-- what the port in this row of the table admitted so far, in order
 abbrev pub admitted_in : Run → Option PortRow → List Item
 admitted_in r None = []
 admitted_in r (Some p) = (port_in r p).admitted
 
+-- what the port in this row sent so far, in order
 abbrev pub sent_in : Run → Option PortRow → List Sent
 sent_in r None = []
 sent_in r (Some p) = sent_of (done (port_in r p))
 
+-- what the port in this row discarded for its age so far, in order
 abbrev pub aged_in : Run → Option PortRow → List Aged
 aged_in r None = []
 aged_in r (Some p) = aged_of (done (port_in r p))
 
--- the bytes that its buffer holds at the instant that the greatest stamp reaches
+-- the bytes that the port's buffer holds at the instant that the greatest stamp reaches
 abbrev pub occupied_in : Run → Option PortRow → ℕ
 occupied_in r None = 0
 occupied_in r (Some p) = occupied (settings_of r.table.latency p) (reach (settings_of r.table.latency p) r.latest) (port_in r p).admitted
@@ -83,6 +87,7 @@ early_in r (Some l) f = early_by (terms_of l) (passed_frames (terms_of l) (accou
 
 -- ---- an arrival
 
+-- the switch after the arrival of this row
 abbrev pub after_row : Row → Run → Run
 after_row row r = record { table = r.table; rows = r.rows ++ row ∷ []; latest = row.stamp; handed = r.handed; finished = r.finished }
 
@@ -91,11 +96,12 @@ abbrev pub answer_of : Run → Item → Option PortRow → Offer
 answer_of r item None = Full
 answer_of r item (Some p) = answer item (port_in r p)
 
--- the answers of a link's ports, in its order
+-- the answers of a link's ports to the copies of a frame, in the link's order; none if the frame is not passed
 abbrev pub offers_by : Run → Option Link → Row → List (ℕ × Offer)
 offers_by r None row = []
 offers_by r (Some l) row = if passes l r.rows row then map (λ port. (port, answer_of r (copy_of l r.rows row) (port_row r.table port))) l.to else []
 
+-- the answers to the copies of an arrival: those of its link's ports
 abbrev pub offers_of : Run → Row → List (ℕ × Offer)
 offers_of r row = offers_by r (named r.table row.verdict) row
 
@@ -109,9 +115,11 @@ refusal_of r port stamp = if is_none (port_row r.table port) then Some NoSuchPor
 
 -- ---- the other calls
 
+-- the switch after an advance to this instant: it is told that nothing comes before it any more
 abbrev pub after_advance : ℕ → Run → Run
 after_advance to r = record { table = r.table; rows = r.rows; latest = to; handed = r.handed; finished = r.finished }
 
+-- the switch after the end: nothing comes any more
 abbrev pub after_finish : Run → Run
 after_finish r = record { table = r.table; rows = r.rows; latest = r.latest; handed = r.handed; finished = true }
 
@@ -123,6 +131,7 @@ after_handing place r = record { table = r.table; rows = r.rows; latest = r.late
 abbrev pub next_at : Run → ℕ → Option Sent
 next_at r place = slice_get (sent_in r (slice_get r.table.ports place)) (slice_index r.handed place)
 
+-- the next sent frame of the port at this place, if the table has the port
 abbrev pub next_by : Run → Option ℕ → Option Sent
 next_by r None = None
 next_by r (Some place) = next_at r place

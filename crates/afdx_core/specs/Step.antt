@@ -3,6 +3,7 @@ use Rattle.std.specs.Prelude.{ℕ, List}
 use Rattle.afdx_port.specs.declared.Offer.{Offer}
 use Rattle.afdx_core.specs.declared.step.Fate.{Fate}
 
+-- what a switch did with one arrival
 pub record Step : Type 0 where
   -- how many arrivals came before it
   pub number : ℕ

@@ -18,23 +18,29 @@ use Rattle.afdx_count.specs.declared.counters.OutCount.{OutCount}
 abbrev pub greatest_count : ℕ
 greatest_count = 18446744073709551615
 
+-- a count, but no more than the greatest value of a counter
 abbrev pub capped : ℕ → ℕ
 capped n = min n greatest_count
 
+-- a count with one more
 abbrev pub up : ℕ → ℕ
 up n = capped (n + 1)
 
+-- nothing came
 abbrev pub no_input : InCount
 no_input = record { seen = 0; cut = 0; short = 0; long = 0; foreign = 0; no_link = 0; wrong_port = 0; too_big = 0; clean = 0 }
 
+-- no frame of the link came
 abbrev pub no_link : LinkCount
 no_link = record { passed = 0; policed = 0 }
 
+-- no copy was offered
 abbrev pub no_output : OutCount
 no_output = record { offered = 0; full = 0; aged = 0; sent = 0 }
 
 -- ---- an arrival
 
+-- the counters of a port with one more frame of this verdict
 abbrev pub with_verdict : Verdict → InCount → InCount
 with_verdict Cut c = record c { cut = up c.cut }
 with_verdict Short c = record c { short = up c.short }
@@ -51,7 +57,7 @@ verdict_in (Filtered verdict) = verdict
 verdict_in (Policed link) = Clean link
 verdict_in (Passed link) = Clean link
 
--- an arrival is seen, and counts for its verdict
+-- the counters of a port after an arrival: it is seen, and counts for its verdict
 abbrev pub with_fate : Fate → InCount → InCount
 with_fate fate c = with_verdict (verdict_in fate) (record c { seen = up c.seen })
 
@@ -61,7 +67,7 @@ with_fate fate c = with_verdict (verdict_in fate) (record c { seen = up c.seen }
 abbrev pub answers_of : ℕ → List (ℕ × Offer) → List Offer
 answers_of port offers = map (λ o. o.1) (filter (λ o. o.0 == port) offers)
 
--- copies that were offered, and those of them that didn't fit
+-- the counters of a priority after these answers: the copies were offered, and those of them that did not fit were refused
 abbrev pub with_answers : List Offer → OutCount → OutCount
 with_answers [] c = c
 with_answers (offer ∷ offers) c = record c {
@@ -69,18 +75,21 @@ with_answers (offer ∷ offers) c = record c {
   full = capped (c.full + count_by answers_full (offer ∷ offers));
 }
 
+-- both priorities are the same
 abbrev pub is_of : Priority → Priority → Bool
 is_of High High = true
 is_of High Low = false
 is_of Low High = false
 is_of Low Low = true
 
--- a counter, with the copies of a priority that were sent, and with those that were discarded
+-- a counter with the copies of a priority that were sent
 abbrev pub more_sent : ℕ → Priority → List Sent → ℕ
 more_sent start priority sent = capped (start + count_by (λ s. is_of priority s.item.priority) sent)
 
+-- a counter with the copies of a priority that were discarded for their age
 abbrev pub more_aged : ℕ → Priority → List Aged → ℕ
 more_aged start priority aged = capped (start + count_by (λ a. is_of priority a.item.priority) aged)
 
+-- the counters of a priority with what its copies came to in the end
 abbrev pub with_ended : Priority → List Sent → List Aged → OutCount → OutCount
 with_ended priority sent aged c = record c { aged = more_aged c.aged priority aged; sent = more_sent c.sent priority sent }

@@ -32,42 +32,51 @@ counted test xs = capped (count_by test xs)
 
 -- ---- the arrivals at a port
 
+-- the verdict says that the frame was not captured whole
 abbrev pub is_partial : Verdict → Bool
 is_partial Cut = true
 is_partial _ = false
 
+-- the verdict says that the frame is shorter than any of Ethernet
 abbrev pub is_short : Verdict → Bool
 is_short Short = true
 is_short _ = false
 
+-- the verdict says that the frame is longer than any of Ethernet
 abbrev pub is_long : Verdict → Bool
 is_long Long = true
 is_long _ = false
 
+-- the verdict says that the frame's address has another constant than the network's
 abbrev pub is_foreign : Verdict → Bool
 is_foreign Foreign = true
 is_foreign _ = false
 
+-- the verdict says that the table has no link of the frame's number
 abbrev pub has_no_link : Verdict → Bool
 has_no_link NoLink = true
 has_no_link _ = false
 
+-- the verdict says that the frame came in at another port than its link's
 abbrev pub is_at_wrong_port : Verdict → Bool
 is_at_wrong_port WrongPort = true
 is_at_wrong_port _ = false
 
+-- the verdict says that the frame is greater than its link's Smax
 abbrev pub is_too_big : Verdict → Bool
 is_too_big TooBig = true
 is_too_big _ = false
 
+-- the verdict says that the frame is clean, whichever its link
 abbrev pub is_clean : Verdict → Bool
 is_clean (Clean link) = true
 is_clean _ = false
 
+-- the arrivals at a port
 abbrev pub arrivals_at : ℕ → List Row → List Row
 arrivals_at port rows = filter (λ row. port == row.in_port) rows
 
--- all of them, and those of each verdict
+-- how many arrivals there are, and how many of each verdict
 abbrev pub input_counts : List Row → InCount
 input_counts rows = record {
   seen = capped (length rows);
@@ -83,16 +92,19 @@ input_counts rows = record {
 
 -- ---- the frames of a link
 
+-- the frame was passed for the link of this number
 abbrev pub is_passed : ℕ → Fate → Bool
 is_passed i (Passed j) = i == j
 is_passed i (Policed j) = false
 is_passed i (Filtered verdict) = false
 
+-- the frame was dropped by the policing of this link
 abbrev pub is_policed : ℕ → Fate → Bool
 is_policed i (Passed j) = false
 is_policed i (Policed j) = i == j
 is_policed i (Filtered verdict) = false
 
+-- how many frames of a link were passed, and how many were policed
 abbrev pub link_counts : ℕ → List Fate → LinkCount
 link_counts i fates = record { passed = counted (is_passed i) fates; policed = counted (is_policed i) fates }
 
@@ -102,10 +114,11 @@ link_counts i fates = record { passed = counted (is_passed i) fates; policed = c
 unfoldable pub turned_away : Settings → List Item → List Item
 turned_away s feed = each_after (λ before x. if fits s (admitted s before) x then [] else x ∷ []) [] feed
 
+-- how many of these copies have the priority
 abbrev pub of_priority : Priority → List Item → ℕ
 of_priority priority items = counted (λ item. is_of priority item.priority) items
 
--- the copies of a priority that were offered, those that were refused, and those of these events
+-- how many copies of a priority were offered, and how many were refused, discarded and sent, by these events
 abbrev pub output_counts : Priority → Settings → List Item → List Event → OutCount
 output_counts priority s feed events = record {
   offered = of_priority priority feed;
@@ -116,6 +129,7 @@ output_counts priority s feed events = record {
 
 -- ---- the run
 
+-- the counters of a port over a whole run
 abbrev pub port_counts : Content → List Row → (PortRow → List Event) → PortRow → PortTally
 port_counts t rows events p = record {
   id = p.id;
@@ -124,6 +138,7 @@ port_counts t rows events p = record {
   low = output_counts Low (settings_of t.latency p) (feed_of t p.id rows) (events p);
 }
 
+-- the counters of a link over a whole run
 abbrev pub link_tally : Content → List Row → Link → LinkTally
 link_tally t rows l = record { id = l.id; priority = l.priority; count = link_counts l.id (fates_of t rows) }
 
@@ -149,10 +164,11 @@ counts_of t rows = counts_with t rows (events_of t rows)
 abbrev pub run_after : Content → List Row → Run
 run_after t rows = record { table = t; rows = rows; latest = 0; handed = map (λ p. 0) t.ports; finished = false }
 
+-- what the switch did with each of these arrivals, in order
 abbrev pub steps_of : Content → List Row → List Step
 steps_of t rows = each_after (λ before row. step_of (run_after t before) row ∷ []) [] rows
 
--- all of these noted, one after the other
+-- the counters with all of these arrivals noted, one after the other
 abbrev pub noted_all : List Step → Tally → Tally
 noted_all [] t = t
 noted_all (step ∷ steps) t = noted_all steps (noted step t)

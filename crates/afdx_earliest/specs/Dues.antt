@@ -16,7 +16,7 @@ pub record IsTakenAt (old new place : ℕ) : Type 0 where
   pub others : (j : ℕ) → j ≢ place → bit_at new j ≡ bit_at old j
   pub fewer : new < old
 
--- the same; or none was marked
+-- the first place that was marked is no longer; or none was marked
 abbrev pub IsTaken : ℕ → ℕ → Option ℕ → Type 0
 IsTaken old new None = (old ≡ 0) × (new ≡ 0)
 IsTaken old new (Some place) = IsTakenAt old new place

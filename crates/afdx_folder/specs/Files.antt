@@ -8,6 +8,7 @@ use Rattle.afdx_folder.specs.declared.folder.FolderFault.TheVariants.{Memory, De
 abbrev pub Files : Type 0
 Files = List ℕ → Option (List ℕ)
 
+-- the same files, and these bytes under the name
 abbrev pub with_file : Files → List ℕ → List ℕ → Files
 with_file f name bytes = λ q. if bytes_eq q name then Some bytes else f q
 
@@ -23,7 +24,7 @@ abbrev pub Shows : Option Files → List ℕ → List ℕ → Type 0
 Shows None name bytes = ⊤
 Shows (Some f) name bytes = f name ≡ Some bytes
 
--- and these under these names
+-- these bytes are under these names
 abbrev pub ShowsAll : Option Files → List (List ℕ) → List (List ℕ) → Type 0
 ShowsAll None names all = ⊤
 ShowsAll (Some f) names all = map f names ≡ map (λ bytes. Some bytes) all
@@ -74,7 +75,7 @@ one_more name before = record { count = min (before.count + 1) (2 ^ 64 - 1); las
 abbrev pub one_settled : DeviceLog → DeviceLog
 one_settled before = record { count = before.count; last = before.last; settled = min (before.settled + 1) (2 ^ 64 - 1) }
 
--- so many more
+-- so many more new files that the device has taken
 abbrev pub settled_after : ℕ → DeviceLog → DeviceLog
 settled_after zero before = before
 settled_after (suc n) before = one_settled (settled_after n before)
@@ -83,6 +84,7 @@ settled_after (suc n) before = one_settled (settled_after n before)
 abbrev pub IsCause : FolderFault → List ℕ → DeviceLog → DeviceLog → Type 0
 IsCause fault name before now = ((fault ≡ Memory) × (now ≡ before)) ⊎ ((fault ≡ Device) × (now ≡ one_more name before))
 
+-- what a call changes in the log of the device: nothing if it is well, else as its fault says
 abbrev pub HasCause : {T : Type 0} → List ℕ → DeviceLog → DeviceLog → Result T FolderFault → Type 0
 HasCause name before now r = MatchResult r (λ _. now ≡ before) (λ fault. IsCause fault name before now)
 

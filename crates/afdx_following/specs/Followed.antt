@@ -19,10 +19,12 @@ pub data Notice : Type 0 where
   Arrived : Numbered → Notice
   Departed : ℕ → Numbered → Notice
 
+-- a link after it was told so
 abbrev pub with_notice : Notice → Watched → Watched
 with_notice (Arrived n) f = with_own n f
 with_notice (Departed place n) f = with_record place n f
 
+-- a link after it was told all of these, in order
 abbrev pub with_notices : List Notice → Watched → Watched
 with_notices [] f = f
 with_notices (x ∷ xs) f = with_notices xs (with_notice x f)
@@ -32,16 +34,18 @@ abbrev pub IsNext : Watched → Notice → Type 0
 IsNext f (Arrived n) = (f.latest ≤ n.frame.stamp) × Fits f.account n
 IsNext f (Departed place n) = (place < length f.outputs) × (f.latest ≤ left_by_at place n f)
 
+-- each of these comes or leaves so, after those before it
 abbrev pub AreNext : Watched → List Notice → Type 0
 AreNext f [] = Unit {0}
 AreNext f (x ∷ xs) = IsNext f x × AreNext (with_notice x f) xs
 
--- the link's own frames, and the records at the port at a place
+-- the link's own frames that it is told of
 abbrev pub own_in : List Notice → List Record
 own_in [] = []
 own_in (Arrived n ∷ xs) = n.frame ∷ own_in xs
 own_in (Departed place n ∷ xs) = own_in xs
 
+-- the records that it is told of at the port at a place
 abbrev pub left_in : ℕ → List Notice → List Record
 left_in place [] = []
 left_in place (Arrived n ∷ xs) = left_in place xs
@@ -58,6 +62,7 @@ pub record IsExplained (first : Watched) (notices : List Notice) (last : Option 
   pub kept : (place : ℕ) (o : Output) → slice_get (with_ends last (with_notices notices first)).outputs place ≡ Some o → conforms_in o.found.tally ≡ true
       → IsKeptFor o.limits (last_at o.limits last) (own_in notices) (chosen fates (own_in notices)) (left_in place notices)
 
+-- however a link is followed, such fates explain what it was told
 abbrev pub FollowedIsKept : Type 0
 FollowedIsKept = (account : Account) (tolerance : ℕ) (since : Option ℕ) (outputs : List Output) (notices : List Notice) (last : Option ℕ)
     → tolerance ≤ 1000000000 → AllByRecursion IsFresh outputs → AreNext (at_first account tolerance since outputs) notices

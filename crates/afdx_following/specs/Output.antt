@@ -18,9 +18,11 @@ pub record Found : Type 0 where
   pub keeps : Bool
   pub differences : List Event
 
+-- nothing was found out yet
 abbrev pub nothing_found : Bool → Found
 nothing_found keeps = record { tally = no_events; keeps = keeps; differences = [] }
 
+-- what was found out, with these events
 abbrev pub with_told : List Event → Found → Found
 with_told events f = record {
   tally = tallied events f.tally;
@@ -36,9 +38,11 @@ pub record Output : Type 0 where
   pub waiting : List Numbered
   pub found : Found
 
+-- the port of this number, before anything came or left
 abbrev pub output_at : ℕ → Limits → Bool → Output
 output_at port m keeps = record { port = port; limits = m; pairing = at_first m; waiting = []; found = nothing_found keeps }
 
+-- nothing came or left at the port yet
 abbrev pub IsFresh : Output → Type 0
 IsFresh o = o ≡ output_at o.port o.limits o.found.keeps
 
@@ -58,11 +62,11 @@ left_by n o = left_at o.limits n.frame + o.limits.tolerance
 abbrev pub stamped_by : Numbered → Output → ℕ
 stamped_by n o = n.frame.stamp + o.limits.tolerance
 
--- after a record that left
+-- a port after a record left
 abbrev pub with_waiting : Numbered → Output → Output
 with_waiting n o = record o { waiting = o.waiting ++ n ∷ [] }
 
--- after a frame and its fate
+-- a port after a frame came and its fate was told
 abbrev pub with_came : Numbered → Bool → Output → Output
 with_came frame passes o = record o { pairing = with_frame o.pairing frame passes }
 
@@ -70,10 +74,11 @@ with_came frame passes o = record o { pairing = with_frame o.pairing frame passe
 abbrev pub HasComeBy : ℕ → Output → Type 0
 HasComeBy at o = AllByRecursion (λ n. n.frame.stamp ≤ at) o.pairing.waiting × AllByRecursion (λ n. n.frame.stamp ≤ at) o.pairing.policed
 
--- after what its pairing was told
+-- a port after its pairing was told so
 abbrev pub with_sight : Sight → Output → Output
 with_sight s o = record o { pairing = after_one o.pairing s; found = with_told (told_by_one o.pairing s) o.found }
 
+-- a port after its pairing was told all of these, in order
 abbrev pub with_sights : List Sight → Output → Output
 with_sights [] o = o
 with_sights (s ∷ sights) o = with_sights sights (with_sight s o)
@@ -84,7 +89,7 @@ abbrev pub settled : Option ℕ → Output → ℕ
 settled None o = length o.waiting
 settled (Some unknown) o = position_or_len (λ n. nat_le (unknown - (o.limits.gap * tick_of o.limits.speed + o.limits.tolerance)) n.frame.stamp) o.waiting
 
--- those are paired
+-- a port after these records were paired
 abbrev pub paired_up_to : Option ℕ → Output → Output
 paired_up_to unknown o = with_sights (map Left (take (settled unknown o) o.waiting)) (record o { waiting = drop (settled unknown o) o.waiting })
 
@@ -93,12 +98,14 @@ abbrev pub earliest : ℕ → Limits → Option Numbered → ℕ
 earliest at m None = at
 earliest at m (Some left) = min at (left_at m left.frame)
 
+-- a port after all was taken that left up to an instant: frames that may not leave any more are let go
 abbrev pub gone_on : ℕ → Output → Output
 gone_on at o = with_sight (Until (earliest at o.limits (slice_get o.waiting 0) - o.limits.tolerance)) o
 
--- records were recorded up to an instant, or all had left
+-- the instant up to which at a port the line was free again after a record, if not all had left
 abbrev pub last_at : Limits → Option ℕ → Option ℕ
 last_at m last = option_map (λ at. at + m.gap * tick_of m.speed) last
 
+-- a port after the end: what became of the frames that still wait
 abbrev pub with_end : Option ℕ → Output → Output
 with_end last o = record o { found = with_told (end_told o.pairing (last_at o.limits last)) o.found }

@@ -13,16 +13,16 @@ abbrev pub has_begun : Start → ℕ → ℕ → Bool
 has_begun Rest after stamp = true
 has_begun (Cut from) after stamp = nat_le (from + after) stamp
 
--- and one that is not past the end
+-- an instant that is not past the end
 abbrev pub has_not_ended : Option ℕ → ℕ → Bool
 has_not_ended None stamp = true
 has_not_ended (Some until) stamp = nat_le stamp until
 
--- frames count from the beginning and the tolerance on, records up to the end less the tolerance: what left by the end of the records'
--- span came by the end of the frames', and what came from the beginning of the frames' span on leaves from that of the records' on
+-- a frame counts from the beginning and the tolerance on, up to the end: what came then leaves no sooner than the records' span begins
 abbrev pub has_frame : Watch → ℕ → Bool
 has_frame w stamp = has_begun w.start w.tolerance stamp && has_not_ended w.until stamp
 
+-- a record counts from the beginning on, up to the end less the tolerance: what left then came no later than the frames' span ends
 abbrev pub has_record : Watch → ℕ → Bool
 has_record w stamp = has_begun w.start 0 stamp && has_not_ended w.until (stamp + w.tolerance)
 
@@ -48,6 +48,7 @@ abbrev pub unknown_from : ℕ → Start → Option ℕ
 unknown_from tolerance Rest = None
 unknown_from tolerance (Cut from) = Some (min (from + tolerance) last_instant)
 
+-- the instant at which nothing is known of a switch's accounts, unless they were full
 abbrev pub unknown_since : Watch → Option ℕ
 unknown_since w = unknown_from w.tolerance w.start
 

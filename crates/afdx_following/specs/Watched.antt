@@ -29,6 +29,7 @@ abbrev pub levels_at_first : Account → ℕ → Option ℕ → Levels
 levels_at_first account tolerance None = at_rest (account_terms account) tolerance
 levels_at_first account tolerance (Some since) = unknown (account_terms account) tolerance since
 
+-- a link with this account and these ports, of which nothing came or left
 abbrev pub at_first : Account → ℕ → Option ℕ → List Output → Watched
 at_first account tolerance since outputs = record {
   account = account;
@@ -47,6 +48,7 @@ conforms f = list_all (λ o. conforms_in o.found.tally) f.outputs
 
 -- ---- one frame's fate
 
+-- the size of a frame in bytes, its FCS counted
 abbrev pub frame_size : Numbered → ℕ
 frame_size n = size_of (length n.frame.bytes)
 
@@ -54,10 +56,11 @@ frame_size n = size_of (length n.frame.bytes)
 abbrev pub Fits : Account → Numbered → Type 0
 Fits account n = (account_terms account).price (frame_size n) ≤ (account_terms account).cap
 
--- what is known of the account when a frame comes, and what it may do with the frame
+-- what is known of the account's level when a frame comes
 abbrev pub levels_at : Watched → Numbered → Levels
 levels_at f n = credited (account_terms f.account) f.levels n.frame.stamp
 
+-- what the account may do with the frame: it must pass it, never does, or is unsure
 abbrev pub outlook_at : Watched → Numbered → Outlook
 outlook_at f n = outlook_of (account_terms f.account) f.tolerance (frame_size n) (levels_at f n)
 
@@ -72,18 +75,20 @@ can_tell (Some at) outputs n Unsure = list_all (λ o. is_over at n o) outputs
 abbrev pub fate_of : Watched → Numbered → Bool
 fate_of f n = fate_told (outlook_at f n) (list_any (λ o. has n o) f.outputs)
 
+-- one more, if the frame is unsure
 abbrev pub counted : Outlook → ℕ → ℕ
 counted Must count = count
 counted Never count = count
 counted Unsure count = up count
 
--- the account learns the fate, and the frame is handed to each port
+-- a link whose account learns the fate of a frame, which is handed to each port
 abbrev pub with_fate : Numbered → Bool → Watched → Watched
 with_fate n passes f = record f {
   levels = after (account_terms f.account) f.tolerance (frame_size n) passes (levels_at f n);
   outputs = map (λ o. with_came n passes o) f.outputs;
 }
 
+-- a link after a frame's fate was told, and counted if it was unsure
 abbrev pub with_told : Numbered → Watched → Watched
 with_told n f = with_fate n (fate_of f n) (record f { unsure = counted (outlook_at f n) f.unsure })
 
@@ -104,19 +109,22 @@ abbrev pub first_unknown : List Numbered → Option ℕ
 first_unknown [] = None
 first_unknown (n ∷ ns) = Some n.frame.stamp
 
+-- a link at each of whose ports the records that left before any frame of unknown fate came are paired
 abbrev pub with_paired : Watched → Watched
 with_paired f = record f { outputs = map (λ o. paired_up_to (first_unknown f.undecided) o) f.outputs }
 
+-- a link at each of whose ports the frames that may not leave any more are let go
 abbrev pub with_gone : Option ℕ → Watched → Watched
 with_gone None f = f
 with_gone (Some at) f = record f { outputs = map (λ o. gone_on at o) f.outputs }
 
+-- a link after all that follows once what came and left before this instant is known, or all is
 abbrev pub settled_by : Option ℕ → Watched → Watched
 settled_by at f = with_gone at (with_paired (decided at f.undecided f))
 
 -- ---- what a link is told of
 
--- a frame that came
+-- a link after a frame of its own came
 abbrev pub with_own : Numbered → Watched → Watched
 with_own n f = settled_by (Some n.frame.stamp) (record f { undecided = f.undecided ++ n ∷ []; latest = n.frame.stamp })
 
@@ -134,13 +142,13 @@ left_by_at place n f = option_map_or (λ o. left_by n o) (slice_get f.outputs pl
 abbrev pub stamped_by_at : ℕ → Numbered → Watched → ℕ
 stamped_by_at place n f = option_map_or (λ o. stamped_by n o) (slice_get f.outputs place) 0
 
--- a record that left there: what follows from it rests on its stamp and the tolerance alone. If the gap of a slower line counted, a frame
--- that may still leave a faster port would be taken for missing
+-- a link after a record left at the port at a place: what follows rests on its stamp and the tolerance alone. If the gap of a slower line
+-- counted, a frame that may still leave a faster port would be taken for missing
 abbrev pub with_record : ℕ → Numbered → Watched → Watched
 with_record place n f =
     settled_by (Some (stamped_by_at place n f)) (record f { outputs = changed_at place (λ o. with_waiting n o) f.outputs; latest = left_by_at place n f })
 
--- the end: records were recorded up to an instant, or all had left
+-- a link after the end: records were recorded up to an instant, or all had left
 abbrev pub with_ends : Option ℕ → Watched → Watched
 with_ends last f = let all = settled_by None f in record all { outputs = map (λ o. with_end last o) all.outputs }
 

@@ -6,6 +6,7 @@ use Rattle.afdx_table.specs.Link.{Link}
 use Rattle.afdx_load.specs.Load.{is_high_link, rate_of, burst_of}
 use Rattle.afdx_grouping.specs.Groups.{Asked, Group, goes_over}
 
+-- what a group's links ask, with one more link
 abbrev pub asked_with : Speed → Link → Asked → Asked
 asked_with here l a = record { burst = a.burst + burst_of here l; rate = a.rate + rate_of here l; largest = max a.largest l.max_size }
 
@@ -13,6 +14,7 @@ asked_with here l a = record { burst = a.burst + burst_of here l; rate = a.rate 
 abbrev pub high_with : Speed → Link → Asked → Asked
 high_with here l a = if is_high_link l then asked_with here l a else a
 
+-- a group with one more link
 abbrev pub group_with : Speed → Link → Group → Group
 group_with here l g = record { all = asked_with here l g.all; high = high_with here l g.high }
 

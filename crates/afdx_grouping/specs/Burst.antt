@@ -21,14 +21,15 @@ abbrev pub greatest_beside : (ℕ → ℕ) → List Curve → ℕ
 greatest_beside f [] = 0
 greatest_beside f (c ∷ curves) = max (max (f (turn_of c)) (f (turn_of c + 1))) (greatest_beside f curves)
 
--- what is paid for at once, and in the long run
+-- what is paid for at once, in parts of a ns
 abbrev pub paid_burst : List Curve → ℕ
 paid_burst curves = sum_by (λ c. c.paid.burst) curves
 
+-- what is paid for in each ns, in parts of a ns
 abbrev pub paid_rate : List Curve → ℕ
 paid_rate curves = sum_by (λ c. c.paid.rate) curves
 
--- the most by which they are above the line at the beginning or beside a turn
+-- the most by which these curves are above the line at the beginning or beside a turn
 abbrev pub most_above : ℕ → List Curve → ℕ
 most_above n curves = max (above n curves 0) (greatest_beside (above n curves) curves)
 

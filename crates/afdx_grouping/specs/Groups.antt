@@ -24,6 +24,7 @@ pub record Asked : Type 0 where
   pub rate : ℕ
   pub largest : ℕ
 
+-- what these links ask of the line of a port with this speed
 abbrev pub asked_by : Speed → List Link → Asked
 asked_by here links = record { burst = sum_by (burst_of here) links; rate = sum_by (rate_of here) links; largest = greatest (λ l. l.max_size) links }
 
@@ -32,6 +33,7 @@ pub record Group : Type 0 where
   pub all : Asked
   pub high : Asked
 
+-- the group of these links
 abbrev pub group_of : Speed → List Link → Group
 group_of here links = record { all = asked_by here links; high = asked_by here (filter is_high_link links) }
 
@@ -49,7 +51,7 @@ group_at links from to = group_of to.speed (filter (goes_over from to.id) links)
 abbrev pub line_weight : (here there : Speed) → ℕ
 line_weight here there = parts * tick_of here / tick_of there
 
--- what is paid for
+-- what a group's links pay for: so much at once, and so much more in each ns
 abbrev pub paid_by : Asked → Straight
 paid_by a = record { burst = a.burst; rate = a.rate }
 
@@ -60,6 +62,7 @@ brought_by here spare a line = record {
   rate = line_weight here line.speed;
 }
 
+-- a group's curve: what its links pay for, and what the line brings if frames are known to come over it one after the other
 abbrev pub curve_of : (here : Speed) → Option KnownLine → (spare : ℕ) → Asked → Curve
 curve_of here line spare a = record { paid = paid_by a; brought = option_map (brought_by here spare a) line }
 
@@ -67,6 +70,7 @@ curve_of here line spare a = record { paid = paid_by a; brought = option_map (br
 abbrev pub all_curve : Speed → Option KnownLine → Group → Curve
 all_curve here line g = curve_of here line g.high.burst g.all
 
+-- the curve of a group's high links, which wait for no low frame that comes after them
 abbrev pub high_curve : Speed → Option KnownLine → Group → Curve
 high_curve here line g = curve_of here line 0 g.high
 
@@ -76,10 +80,11 @@ high_curve here line g = curve_of here line 0 g.high
 abbrev pub line_at : (rounding_at : ℕ → Option ℕ) → PortRow → Option KnownLine
 line_at rounding_at from = option_map (λ rounding. record { speed = from.speed; rounding = rounding }) (rounding_at from.id)
 
--- the curves of a port's groups, if latencies differ by at most so many nanoseconds
+-- the curves of a port's groups, one for each port at which links come in, if latencies differ by at most so many ns
 abbrev pub all_curves : (scatter : ℕ) → Content → (ℕ → Option ℕ) → PortRow → List Curve
 all_curves scatter t rounding_at to = map (λ from. later scatter (all_curve to.speed (line_at rounding_at from) (group_at t.links from.id to))) t.ports
 
+-- the curves of the high links of these groups
 abbrev pub high_curves : (scatter : ℕ) → Content → (ℕ → Option ℕ) → PortRow → List Curve
 high_curves scatter t rounding_at to = map (λ from. later scatter (high_curve to.speed (line_at rounding_at from) (group_at t.links from.id to))) t.ports
 
@@ -90,6 +95,6 @@ lesser_load scatter rounding_at t to = record (load_of t.latency to.speed to.id 
   high_burst = least_burst parts (high_curves scatter t rounding_at to);
 }
 
--- the bounds of all ports
+-- the bounds of all ports by their lesser loads, in ns
 abbrev pub lesser_bounds : (scatter : ℕ) → (ℕ → Option ℕ) → Content → List Bounds
 lesser_bounds scatter rounding_at t = map (λ to. bounds_of (lesser_load scatter rounding_at t to)) t.ports

@@ -16,6 +16,7 @@ use Rattle.afdx_grouping.specs.Scatter.{scattered}
 abbrev pub BurstsAreLeast : Type 0
 BurstsAreLeast = (n : ℕ) (curves : List Curve) → paid_rate curves ≤ n → IsLeastBurst n (least_burst n curves) curves
 
+-- a least burst is no more than what is paid for at once
 abbrev pub NoneIsMoreThanPaidFor : Type 0
 NoneIsMoreThanPaidFor = (n : ℕ) (curves : List Curve) → least_burst n curves ≤ paid_burst curves
 
@@ -27,6 +28,7 @@ pub record ArePaidForOnce (scatter : ℕ) (t : Content) (rounding_at : ℕ → O
   pub burst : paid_burst (all_curves scatter t rounding_at to) ≤ (scattered scatter (load_of t.latency to.speed to.id t.links)).burst
   pub high_burst : paid_burst (high_curves scatter t rounding_at to) ≤ (scattered scatter (load_of t.latency to.speed to.id t.links)).high_burst
 
+-- no more is paid for of a port's groups than its links ask for, since each of its links is in one group
 abbrev pub NoMoreIsPaidFor : Type 0
 NoMoreIsPaidFor = (scatter : ℕ) (t : Content) (rounding_at : ℕ → Option ℕ) (to : PortRow) → IsWellFormed t → ArePaidForOnce scatter t rounding_at to
 
@@ -42,16 +44,17 @@ LesserCurvesNeedLess = (n : ℕ) (curves greater : List Curve) → paid_rate cur
 abbrev pub IsNoMore : Option ℕ → Option ℕ → Type 0
 IsNoMore bound other = (y : ℕ) → other ≡ Some y → (x : ℕ) × (bound ≡ Some x) × (x ≤ y)
 
--- so are the two of a load
+-- each of the two bounds of a load is there if the other load's is, and no greater
 pub record AreNoMore (lesser load : Load) : Type 0 where
   pub high : IsNoMore (high_bound lesser) (high_bound load)
   pub low : IsNoMore (low_bound lesser) (low_bound load)
 
+-- the bounds by groups are no greater than those of the port's load
 abbrev pub BoundsAreNoMore : Type 0
 BoundsAreNoMore = (scatter : ℕ) (t : Content) (rounding_at : ℕ → Option ℕ) (to : PortRow) → IsWellFormed t
     → AreNoMore (lesser_load scatter rounding_at t to) (scattered scatter (load_of t.latency to.speed to.id t.links))
 
--- and if latencies differ by less, they are no greater
+-- if latencies differ by less, the bounds by groups are no greater
 abbrev pub LessScatterBoundsNoMore : Type 0
 LessScatterBoundsNoMore = (scatter more : ℕ) (t : Content) (rounding_at : ℕ → Option ℕ) (to : PortRow) → IsWellFormed t → scatter ≤ more
     → (load_of t.latency to.speed to.id t.links).rate ≤ parts → AreNoMore (lesser_load scatter rounding_at t to) (lesser_load more rounding_at t to)

@@ -27,15 +27,17 @@ first_scattered_fault d latency links (row ∷ rows) =
 
 -- ---- curves
 
--- what comes to the queues in a window came to the switch in one that is so much longer
+-- what comes to the queues in a window came to the switch in one that is so many ns longer
 abbrev pub later_line : ℕ → Straight → Straight
 later_line d a = record { burst = a.burst + a.rate * d; rate = a.rate }
 
+-- a curve of the queues, both of whose lines came to the switch in a window that is so many ns longer
 abbrev pub later : ℕ → Curve → Curve
 later d c = record { paid = later_line d c.paid; brought = option_map (later_line d) c.brought }
 
 -- ---- laws
 
+-- a curve that is later by so much is the curve of a window that is longer by it
 abbrev pub LaterIsALongerWindow : Type 0
 LaterIsALongerWindow = (d : ℕ) (c : Curve) (window : ℕ) → curve_at (later d c) window ≡ curve_at c (window + d)
 
@@ -43,9 +45,10 @@ LaterIsALongerWindow = (d : ℕ) (c : Curve) (window : ℕ) → curve_at (later 
 abbrev pub NothingIsScattered : Type 0
 NothingIsScattered = ((load : Load) → scattered 0 load ≡ load) × ((c : Content) → IsAcceptedWith 0 c ↔ IsAccepted c)
 
--- a table is accepted so exactly if it has no fault, and then also if latencies differ by less
+-- a table is accepted, if latencies differ so, exactly if no port has a fault
 abbrev pub AcceptedHasNoScatteredFault : Type 0
 AcceptedHasNoScatteredFault = (d : ℕ) (c : Content) → IsAcceptedWith d c ↔ (first_scattered_fault d c.latency c.links c.ports ≡ None)
 
+-- a table that is accepted if latencies differ so much is accepted if they differ by less
 abbrev pub LessScatterIsAccepted : Type 0
 LessScatterIsAccepted = (d e : ℕ) (c : Content) → d ≤ e → IsAcceptedWith e c → IsAcceptedWith d c

@@ -5,9 +5,8 @@ use Rattle.afdx_units.specs.Line.{least_size, cost_of}
 use Rattle.afdx_account.specs.declared.frame.Frame.{Frame}
 use Rattle.afdx_jitter.specs.declared.delays.Delays.{Delays}
 
--- profile: a hop, from a frame's arrival at a switch to its arrival at the next one, over a port of this speed and bound, with a
--- cable of so many ns. It takes no less than the latency, the line time of a frame of the least size and the cable; and no more than the
--- bound, which has the latency in it, and the cable
+-- profile: a hop from a frame's arrival at a switch to that at the next one: at least the latency, the least frame's line time and the
+-- cable, and at most the port's bound, which has the latency in it, and the cable; in ns
 abbrev pub hop_of : Speed → (latency bound cable : ℕ) → Delays
 hop_of speed latency bound cable = record { least = latency + cost_of speed least_size + cable; most = bound + cable }
 

@@ -41,7 +41,7 @@ CrossingIsAHop = (speed : Speed) (latency bound cable : ℕ) (fs gs : List Frame
 abbrev pub DelaysAddUp : Type 0
 DelaysAddUp = (d e : Delays) (ps qs rs : List Frame) → ComeLater d ps qs → ComeLater e qs rs → ComeLater (joined d e) ps rs
 
--- and begin with none
+-- before the first hop there is no delay
 abbrev pub DelaysBeginAtOnce : Type 0
 DelaysBeginAtOnce = (fs : List Frame) → ComeLater at_once fs fs
 

@@ -34,14 +34,14 @@ abbrev pub may_be : Terms → ℕ → ℕ → Levels → Bool → Bool
 may_be t tolerance size l true = nat_le (t.price size) l.most
 may_be t tolerance size l false = nat_lt l.least (t.price size + 2 * slack_of t tolerance)
 
--- it must pass if it may not be policed, never passes if it may not pass, and is unsure else
+-- a frame must pass if it may not be policed, never passes if it may not pass, and is unsure else
 abbrev pub outlook_of : Terms → ℕ → ℕ → Levels → Outlook
 outlook_of t tolerance size l =
     if not (may_be t tolerance size l true) then Never
     else if may_be t tolerance size l false then Unsure
     else Must
 
--- what is known once it was passed, or policed
+-- what is known of the level once a frame was passed (true), or policed
 abbrev pub after : Terms → ℕ → ℕ → Bool → Levels → Levels
 after t tolerance size true l = record {
   least = min t.cap (max l.least (t.price size)) - t.price size;
@@ -63,18 +63,19 @@ Allowed t tolerance l (f ∷ fs) (passes ∷ fates) =
     let now = credited t l f.stamp in
     IsTrue (may_be t tolerance f.size now passes) × Allowed t tolerance (after t tolerance f.size passes now) fs fates
 
--- what is known after frames of these fates
+-- what is known of the level after frames of these fates
 abbrev pub levels_after : Terms → ℕ → Levels → List Frame → List Bool → Levels
 levels_after t tolerance l [] fates = l
 levels_after t tolerance l (f ∷ fs) [] = l
 levels_after t tolerance l (f ∷ fs) (passes ∷ fates) = levels_after t tolerance (after t tolerance f.size passes (credited t l f.stamp)) fs fates
 
--- profile: the fates of these frames as they are told: an unsure frame was passed if a test says so, such as that it was seen to leave
+-- profile: the fate of a frame as it is told: an unsure one was passed if a test says so, such as that it was seen to leave
 abbrev pub fate_told : Outlook → Bool → Bool
 fate_told Must seen = true
 fate_told Never seen = false
 fate_told Unsure seen = seen
 
+-- the fates of these frames as they are told, each by what is known after those before it
 abbrev pub fates_told : Terms → ℕ → (Frame → Bool) → Levels → List Frame → List Bool
 fates_told t tolerance is_seen l [] = []
 fates_told t tolerance is_seen l (f ∷ fs) =

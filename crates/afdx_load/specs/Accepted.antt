@@ -27,7 +27,7 @@ IsAccepted c = All (λ row. let load = load_of c.latency row.speed row.id c.link
 abbrev pub past : ℕ → Rule → ℕ → ℕ → Option LoadFault
 past port rule limit need = if nat_lt limit need then Some (record { port = port; rule = rule; need = need; limit = limit }) else None
 
--- the same if there is a need
+-- the fault of a need that may be missing, if it is past its limit
 abbrev pub past_bound : ℕ → Rule → ℕ → Option ℕ → Option LoadFault
 past_bound port rule limit None = None
 past_bound port rule limit (Some need) = past port rule limit need

@@ -11,11 +11,12 @@ use Rattle.afdx_load.specs.declared.delays.Bounds.{Bounds}
 abbrev pub high_bound : Load → Option ℕ
 high_bound load = if nat_lt 0 load.highs then Some ((load.high_burst + parts * load.low_largest) / parts + load.latency) else None
 
--- the same of a low frame, if there are low links and the high links leave a part of the line: the latency, and, rounded down, all that
--- links may ask for at once, over that part
+-- the most nanoseconds of a low frame, if there are low links and the high links leave a part of the line: the latency, and, rounded down,
+-- all that links may ask for at once, over that part
 abbrev pub low_bound : Load → Option ℕ
 low_bound load = if nat_lt 0 load.lows && nat_lt load.high_rate parts then Some (load.burst / (parts - load.high_rate) + load.latency) else None
 
+-- the two bounds of a load, in ns
 abbrev pub bounds_of : Load → Bounds
 bounds_of load = record { high = high_bound load; low = low_bound load }
 

@@ -13,7 +13,7 @@ use Rattle.afdx_load.specs.declared.fault.Rule.TheVariants.{Rate, Buffer, HighDe
 abbrev pub is_broken : PortRow → Load → Rule → Bool
 is_broken row load rule = option_map_or (λ need. nat_lt (limit_of rule row) need) (need_of rule load) false
 
--- the rules that it breaks, in their order
+-- the rules that a port's load breaks, in their order
 abbrev pub broken_rules : PortRow → Load → List Rule
 broken_rules row load = filter (is_broken row load) (Rate ∷ Buffer ∷ HighDelay ∷ LowDelay ∷ [])
 

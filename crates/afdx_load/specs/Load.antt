@@ -14,6 +14,7 @@ use Rattle.afdx_table.specs.Content.{Content, port_row}
 abbrev pub is_high_link : Link → Bool
 is_high_link link = is_high link.priority
 
+-- a link that is not of high priority
 abbrev pub is_low_link : Link → Bool
 is_low_link link = not (is_high_link link)
 
@@ -25,29 +26,29 @@ routed port links = filter (leads_to port) links
 abbrev pub terms_of : Link → Terms
 terms_of link = terms_by link.police link.max_size link.bag link.jitter
 
--- profile: line time that a unit of them is worth, in parts of a nanosecond
+-- profile: line time that a unit of a link's terms is worth, in parts of a nanosecond
 abbrev pub weight_of : Speed → Link → ℕ
 weight_of speed link = weight_by link.police link.max_size link.bag speed
 
--- profile: the parts of a line that a link asks for in the long run. By bytes it sends Smax bytes in each gap; a frame is at
--- least 64 bytes, so that its size and the 20 bytes that go with it on the line are at most 21/16 of its size. By frames it
--- sends one frame in each gap, of at most Smax bytes and these 20
+-- profile: the parts of a line that a link asks for: by bytes Smax in each gap, where with its 20 bytes of overhead a frame of at least 64
+-- is at most 21/16 of its size; by frames one in each gap, of Smax and 20 bytes
 abbrev pub rate_by : Police → Speed → ℕ → Bag → ℕ
 rate_by Byte speed max_size bag = 21 * tick_of speed * max_size * (128 / bag_ms bag)
 rate_by Frame speed max_size bag = 16 * tick_of speed * (max_size + 20) * (128 / bag_ms bag)
 
+-- profile: the parts of a line that a link asks for in the long run, in parts of a ns for each ns
 abbrev pub rate_of : Speed → Link → ℕ
 rate_of speed link = rate_by link.police speed link.max_size link.bag
 
--- profile: what it may ask for at once, in parts of a nanosecond
+-- profile: what a link may ask for at once, in parts of a nanosecond
 abbrev pub burst_of : Speed → Link → ℕ
 burst_of speed link = rate_of speed link * (bag_ns link.bag + link.jitter)
 
--- the line time of its longest frame, in nanoseconds
+-- the line time of a link's longest frame, in nanoseconds
 abbrev pub time_of : Speed → Link → ℕ
 time_of speed link = cost_of speed link.max_size
 
--- the greatest of these, 0 if there are none
+-- the greatest of these numbers of links, 0 if there are none
 abbrev pub greatest : (Link → ℕ) → List Link → ℕ
 greatest f [] = 0
 greatest f (link ∷ links) = max (f link) (greatest f links)
@@ -79,7 +80,7 @@ links_load speed links = record {
   latency = 0;
 }
 
--- of those that lead to a port of this speed and number
+-- the load of the links that lead to a port of this speed and number, each frame of which is queued at once
 abbrev pub asked_of : Speed → ℕ → List Link → Load
 asked_of speed port links = links_load speed (routed port links)
 

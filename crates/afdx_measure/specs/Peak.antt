@@ -11,11 +11,12 @@ use Rattle.afdx_measure.specs.declared.filling.Filling.{Filling}
 abbrev pub filling : Settings → List Item → Item → Filling
 filling s before x = record { bytes = x.size + occupied s (came s x) before; at = x.stamp }
 
--- those of these admissions, after the ones before them
+-- how full the buffer was at each of these admissions, after the ones before them
 abbrev pub fillings : Settings → List Item → List Item → List Filling
 fillings s before [] = []
 fillings s before (x ∷ items) = filling s before x ∷ fillings s (before ++ x ∷ []) items
 
+-- the buffer held more bytes
 abbrev pub is_fuller : Filling → Filling → Bool
 is_fuller f g = nat_lt g.bytes f.bytes
 
@@ -26,10 +27,12 @@ peak_of (f ∷ fs) = Some (best_of is_fuller f fs)
 
 -- ---- the law: it is the greatest, at the first admission that reached it
 
+-- the peak is the greatest, at the first admission that reached it; none if nothing was admitted
 abbrev pub IsPeak : List Filling → Option Filling → Type 0
 IsPeak all None = all ≡ []
 IsPeak all (Some peak) =
     (place : ℕ) × (slice_get all place ≡ Some peak) × All (λ f. f.bytes ≤ peak.bytes) all × All (λ f. f.bytes < peak.bytes) (take place all)
 
+-- the peak that is found is the greatest, at the first admission that reached it
 abbrev pub PeakIsTheFirstGreatest : Type 0
 PeakIsTheFirstGreatest = (all : List Filling) → IsPeak all (peak_of all)

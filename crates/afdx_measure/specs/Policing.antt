@@ -25,6 +25,7 @@ abbrev pub excess_by : Link → List Row → Row → List Excess
 excess_by l before row =
     if says_clean l.id row.verdict then (if passes l before row then [] else record { at = row.stamp; early = early_after l before row } ∷ []) else []
 
+-- the policed frames of a link, in order, and how early each came
 abbrev pub excess_of : Link → List Row → List Excess
 excess_of l rows = each_after (excess_by l) [] rows
 
@@ -38,9 +39,11 @@ spell_lines r l = flat_map (spell_line l.id) (spells_in r l)
 
 -- ---- when frames came
 
+-- the stamp of the arrival at a place, in ns
 abbrev pub stamp_at : ℕ → List Row → Option ℕ
 stamp_at place rows = option_map (λ row. row.stamp) (slice_get rows place)
 
+-- the line of when frames came: the first and the last stamp, and how many frames there were
 abbrev pub span_line : List Row → List ℕ
 span_line rows = line ((codes "span from ", stamp_at 0 rows) ∷ (codes " to ", stamp_at (length rows - 1) rows) ∷ (codes " frames ", Some (length rows)) ∷ [])
 

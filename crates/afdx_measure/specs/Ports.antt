@@ -28,12 +28,13 @@ delays_at r p link = summary_of (delays_of link (sent_in r (Some p)))
 abbrev pub PeakIsWithinTheBuffer : Type 0
 PeakIsWithinTheBuffer = (r : Run) (p : PortRow) → IfSome (peak_at r p) (λ f. f.bytes ≤ p.buffer)
 
--- over an accepted table no delay of a link is greater than the port's bound for the link's priority, and the buffer never held more
--- than any number of bytes that holds what the port's links may ask for at once
+-- no delay of a link at the port is greater than the port's bound for the link's priority, and the buffer never held more than any number
+-- of bytes that holds what the port's links may ask for at once
 pub record IsWithinTheLoad (r : Run) (p : PortRow) : Type 0 where
   pub delays : (l : Link) → Contains r.table.links l → (bound : ℕ) → bound_of (load_of r.table.latency p.speed p.id r.table.links) l.priority ≡ Some bound
       → IfSome (delays_at r p l.id).range (λ range. range.greatest ≤ bound)
   pub buffer : (bytes : ℕ) → backlog (load_of r.table.latency p.speed p.id r.table.links) ≤ byte_time p.speed bytes → IfSome (peak_at r p) (λ f. f.bytes ≤ bytes)
 
+-- each port of an accepted table stays within its load
 abbrev pub AcceptedTablesStayWithinTheLoad : Type 0
 AcceptedTablesStayWithinTheLoad = (r : Run) → IsRun r → IsWellFormed r.table → IsAccepted r.table → (p : PortRow) → Contains r.table.ports p → IsWithinTheLoad r p

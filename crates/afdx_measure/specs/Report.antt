@@ -25,12 +25,14 @@ bound_at promised t port priority = if promised then bound_by (port_load t port)
 abbrev pub line_at : Bool → Run → Link → ℕ → List ℕ
 line_at promised r l port = link_line l.id port (summary_of (delays_of l.id (sent_in r (port_row r.table port)))) (bound_at promised r.table port l.priority)
 
--- the lines of a link, and that of a port
+-- the lines of a link, one for each port that it leads to
 abbrev pub link_lines : Bool → Run → Link → List ℕ
 link_lines promised r l = flat_map (line_at promised r l) l.to
 
+-- the line of a port: how full its buffer was, in bytes
 abbrev pub port_line : Run → PortRow → List ℕ
 port_line r p = peak_line p.id p.buffer (peak_at r p)
 
+-- the lines of all links, and then of all ports
 abbrev pub report_of : Bool → Run → List ℕ
 report_of promised r = flat_map (link_lines promised r) r.table.links ++ flat_map (port_line r) r.table.ports

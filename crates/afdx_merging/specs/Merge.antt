@@ -29,17 +29,19 @@ pub record Arrival : Type 0 where
   pub due : ℕ
   pub head : Numbered
 
+-- a record of the capture at a place, by that capture's clock
 abbrev pub arrival_at : ℕ → Clock → Numbered → Arrival
 arrival_at place c n = record { place = place; due = due_at c n.frame.stamp; head = n }
 
--- those of the capture at a place
+-- the arrivals of the capture at a place
 abbrev pub at_place : ℕ → List Arrival → List Arrival
 at_place place arrivals = filter (λ a. a.place == place) arrivals
 
--- by the instant, and of equal ones by the place
+-- one arrival comes by another: sooner by the instant, or at the same one and at no later place
 abbrev pub IsBy : Arrival → Arrival → Type 0
 IsBy a b = (a.due < b.due) ⊎ ((a.due ≡ b.due) × (a.place ≤ b.place))
 
+-- these arrivals come one by the other
 abbrev pub AreInOrder : List Arrival → Type 0
 AreInOrder [] = Unit {0}
 AreInOrder (a ∷ arrivals) = AllByRecursion (IsBy a) arrivals × AreInOrder arrivals
@@ -52,7 +54,7 @@ pub record IsMergeOf (clocks : List Clock) (captures : List (List Record)) (arri
   pub within : AllByRecursion (λ a. a.place < length clocks) arrivals
   pub in_order : AreInOrder arrivals
 
--- it is by its clock, and comes after all of these
+-- an arrival is by its clock, and comes after all of these
 pub record IsAfter (clocks : List Clock) (arrivals : List Arrival) (a : Arrival) : Type 0 where
   pub clock : Clock
   pub at : slice_get clocks a.place ≡ Some clock

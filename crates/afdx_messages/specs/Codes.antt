@@ -18,12 +18,14 @@ use Rattle.afdx_messages.specs.declared.failure.Failure.{Failure}
 use Rattle.afdx_messages.specs.declared.failure.Failure.TheVariants as failure
 use Rattle.afdx_remedies.specs.Entries.{entry_of}
 
+-- the code of an option that does not fit the table
 abbrev pub argument_code : ArgumentFault → List ℕ
 argument_code (argument.Latency least limit) = codes "A1"
 argument_code (argument.Ports port) = codes "A2"
 argument_code (argument.Offset port) = codes "A2"
 argument_code (argument.LeftOut port) = codes "A3"
 
+-- the code of a table's refusal
 abbrev pub table_code : TableFault → List ℕ
 table_code table.Memory = codes "memory"
 table_code table.Toml = codes "C2"
@@ -40,6 +42,7 @@ table_code (table.ToTwice at) = codes "C12"
 table_code (table.ToOwnPort at) = codes "C13"
 table_code (table.TooMany key) = codes "C14"
 
+-- the code of a capture's fault
 abbrev pub capture_code : PcapFault → List ℕ
 capture_code fault.Memory = codes "memory"
 capture_code fault.NoHeader = codes "P2"
@@ -53,12 +56,14 @@ capture_code (fault.Late n) = codes "P9"
 capture_code (fault.Backwards n) = codes "P10"
 capture_code (fault.CutData n) = codes "P11"
 
+-- the code of the rule that a port's load breaks
 abbrev pub rule_code : Rule → List ℕ
 rule_code Rate = codes "L1"
 rule_code Buffer = codes "L2"
 rule_code HighDelay = codes "L3"
 rule_code LowDelay = codes "L4"
 
+-- the code of a network's refusal
 abbrev pub fault_code : NetworkFault → List ℕ
 fault_code net.Memory = codes "memory"
 fault_code net.Toml = codes "G1"
@@ -86,6 +91,7 @@ fault_code (net.TwiceSource link) = codes "G9"
 fault_code (net.Jitter short) = codes "J1"
 fault_code (net.NoJitter short) = codes "J2"
 
+-- the code of a failure of a network's command
 abbrev pub network_code : NetworkFailure → List ℕ
 network_code (network.Refused fault name) = fault_code fault
 network_code (network.Table refusal name) = table_code refusal

@@ -21,7 +21,7 @@ use Rattle.afdx_messages.specs.declared.network_failure.JitterRule.TheVariants a
 use Rattle.afdx_messages.specs.declared.network_failure.NetworkFailure.{NetworkFailure}
 use Rattle.afdx_messages.specs.declared.network_failure.NetworkFailure.TheVariants as network
 
--- that memory ran out, wherever it did
+-- what is reported where memory ran out
 abbrev pub memory_text : List ℕ
 memory_text = codes "afdx: memory"
 
@@ -34,6 +34,7 @@ argument_text (argument.Ports port) = codes "afdx: argument A2 NoSuchPort, --por
 argument_text (argument.Offset port) = codes "afdx: argument A2 NoSuchPort, --offset " ++ decimal port
 argument_text (argument.LeftOut port) = codes "afdx: argument A3 LeftOut, --offset " ++ decimal port
 
+-- the line of an option that does not fit the table
 abbrev pub argument_line : ArgumentFault → List ℕ
 argument_line f = as_line (argument_text f)
 
@@ -56,14 +57,17 @@ refusal_text (table.ToTwice at) = codes "C12 ToTwice, " ++ place_text at
 refusal_text (table.ToOwnPort at) = codes "C13 ToOwnPort, " ++ place_text at
 refusal_text (table.TooMany key) = codes "C14 TooMany, " ++ key_text key
 
+-- the refusal of a table, after what it is of
 abbrev pub table_text : TableFault → List ℕ
 table_text refusal = codes "afdx: table " ++ refusal_text refusal
 
+-- the line of a table's refusal
 abbrev pub table_line : TableFault → List ℕ
 table_line refusal = as_line (table_text refusal)
 
 -- ---- of a capture
 
+-- the code and the name of a capture's fault
 abbrev pub fault_text : PcapFault → List ℕ
 fault_text fault.Memory = codes "P1 Memory"
 fault_text fault.NoHeader = codes "P2 NoHeader"
@@ -92,32 +96,36 @@ abbrev pub part : List ℕ → Option ℕ → List ℕ
 part name None = []
 part name (Some n) = name ++ decimal n
 
--- of a capture, with these words before the port's number, if it is a port's
+-- what is reported of a capture's fault, with these words before the port's number if it is a port's
 abbrev pub text_of : List ℕ → Option ℕ → PcapFault → List ℕ
 text_of name port f = codes "afdx: capture " ++ fault_text f ++ part name port ++ part (codes ", record ") (record_of f)
 
--- of a capture, which is a port's or not
+-- what is reported of the fault of a capture that came in, at a port or by itself
 abbrev pub capture_text : Option ℕ → PcapFault → List ℕ
 capture_text port f = text_of (codes ", port ") port f
 
+-- the line of the fault of a capture that came in
 abbrev pub capture_line : Option ℕ → PcapFault → List ℕ
 capture_line port f = as_line (capture_text port f)
 
--- of the capture of what left at a port
+-- the line of the fault of a capture of what left at a port
 abbrev pub output_line : ℕ → PcapFault → List ℕ
 output_line port f = as_line (text_of (codes ", output ") (Some port) f)
 
 -- ---- of a load
 
+-- the code and the name of the rule that a load breaks
 abbrev pub rule_text : Rule → List ℕ
 rule_text Rate = codes "L1 Rate"
 rule_text Buffer = codes "L2 Buffer"
 rule_text HighDelay = codes "L3 HighDelay"
 rule_text LowDelay = codes "L4 LowDelay"
 
+-- what is reported of a load: the rule, the port, what it needs and what it has
 abbrev pub load_fault_text : LoadFault → List ℕ
 load_fault_text f = codes "afdx: load " ++ rule_text f.rule ++ codes ", port " ++ decimal f.port ++ codes ", need " ++ decimal f.need ++ codes ", limit " ++ decimal f.limit
 
+-- the line of a load that breaks a rule
 abbrev pub load_line : LoadFault → List ℕ
 load_line f = as_line (load_fault_text f)
 
@@ -128,9 +136,11 @@ abbrev pub switch_part : Option (List ℕ) → List ℕ
 switch_part None = []
 switch_part (Some name) = codes ", switch " ++ name
 
+-- the number of a link
 abbrev pub link_part : ℕ → List ℕ
 link_part link = codes ", link " ++ decimal link
 
+-- a rule that a network breaks, after what it is of
 abbrev pub network_rule : List ℕ → List ℕ
 network_rule rule = codes "afdx: network " ++ rule
 
@@ -168,10 +178,12 @@ network_text name (net.NoJitter short) = short_text (codes "J2 NoJitter") name s
 
 -- ---- of rows that a rule of jitters refuses
 
+-- the refusal of the row by this rule
 abbrev pub row_fault : JitterRule → Short → NetworkFault
 row_fault jitter.Jitter short = net.Jitter short
 row_fault jitter.NoJitter short = net.NoJitter short
 
+-- the code and the name of a rule of jitters
 abbrev pub jitter_rule : JitterRule → List ℕ
 jitter_rule jitter.Jitter = codes "J1 Jitter"
 jitter_rule jitter.NoJitter = codes "J2 NoJitter"
@@ -191,11 +203,13 @@ rows_lines rule names shorts = flat_map (row_line rule names) (take 100 shorts) 
 
 -- ---- of a line of an end system
 
+-- the line of an end system's port: the switch, the port and the record that came too soon
 abbrev pub line_line : (port number : ℕ) → (name : List ℕ) → List ℕ
 line_line port number name = as_line (network_rule (codes "R2 Line") ++ switch_part (Some name) ++ codes ", port " ++ decimal port ++ codes ", record " ++ decimal number)
 
 -- ---- of a failure
 
+-- the lines of a failure of a network's command
 abbrev pub network_failure_line : NetworkFailure → List ℕ
 network_failure_line (network.Refused fault name) = as_line (network_text (option_map string_bytes name) fault)
 network_failure_line (network.Table refusal name) = as_line (table_text refusal ++ switch_part (Some (string_bytes name)))
@@ -203,6 +217,7 @@ network_failure_line (network.Capture port fault name) = as_line (capture_text (
 network_failure_line (network.Rows rule shorts names) = rows_lines rule (map string_bytes names.items) shorts.items
 network_failure_line (network.Line port number name) = line_line port number (string_bytes name)
 
+-- the status for a network's refusal: 5 for memory, 4 for a rule of loads or jitters that is broken, else 3
 abbrev pub fault_status : NetworkFault → ℕ
 fault_status net.Memory = 5
 fault_status (net.Load switch why) = 4
@@ -210,6 +225,7 @@ fault_status (net.Jitter short) = 4
 fault_status (net.NoJitter short) = 4
 fault_status _ = 3
 
+-- the status for a failure of a network's command: 4 also for a record that came too soon over its line
 abbrev pub network_status : NetworkFailure → ℕ
 network_status (network.Refused fault name) = fault_status fault
 network_status (network.Rows rule shorts names) = 4

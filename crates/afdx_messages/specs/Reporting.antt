@@ -7,10 +7,11 @@ use Rattle.afdx_wiring.specs.Lines.{as_line}
 use Rattle.afdx_folder.specs.Output.{AppendsPrefix}
 use Rattle.afdx_messages.specs.Lines.{memory_text, argument_line, table_line, capture_line, output_line, load_line, network_failure_line, network_status}
 
+-- the line that says that memory ran out
 abbrev pub memory_line : List ℕ
 memory_line = as_line memory_text
 
--- that something was found for which a command fails has no line: the report tells it
+-- the line of a failure; that something was found for which a command fails has none: the report tells it
 abbrev pub line_of : Failure → List ℕ
 line_of failure.Found = []
 line_of failure.Usage = as_line (codes "afdx: usage")
@@ -27,6 +28,8 @@ line_of failure.Read = as_line (codes "afdx: device read")
 line_of failure.Write = as_line (codes "afdx: device write")
 line_of failure.Memory = memory_line
 
+-- the status of the program for a failure: 1 something was found, 2 usage, 3 an input is refused, 4 a rule of loads, jitters or lines is
+-- broken, 5 memory or the device
 abbrev pub status_of : Failure → ℕ
 status_of failure.Found = 1
 status_of failure.Usage = 2

@@ -25,7 +25,7 @@ abbrev pub RunsLeaveInTime : Type 0
 RunsLeaveInTime = (t : Content) (texts : List Text) (results : Results) → IsWellFormed t → IsAccepted t → IsOutcome t texts results
     → (last : ℕ) → last + second ≤ last_second → All (λ text. ComesBy last text.1) texts → All (λ text. ComesBy (last + 500000000) text.1) results.captures
 
--- so it is of the records that leave each port
+-- no record leaves a port of such a switch more than half a second after that instant
 abbrev pub RecordsLeaveInTime : Type 0
 RecordsLeaveInTime = (t : Content) (texts : List Text) (results : Results) → IsWellFormed t → IsAccepted t → (outcome : IsOutcome t texts results)
     → (last : ℕ) → last + second ≤ last_second → All (λ text. ComesBy last text.1) texts → (p : PortRow) → Contains t.ports p

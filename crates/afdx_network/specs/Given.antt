@@ -30,6 +30,7 @@ is_open net switch port = not (is_some (wire_to net (record { switch = switch; p
 abbrev pub AreOpen : Network → ℕ → Content → List Text → Type 0
 AreOpen net switch t texts = map (λ text. text.0) texts ≡ filter (is_open net switch) (map (λ p. p.id) t.ports)
 
+-- the switch at this place has the captures that its table and the wires ask for
 pub record IsGivenAt (net : Network) (given : Given) (switch : ℕ) : Type 0 where
   pub table : Content
   pub texts : List Text
@@ -37,12 +38,12 @@ pub record IsGivenAt (net : Network) (given : Given) (switch : ℕ) : Type 0 whe
   pub texts_is : slice_get given switch ≡ Some texts
   pub of_open : AreOpen net switch table texts
 
--- for each switch, and for no other
+-- the captures of each switch are given, and of no other
 pub record AreGiven (net : Network) (given : Given) : Type 0 where
   pub each : (switch : ℕ) → switch < length net.tables → IsGivenAt net given switch
   pub no_more : length given ≡ length net.tables
 
--- each is a capture
+-- each text that was given is a capture
 abbrev pub AreSound : Given → Type 0
 AreSound given = All (All IsSound) given
 
@@ -53,14 +54,16 @@ abbrev pub ends_from : Network → ℕ → List Content → List End
 ends_from net n [] = []
 ends_from net n (t ∷ tables) = map (λ port. record { switch = n; port = port }) (filter (is_open net n) (map (λ p. p.id) t.ports)) ++ ends_from net (n + 1) tables
 
+-- the ports to which no wire goes, by switch and then by rising number
 abbrev pub open_ends : Network → List End
 open_ends net = ends_from net 0 net.tables
 
--- all ports, in that order
+-- all ports, by switch, of which so many come before these, and then by rising number
 abbrev pub all_from : ℕ → List Content → List End
 all_from n [] = []
 all_from n (t ∷ tables) = map (λ p. record { switch = n; port = p.id }) t.ports ++ all_from (n + 1) tables
 
+-- all ports of a network, by switch and then by rising number
 abbrev pub all_ends : Network → List End
 all_ends net = all_from 0 net.tables
 
@@ -88,7 +91,7 @@ abbrev pub NoneComesLate : Given → Type 0
 NoneComesLate given = (texts : List Text) (text : Text) (records : List Record) → Contains given texts → Contains texts text → IsCapture text.1 records
     → All (λ r. r.stamp + 64 * second ≤ last_second) records
 
--- so no frame can be late at a switch: the wires have an order, each takes at most a millisecond, and none was given late
+-- no frame can be late at a switch: the wires have an order, each takes at most a millisecond, and none was given late
 pub record NoneIsLateAnywhere (net : Network) (given : Given) : Type 0 where
   pub order : HasOrder net
   pub delays : All (λ w. w.delay ≤ 1000000) net.layout.wires
@@ -134,9 +137,8 @@ pub record ComesLate (net : Network) (switch port : ℕ) (why : PcapFault) : Typ
   pub one_each : NoneShareAPort net
   pub late : IsLate why
 
--- why there is no run over these texts: one is no capture; or all are, and one did not come over one line, though the file says so; or all did,
--- and either two wires go to one port; or none do, and a record comes late over a wire, which cannot be if `none_late` holds. Memory may run out at
--- any time, and that a reader failed is no reason here
+-- why there is no run: a text is no capture; or one did not come over one line, though the file says so; or two wires go to one port; or a
+-- record comes late over a wire, unless `none_late` holds. Memory may run out at any time; a reader's failure is no reason here
 abbrev pub IsRefusalUnless : Type 0 → Network → Given → NetworkRunFault → Type 0
 IsRefusalUnless none_late net given fault.Memory = Unit {0}
 IsRefusalUnless none_late net given (fault.Read place) = ⊥
@@ -145,11 +147,11 @@ IsRefusalUnless none_late net given (fault.Capture switch port why) =
 IsRefusalUnless none_late net given fault.WrongWires = AreGiven net given × AreSound given × KeepTheirLines net given × (NoneShareAPort net → ⊥)
 IsRefusalUnless none_late net given (fault.Line switch port number) = AreGiven net given × AreSound given × IsFirstBreach net given switch port number
 
--- of a network whose loads are accepted: what comes over a wire is a capture if no frame can be late
+-- why there is no run of a network whose loads are accepted: what comes over a wire is a capture if no frame can be late
 abbrev pub IsRefusal : Network → Given → NetworkRunFault → Type 0
 IsRefusal net given why = IsRefusalUnless (NoneIsLateAnywhere net given) net given why
 
--- of any network: what comes over a wire is a capture if no frame can be late and the loads are accepted
+-- why there is no run of any network: what comes over a wire is a capture if no frame can be late and the loads are accepted
 abbrev pub IsUncheckedRefusal : Network → Given → NetworkRunFault → Type 0
 IsUncheckedRefusal net given why = IsRefusalUnless (NoneIsLateAnywhere net given × All IsAccepted net.tables) net given why
 

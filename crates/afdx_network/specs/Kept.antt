@@ -25,7 +25,7 @@ pub record IsInBoundOf (least scatter : ℕ) (t : Content) (p : PortRow) (l : Li
   pub bound_is : bound_of (scattered scatter (load_of t.latency p.speed p.id t.links)) l.priority ≡ Some bound
   pub keeps : KeepsBound least p bound came left
 
--- these records leave a port of a switch that read these captures, as in the headline
+-- the headline's relation at one port, with these latencies: what leaves it, if these captures were read
 pub record IsKeptBy (least scatter : ℕ) (t : Content) (read : List Capture) (p : PortRow) (out : List Record) : Type 0 where
   pub passed : (l : Link) → Contains t.links l → leads_to p.id l ≡ true
       → bytes_of (records_for l out) ≡ bytes_of (passed_records l (own_records t l read))

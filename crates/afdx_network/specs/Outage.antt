@@ -13,10 +13,11 @@ use Rattle.afdx_network.specs.Runs.{Given}
 abbrev pub silent : List Text → List Text
 silent texts = map (λ text. (text.0, capture_text [])) texts
 
--- what is given for the switch at a place does not come in there if it is down
+-- what comes in of what is given for the switch at a place: no frames, if it is down
 abbrev pub up_at : Layout → ℕ × List Text → List Text
 up_at l at = if is_down l.switches at.0 then silent at.1 else at.1
 
+-- what comes in of all that is given
 abbrev pub given_up : Layout → Given → Given
 given_up l given = map (up_at l) (enumerate_from 0 given)
 
@@ -26,6 +27,7 @@ given_up l given = map (up_at l) (enumerate_from 0 given)
 abbrev pub still_silent : Silence → Option (List ℕ)
 still_silent s = Some (drop s.read s.text.items)
 
+-- what is left of a capture: of its reader, unless one of no frames is in its place
 abbrev pub in_place : Option (List ℕ) → Option Silence → Option (List ℕ)
 in_place remaining None = remaining
 in_place remaining (Some s) = still_silent s
@@ -34,11 +36,11 @@ in_place remaining (Some s) = still_silent s
 abbrev pub coming : {R : Type 0} → (R → Option (List ℕ)) → Incoming R → Option (List ℕ)
 coming remaining i = in_place (remaining i.reader) i.silence
 
--- at first: what the reader gives, or a capture of no frames if the switch is down
+-- what comes in at a port at first: what the reader gives, or a capture of no frames if the switch is down
 abbrev pub comes : {R : Type 0} → (R → Option (List ℕ)) → Bool → R → Option (List ℕ)
 comes remaining down r = if down then Some (capture_text []) else remaining r
 
--- so it is at each of these ports
+-- what comes in at each of these ports is what its reader gives, or a capture of no frames if the switch is down
 pub record AreComing {R : Type 0} (remaining : R → Option (List ℕ)) (l : Layout) (ends : List End) (readers : List R) (all : List (Incoming R)) : Type 0 where
   pub many : length all ≡ length readers
   pub each : (place : ℕ) (e : End) (r : R) (i : Incoming R) → slice_get ends place ≡ Some e → slice_get readers place ≡ Some r → slice_get all place ≡ Some i

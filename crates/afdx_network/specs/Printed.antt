@@ -22,6 +22,7 @@ pub record IsAtPort (runs : List SwitchRun) (id : ℕ) (x : Stage) (e : End) : T
   pub port : x.port.id ≡ e.port
   pub number : x.link.id ≡ id
 
+-- all stages of a way, in its order
 abbrev pub stages_of : Stage → List Leg → List Stage
 stages_of x [] = x ∷ []
 stages_of x (leg ∷ legs) = x ∷ stages_of leg.stage legs
@@ -49,7 +50,7 @@ pub record KeepsReported (net : Network) (runs : List SwitchRun) (w : Way) : Typ
   pub delivered : IsDelivered stage legs
   pub in_time : AllZip (IsWithin w.delays) (passed_at stage) (leave (last_stage stage legs))
 
--- so it is in an accepted network, whatever the end systems send, on each way that uses nothing that is down
+-- in an accepted network, whatever the end systems send, each way that uses nothing that is down keeps the delays of its line
 abbrev pub PrintedDelaysAreKept : Type 0
 PrintedDelaysAreKept = (net : Network) (given : Given) (runs : List SwitchRun) → IsAcceptedRun net given runs → (ways : List Way) → AreWaysOf net ways
     → All (KeepsReported net runs) (up_of net.layout ways)

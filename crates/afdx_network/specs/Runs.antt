@@ -78,7 +78,7 @@ pub record AreGivenAt (net : Network) (given : Given) (e : End) (row : PortRow) 
 abbrev pub KeepsItsLine : Network → Given → End → Type 0
 KeepsItsLine net given e = (row : PortRow) (records : List Record) → AreGivenAt net given e row records → RecordsKeepToLineWithin stamp_rounding row.speed records
 
--- profile: so it is at each port, if the network file says that end systems have one line each
+-- profile: what was given for each port came over one line, if the network file says that end systems have one line each
 abbrev pub KeepTheirLines : Network → Given → Type 0
 KeepTheirLines net given = net.layout.one_line ≡ true → (e : End) → KeepsItsLine net given e
 
@@ -95,7 +95,7 @@ AreRuns (t ∷ tables) (texts ∷ came) (results ∷ left) =
     (outcome : IsOutcome t texts results) × (isolated : IsIsolated t texts results) × IsPlain t texts results outcome isolated × AreRuns tables came left
 AreRuns _ _ _ = ⊥
 
--- whether the loads are accepted or not: each table was run over what came in at its switch, and led to this
+-- each table was run over what came in at its switch, and led to this, whether its load is accepted or not
 abbrev pub AreOutcomes : List Content → List (List Text) → List Results → Type 0
 AreOutcomes [] [] [] = Unit {0}
 AreOutcomes (t ∷ tables) (texts ∷ came) (results ∷ left) = IsOutcome t texts results × AreOutcomes tables came left

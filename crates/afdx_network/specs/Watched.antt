@@ -26,6 +26,7 @@ pub record IsEnded (t : Content) (texts : List Text) (left : Results) (both : Ta
   pub is_run : IsRun both.1.run
   pub all : both.1.run.finished ≡ true
 
+-- all switches of the network have ended so, in file order
 abbrev pub AreEnded : List Content → List (List Text) → List Results → List (Tally × State) → Type 0
 AreEnded [] [] [] [] = Unit {0}
 AreEnded (t ∷ tables) (texts ∷ came) (results ∷ left) (both ∷ switches) = IsEnded t texts results both × AreEnded tables came left switches

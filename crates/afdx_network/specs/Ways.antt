@@ -22,7 +22,7 @@ pub record IsStageAt (net : Network) (runs : List SwitchRun) (r : Row) (x : Stag
   pub least_is : x.least ≡ least_at net r.switch run.table
   pub bound_is : bound_at net r x.port ≡ Some x.bound
 
--- from that port over a wire, which is not down, to the next switch's row of the link
+-- a way goes on from a stage's port over a wire, which is not down, to the next switch's row of the link
 pub record GoesOver (net : Network) (r : Row) (x : Stage) (next : Row) (leg : Leg) : Type 0 where
   pub wire : Wire
   pub wire_is : wire_to net (ingress next) ≡ Some wire
@@ -31,6 +31,7 @@ pub record GoesOver (net : Network) (r : Row) (x : Stage) (next : Row) (leg : Le
   pub cable : leg.cable ≡ wire.delay
   pub number : next.link.id ≡ r.link.id
 
+-- the stages of a way from this row on, each at the row that the wire before it goes to
 abbrev pub IsWayFrom : Network → List SwitchRun → Row → Stage → List Leg → Type 0
 IsWayFrom net runs r x [] = IsStageAt net runs r x
 IsWayFrom net runs r x (leg ∷ legs) = IsStageAt net runs r x × (next : Row) × GoesOver net r x next leg × IsWayFrom net runs next leg.stage legs

@@ -16,31 +16,35 @@ use Rattle.afdx_network_check.specs.Rules.{HasJitters}
 
 -- ---- networks that differ in their jitters alone
 
--- a row and a table without jitters
+-- a row without its jitter
 abbrev pub bare_link : Link → Link
 bare_link l = record l { jitter = 0 }
 
+-- a table without its jitters
 abbrev pub bare : Content → Content
 bare t = record t { links = map bare_link t.links }
 
+-- the files say the same, and so do the tables but for the jitters
 abbrev pub DiffersInJitters : Network → Network → Type 0
 DiffersInJitters net other = (other.layout ≡ net.layout) × (map bare other.tables ≡ map bare net.tables)
 
 -- ---- what a row has and needs
 
--- in whole microseconds: to begin with the jitter of its source, then what is enough after the whole way to it. If no way within
--- reason leads to it, that is more than any table has
+-- whole microseconds that a row needs to begin with: the jitter of its source; if no way within reason leads to it, more than any table has
 abbrev pub first_needed : (source : Option Row) → ℕ
 first_needed None = 1000000000
 first_needed (Some source) = source.link.jitter / 1000
 
+-- what is enough for a row after the whole way from its source, in whole microseconds; if there is no such way, more than any table has
 abbrev pub needed : (far : Option (ℕ × Delays)) → ℕ
 needed None = 1000000000
 needed (Some far) = least_jitter far.1 far.0
 
+-- a row, with what it has in ns and what it needs in microseconds
 abbrev pub row_with_need : Row → (need : ℕ) → RowNeed
 row_with_need r need = record { switch = r.switch; link = r.link.id; has = r.link.jitter; need = need }
 
+-- what a row needs: to begin with (true), or by the jitters that rows have by now
 abbrev pub need_in : (start : Bool) → Network → Row → RowNeed
 need_in true net r = row_with_need r (first_needed (source_within most_rows net r))
 need_in false net r = row_with_need r (needed (way_within most_rows net r at_once))
@@ -49,17 +53,19 @@ need_in false net r = row_with_need r (needed (way_within most_rows net r at_onc
 abbrev pub is_past : RowNeed → Bool
 is_past n = nat_lt 10000 n.need
 
--- the row, what it needs, and the greatest that a table can have
+-- a row, what it needs, and the greatest jitter that a table can have, in microseconds
 abbrev pub past_short : RowNeed → Short
 past_short n = record { switch = n.switch; link = n.link; need = n.need; has = 10000 }
 
--- the first row that needs more, and all that do
+-- the first row that needs more than a table can have
 abbrev pub past_of : List RowNeed → Option Short
 past_of needs = option_map past_short (find is_past needs)
 
+-- all rows that need more than a table can have
 abbrev pub all_past : List RowNeed → List Short
 all_past needs = map past_short (filter is_past needs)
 
+-- the row has just what it needs, and a table can have that
 abbrev pub is_met : RowNeed → Bool
 is_met n = nat_le n.need 10000 && (n.has == n.need * 1000)
 
@@ -88,9 +94,8 @@ IsBelow net other = AllZip (λ r s. r.link.jitter ≤ s.link.jitter) (rows_of ne
 
 -- ---- what is promised
 
--- these are the needs of all rows of a network that differs from this one in its jitters alone. If none is past what a table can
--- have, each row has what it needs, so that the check accepts that network's jitters. If this network fits and keeps to its lines, these are
--- the least that are enough, or none are enough
+-- the needs of all rows of a network that differs from this one in its jitters alone. If none is past what tables can have, the check
+-- accepts that network; and they are the least that are enough, or none are, if this network fits and keeps to its lines
 pub record AreNeeds (net : Network) (needs : List RowNeed) (past : Option Short) : Type 0 where
   pub turn : Network
   pub alike : DiffersInJitters net turn

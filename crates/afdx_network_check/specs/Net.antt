@@ -18,6 +18,7 @@ use Rattle.afdx_wiring.specs.declared.layout.End.{End}
 use Rattle.afdx_wiring.specs.declared.layout.Wire.{Wire}
 use Rattle.afdx_wiring.specs.File.{Layout, is_end}
 
+-- a network: what its file says, and its switches' tables
 pub record Network : Type 0 where
   pub layout : Layout
   -- one for each switch, in file order
@@ -30,6 +31,7 @@ pub record Row : Type 0 where
 
 -- ---- finding
 
+-- the port at an end of a wire; none if the switch's table has no port of this number
 abbrev pub port_at : Network → End → Option PortRow
 port_at net e = option_and_then (λ t. port_row t e.port) (slice_get net.tables e.switch)
 
@@ -37,6 +39,7 @@ port_at net e = option_and_then (λ t. port_row t e.port) (slice_get net.tables 
 abbrev pub row_in : ℕ → Link → Row
 row_in n = λ l. record { switch = n; link = l }
 
+-- the row of the link of this number at the switch at a place
 abbrev pub row_at : Network → ℕ → ℕ → Option Row
 row_at net switch id = option_and_then (λ t. option_map (row_in switch) (link_row t id)) (slice_get net.tables switch)
 
@@ -68,6 +71,7 @@ rows_on net w = filter (λ r. leads_to w.from.port r.link) (filter (λ r. is_end
 abbrev pub ingress : Row → End
 ingress r = record { switch = r.switch; port = r.link.from }
 
+-- the wire that goes to this port, if one does
 abbrev pub wire_to : Network → End → Option Wire
 wire_to net e = find (λ w. is_end w.to e) net.layout.wires
 
@@ -93,6 +97,7 @@ IsWayBack net r (b ∷ more) =
     (wire_to net (ingress r) ≡ Some b.wire) × (row_at net b.wire.from.switch r.link.id ≡ Some b.row)
     × (leads_to b.wire.from.port b.row.link ≡ true) × IsWayBack net b.row more
 
+-- the row at the end of the way back
 abbrev pub source_of : Row → List Back → Row
 source_of r [] = r
 source_of r (b ∷ more) = source_of b.row more
@@ -112,10 +117,11 @@ rounding_at net switch port = if is_wired net switch port then Some 0 else if ne
 abbrev pub stated_least : Network → (switch : ℕ) → ℕ
 stated_least net switch = option_map_or (λ s. s.least) (slice_get net.layout.switches switch) 0
 
--- a switch with this table takes no less than that, and no more than the table's latency; by so much its latencies may differ
+-- the least time that a switch with this table takes for a frame, in ns: what is stated, but no more than the table's latency
 abbrev pub least_at : Network → (switch : ℕ) → Content → ℕ
 least_at net switch t = min (stated_least net switch) t.latency
 
+-- by how many ns the latencies of a switch with this table may differ
 abbrev pub scatter_at : Network → (switch : ℕ) → Content → ℕ
 scatter_at net switch t = t.latency - least_at net switch t
 
@@ -123,7 +129,7 @@ scatter_at net switch t = t.latency - least_at net switch t
 abbrev pub load_at : Network → (switch : ℕ) → Content → PortRow → Load
 load_at net switch t p = lesser_load (scatter_at net switch t) (rounding_at net switch) t p
 
--- the bound of a priority
+-- the bound of a priority, if there is one
 abbrev pub bound_in : Bounds → Priority → Option ℕ
 bound_in bounds High = bounds.high
 bound_in bounds Low = bounds.low
@@ -139,5 +145,6 @@ AreDelaysBy bound_of net (b ∷ more) d =
     (t : Content) × (p : PortRow) × (bound : ℕ) × (before : Delays) × (slice_get net.tables b.row.switch ≡ Some t) × (port_at net b.wire.from ≡ Some p)
     × (bound_of b.row p ≡ Some bound) × AreDelaysBy bound_of net more before × (d ≡ joined before (hop_of p.speed (least_at net b.row.switch t) bound b.wire.delay))
 
+-- these are the delays by the bounds that rows have in the network's report
 abbrev pub AreDelays : Network → List Back → Delays → Type 0
 AreDelays net backs d = AreDelaysBy (bound_at net) net backs d

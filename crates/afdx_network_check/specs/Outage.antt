@@ -18,18 +18,21 @@ is_cut l e = is_down l.switches e.switch || list_any (λ w. is_end w.from e && w
 abbrev pub is_lost : Layout → Way → Bool
 is_lost l w = list_any (is_cut l) w.ports.items
 
--- the ways that use nothing that is down, and the others
+-- the ways that use nothing that is down
 abbrev pub up_of : Layout → List Way → List Way
 up_of l ways = filter (λ w. not (is_lost l w)) ways
 
+-- the ways that use something that is down
 abbrev pub lost_of : Layout → List Way → List Way
 lost_of l ways = filter (is_lost l) ways
 
 -- ---- the same with none
 
+-- a switch that is not down
 abbrev pub up_switch : Switch → Switch
 up_switch s = record s { down = false }
 
+-- a wire that is not down
 abbrev pub up_wire : Wire → Wire
 up_wire w = record w { down = false }
 

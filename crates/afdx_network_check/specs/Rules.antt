@@ -49,9 +49,11 @@ pub record FitsSwitch (net : Network) (switch : ℕ) (t : Content) : Type 0 wher
   pub latency : stated_least net switch ≤ t.latency
   pub accepted : IsAcceptedWith (scatter_at net switch t) t
 
+-- the table of each switch of a network fits its latencies
 abbrev pub FitSwitches : Network → Type 0
 FitSwitches net = (switch : ℕ) (t : Content) → slice_get net.tables switch ≡ Some t → FitsSwitch net switch t
 
+-- the tables fit together, each is accepted, and so with the latencies of its switch, and the jitters are enough
 pub record IsAcceptedNetwork (net : Network) : Type 0 where
   pub fits : FitsTogether net
   pub loads : All IsAccepted net.tables

@@ -18,9 +18,11 @@ use Rattle.afdx_network_check.specs.Order.{row_before, has_source}
 
 -- ---- exits
 
+-- the port of an exit
 abbrev pub end_of : Exit → End
 end_of x = record { switch = x.switch; port = x.port }
 
+-- the wire that comes from this port
 abbrev pub wire_from : Network → End → Option Wire
 wire_from net e = find (λ w. is_end w.from e) net.layout.wires
 
@@ -28,14 +30,15 @@ wire_from net e = find (λ w. is_end w.from e) net.layout.wires
 abbrev pub leads_out : Network → Exit → Bool
 leads_out net x = not (is_some (wire_from net (end_of x)))
 
--- those of the ports that the row leads to
+-- the exits of a row: the ports that it leads to and from which no wire comes
 abbrev pub exits_at : Network → Row → List Exit
 exits_at net r = filter (leads_out net) (map (λ port. record { link = r.link.id; switch = r.switch; port = port }) r.link.to)
 
+-- the exits of all rows
 abbrev pub exits_of : Network → List Exit
 exits_of net = flat_map (exits_at net) (rows_of net)
 
--- by link, then by switch and port
+-- the order of exits: by link, then by switch and port
 abbrev pub by_link : Exit → Exit → Ordering
 by_link x y = ordering_then (nat_cmp x.link y.link) (ordering_then (nat_cmp x.switch y.switch) (nat_cmp x.port y.port))
 
@@ -67,10 +70,11 @@ IsWayAlong net id line w =
     (r : Row) × (backs : List Back) × (row_before net id line ≡ Some r) × IsWayBack net r backs
     × IsWayOver net (source_of r backs) (record { wire = line; row = r } ∷ backs) w
 
+-- the way of an exit's link to the end of the line there
 abbrev pub IsWayOut : Network → Exit → Way → Type 0
 IsWayOut net x w = IsWayAlong net x.link (line_of x) w
 
--- one for each exit of a link, in their order
+-- the ways of a network: one for each exit of a link, by link, then by switch and port
 abbrev pub AreWaysOf : Network → List Way → Type 0
 AreWaysOf net ways = (exits : List Exit) × IsPermutation (exits_of net) exits × IsSorted by_link exits × AllZip (IsWayOut net) exits ways
 

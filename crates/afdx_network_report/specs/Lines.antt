@@ -11,12 +11,13 @@ use Rattle.afdx_wiring.specs.Lines.{as_line}
 abbrev pub Names : Type 0
 Names = List (List ℕ)
 
+-- the name of the switch at this place
 abbrev pub name_of : Names → ℕ → List ℕ
 name_of names switch = unwrap_or (slice_get names switch) []
 
 -- ---- ways
 
--- as in the network file: the name of the switch, a dot and the number of the port
+-- a port as in the network file: the name of the switch, a dot and the number of the port
 abbrev pub end_text : Names → End → List ℕ
 end_text names e = name_of names e.switch ++ codes "." ++ decimal e.port
 
@@ -24,10 +25,11 @@ end_text names e = name_of names e.switch ++ codes "." ++ decimal e.port
 abbrev pub last_end : Way → End
 last_end w = unwrap_or (slice_get w.ports.items (length w.ports.items - 1)) w.from
 
--- these, with a space before each
+-- ports, with a space before each
 abbrev pub ends_text : Names → List End → List ℕ
 ends_text names = flat_map (λ e. codes " " ++ end_text names e)
 
+-- numbers, with a space before each
 abbrev pub numbers_text : List ℕ → List ℕ
 numbers_text = flat_map (λ n. codes " " ++ decimal n)
 
@@ -39,13 +41,15 @@ way_text names w =
     ++ codes " ways" ++ ends_text names w.ports.items ++ codes " least " ++ decimal w.delays.least ++ codes " most " ++ decimal w.delays.most
     ++ codes " jitter" ++ numbers_text w.jitters.items
 
+-- the most that a frame takes on any of these ways, in ns
 abbrev pub longest : List Way → ℕ
 longest = fold (λ (most : ℕ) (w : Way). max most w.delays.most) 0
 
--- the first that may take as long as any
+-- the first way that may take as long as any
 abbrev pub greatest_of : List Way → Option Way
 greatest_of ways = find (λ w. w.delays.most == longest ways) ways
 
+-- the line of such a way: what a frame takes on it at most, in ns, its link, and where it leads out
 abbrev pub greatest_text : Names → Way → List ℕ
 greatest_text names w = codes "greatest " ++ decimal w.delays.most ++ codes " link " ++ decimal w.link ++ codes " to " ++ end_text names (last_end w)
 
@@ -65,9 +69,11 @@ accepted_text names one_line ways lost =
 
 -- ---- jitters
 
+-- what the row of a link at a switch needs, in whole microseconds
 abbrev pub jitter_line : Names → RowNeed → List ℕ
 jitter_line names r = as_line (codes "switch " ++ name_of names r.switch ++ codes " link " ++ decimal r.link ++ codes " jitter_us " ++ decimal r.need)
 
+-- the lines of what all rows need
 abbrev pub jitter_text : Names → List RowNeed → List ℕ
 jitter_text names = flat_map (jitter_line names)
 

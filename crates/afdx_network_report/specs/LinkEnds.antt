@@ -10,7 +10,7 @@ use Rattle.afdx_network_check.specs.declared.ways.Way.{Way}
 use Rattle.afdx_network_report.specs.declared.link_ends.LinkEnd.{LinkEnd}
 use Rattle.afdx_network_report.specs.Lines.{Names, end_text, last_end}
 
--- that of a way
+-- the end of a way, with what is promised there
 abbrev pub link_end_of : Way → LinkEnd
 link_end_of w = record { link = w.link; from = Some w.from; to = last_end w; bounds = Some w.delays }
 
@@ -22,10 +22,11 @@ number_text n = option_map_or decimal n (codes "-")
 abbrev pub come_in_text : Names → Option End → List ℕ
 come_in_text names from = option_map_or (end_text names) from (codes "-")
 
--- the least and the greatest of some delays, and what is promised of them
+-- the least and the greatest delay, in ns
 abbrev pub delays_text : Delays → List ℕ
 delays_text d = codes " least " ++ number_text (least_of d) ++ codes " greatest " ++ number_text (greatest_of d)
 
+-- the least and the greatest delay that are promised, in ns
 abbrev pub bounds_text : Option Bounds → List ℕ
 bounds_text bounds = codes " bound " ++ number_text (option_map (λ b. b.least) bounds) ++ codes " to " ++ number_text (option_map (λ b. b.most) bounds)
 

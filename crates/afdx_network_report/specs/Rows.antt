@@ -19,9 +19,11 @@ joined (text ∷ texts) = text ++ flat_map (λ next. codes ";" ++ next) texts
 
 -- ---- ways
 
+-- the columns of ways
 abbrev pub way_columns : List (List ℕ)
 way_columns = codes "link" ∷ codes "from" ∷ codes "to" ∷ codes "ways" ∷ codes "least" ∷ codes "most" ∷ codes "jitter" ∷ []
 
+-- the row of a way, with these texts for its ends, its ports and its jitters
 abbrev pub fields_row : List ℕ → List ℕ → List ℕ → List ℕ → Way → List ℕ
 fields_row from to ways jitter w = row way_columns ((codes "link", decimal w.link) ∷ (codes "from", from) ∷ (codes "to", to) ∷ (codes "ways", ways)
     ∷ (codes "least", decimal w.delays.least) ∷ (codes "most", decimal w.delays.most) ∷ (codes "jitter", jitter) ∷ [])
@@ -36,12 +38,13 @@ way_row names w =
 abbrev pub lost_row : Names → Way → List ℕ
 lost_row names w = row way_columns ((codes "link", decimal w.link) ∷ (codes "to", end_text names (last_end w)) ∷ [])
 
--- these ways, and then those over which nothing comes
+-- the rows of ways, and then of those over which nothing comes
 abbrev pub ways_rows : Names → (ways lost : List Way) → List ℕ
 ways_rows names ways lost = heading way_columns ++ flat_map (way_row names) ways ++ flat_map (lost_row names) lost
 
 -- ---- jitters
 
+-- the columns of jitters
 abbrev pub need_columns : List (List ℕ)
 need_columns = codes "switch" ∷ codes "link" ∷ codes "jitter_us" ∷ []
 
@@ -49,14 +52,17 @@ need_columns = codes "switch" ∷ codes "link" ∷ codes "jitter_us" ∷ []
 abbrev pub need_row : Names → RowNeed → List ℕ
 need_row names r = row need_columns ((codes "switch", name_of names r.switch) ∷ (codes "link", decimal r.link) ∷ (codes "jitter_us", decimal r.need) ∷ [])
 
+-- the heading, and the needs of all rows
 abbrev pub needs_rows : Names → List RowNeed → List ℕ
 needs_rows names rows = heading need_columns ++ flat_map (need_row names) rows
 
 -- ---- delays from end to end
 
+-- the least delay that is promised, in ns
 abbrev pub least_bound : LinkEnd → Option ℕ
 least_bound e = option_map (λ b. b.least) e.bounds
 
+-- the greatest delay that is promised, in ns
 abbrev pub bound_of : LinkEnd → Option ℕ
 bound_of e = option_map (λ b. b.most) e.bounds
 
@@ -72,6 +78,6 @@ end_fields columns from to e d = row columns ((codes "kind", codes "way") ∷ (c
     ∷ (codes "least_bound", optional (least_bound e)) ∷ (codes "bound", optional (bound_of e))
     ∷ (codes "slack", slack_text (greatest_of d) (bound_of e)) ∷ (codes "slack_per_mille", share_text (greatest_of d) (bound_of e)) ∷ [])
 
--- of a link and a port at which it leads out of the network
+-- the row of a link and a port at which it leads out of the network
 abbrev pub link_end_row : List (List ℕ) → Names → LinkEnd → Delays → List ℕ
 link_end_row columns names e d = end_fields columns (come_in_field names e.from) (end_text names e.to) e d

@@ -14,7 +14,7 @@ use Rattle.afdx_origins.specs.Origins.{sent_from, of_link, CameFirst, IsSummary}
 abbrev pub EndApart : List Departure → Type 0
 EndApart sent = (e : End) (j k : ℕ) (x y : Sent) → slice_get (sent_from sent e) j ≡ Some x → slice_get (sent_from sent e) k ≡ Some y → x.end ≡ y.end → j ≡ k
 
--- then a frame came first at one instant alone
+-- if no port sent two copies that ended at one instant, a frame came first at one instant alone
 abbrev pub OriginIsOne : Type 0
 OriginIsOne = (net : Network) (sent : List Departure) → EndApart sent → (r : Row) (x : Sent) (first other : ℕ)
     → CameFirst net sent r x first → CameFirst net sent r x other → first ≡ other
@@ -24,7 +24,7 @@ abbrev pub KeepBounds : Network → List Departure → Type 0
 KeepBounds net sent = (e : End) (link : ℕ) (r : Row) (p : PortRow) (bound : ℕ) → row_at net e.switch link ≡ Some r → port_at net e ≡ Some p → bound_at net r p ≡ Some bound
     → All (λ x. x.end ≤ x.item.stamp + bound) (of_link link (sent_from sent e))
 
--- then no delay from end to end is greater than the sum of the bounds and cables on the way
+-- if copies keep to the bounds, no delay from end to end is greater than the sum of the bounds and cables on the way
 abbrev pub NoneTakesMoreThanItsWay : Type 0
 NoneTakesMoreThanItsWay = (net : Network) (sent : List Departure) → KeepBounds net sent → (w : Way) (link : ℕ) (e : End) (d : Delays)
     → IsWayAlong net link (record { from = e; to = e; delay = 0; down = false }) w → IsSummary net sent link e d → IfSome d.range (λ range. range.greatest ≤ w.delays.most)

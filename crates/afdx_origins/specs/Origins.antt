@@ -17,13 +17,15 @@ pub record Origins : Type 0 where
   pub net : Network
   pub sent : List Departure
 
--- those of a port, in order, and those of a link
+-- what a port sent, in order
 abbrev pub sent_from : List Departure → End → List Sent
 sent_from all e = map (λ d. d.copy) (filter (λ d. is_end d.from e) all)
 
+-- the copies of a link, in order
 abbrev pub of_link : ℕ → List Sent → List Sent
 of_link link copies = filter (λ x. x.item.link == link) copies
 
+-- what is known after one more copy was sent from this port
 abbrev pub after_sending : End → Sent → Origins → Origins
 after_sending e x o = record { net = o.net; sent = o.sent ++ record { from = e; copy = x } ∷ [] }
 
@@ -43,12 +45,14 @@ CameOver net sent r x (h ∷ hops) first =
     (wire_to net (ingress r) ≡ Some h.wire) × (row_before net r.link.id h.wire ≡ Some h.row) × Contains (of_link r.link.id (sent_from sent h.wire.from)) h.copy
     × (h.copy.end + h.wire.delay ≡ x.item.stamp) × CameOver net sent h.row h.copy hops first
 
+-- the frame of a copy had come to its first switch at this instant, over wires or none
 abbrev pub CameFirst : Network → List Departure → Row → Sent → ℕ → Type 0
 CameFirst net sent r x first = (hops : List Hop) × CameOver net sent r x hops first
 
 -- ---- delays
 
--- from there to the instant from which the line is free again, in nanoseconds, for a copy of a link that a port of a switch sent
+-- a delay from end to end, in nanoseconds: from when the frame came first to the instant from which the line is free again, for a copy of a
+-- link that a port of a switch sent
 pub record IsDelay (net : Network) (sent : List Departure) (link : ℕ) (e : End) (x : Sent) (delay : ℕ) : Type 0 where
   pub row : Row
   pub first : ℕ
@@ -56,7 +60,7 @@ pub record IsDelay (net : Network) (sent : List Departure) (link : ℕ) (e : End
   pub came : CameFirst net sent row x first
   pub delay_is : delay ≡ x.end - first
 
--- those of the copies of a link that a port sent, in their order
+-- the delays of the copies of a link that a port sent, in their order
 abbrev pub AreDelays : Network → List Departure → ℕ → End → List ℕ → Type 0
 AreDelays net sent link e delays = AllZip (IsDelay net sent link e) (of_link link (sent_from sent e)) delays
 
@@ -64,6 +68,6 @@ AreDelays net sent link e delays = AllZip (IsDelay net sent link e) (of_link lin
 abbrev pub HasNoRow : Network → ℕ → End → Type 0
 HasNoRow net link e = option_and_then (leading e.port) (row_at net e.switch link) ≡ None
 
--- what is reported of them
+-- what is reported of the delays of a link at a port
 abbrev pub IsSummary : Network → List Departure → ℕ → End → Delays → Type 0
 IsSummary net sent link e d = (delays : List ℕ) × AreDelays net sent link e delays × (d ≡ summary_of delays)

@@ -11,11 +11,12 @@ use Rattle.afdx_port.specs.Service.{service, before, sent_of}
 use Rattle.afdx_core.specs.Merge.{Arrival, Rises, by_stamp}
 use Rattle.afdx_paced.specs.Paced.{Paced, sends_up_to, out_up_to, after_put}
 
--- the arrivals at an instant or later, and those before it
+-- the arrivals at an instant or later
 abbrev pub from : ℕ → List Arrival → List Arrival
 from h [] = []
 from h (a ∷ arrivals) = if nat_le h a.frame.stamp then a ∷ from h arrivals else from h arrivals
 
+-- the arrivals before an instant
 abbrev pub below : ℕ → List Arrival → List Arrival
 below h [] = []
 below h (a ∷ arrivals) = if nat_le h a.frame.stamp then below h arrivals else a ∷ below h arrivals
@@ -40,7 +41,7 @@ abbrev pub LaterRecordsChangeNothing : Type 0
 LaterRecordsChangeNothing = (v : Paced) (port : ℕ) (frame : Record) (h : ℕ) (p : PortRow) → h ≤ frame.stamp
     → out_up_to (after_put port frame v) (Some h) p ≡ out_up_to v (Some h) p
 
--- nor of what is sent up to it
+-- a record that comes in at an instant or later changes nothing of what is sent up to it
 abbrev pub LaterRecordsSendNothing : Type 0
 LaterRecordsSendNothing = (v : Paced) (port : ℕ) (frame : Record) (h : ℕ) (p : PortRow) → h ≤ frame.stamp
     → sends_up_to (after_put port frame v) (Some h) p ≡ sends_up_to v (Some h) p

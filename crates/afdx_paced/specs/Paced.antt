@@ -20,6 +20,7 @@ pub record Lane : Type 0 where
   pub came : List Record
   pub left : List Record
 
+-- a switch that is fed by time
 pub record Paced : Type 0 where
   pub table : Content
   -- by rising port
@@ -31,13 +32,15 @@ pub record Paced : Type 0 where
   -- the switch keeps its lists whole
   pub keeps : Bool
 
--- what came in, as captures, and the program's merge of it
+-- what came in at a port, as a capture
 abbrev pub capture_of : Lane → Capture
 capture_of l = record { port = l.port; records = l.came }
 
+-- what came in at all ports
 abbrev pub captures_of : List Lane → List Capture
 captures_of lanes = map capture_of lanes
 
+-- the program's merge of what came in
 abbrev pub arrivals : Paced → List Arrival
 arrivals v = merged (captures_of v.lanes)
 
@@ -45,13 +48,15 @@ arrivals v = merged (captures_of v.lanes)
 abbrev pub sends_up_to : Paced → Option ℕ → PortRow → List Sent
 sends_up_to v h p = sent_up_to v.table (arrivals v) h p
 
--- the records that leave it so
+-- the records that leave a port so, up to an instant; all, if there is none
 abbrev pub out_up_to : Paced → Option ℕ → PortRow → List Record
 out_up_to v h p = map (written (arrivals v)) (sends_up_to v h p)
 
+-- nothing came in at the port or left there
 abbrev pub fresh_lane : PortRow → Lane
 fresh_lane p = record { port = p.id; came = []; left = [] }
 
+-- a switch of this table to which nothing came, at the instant 0
 abbrev pub fresh_paced : (keeps : Bool) → Content → Paced
 fresh_paced keeps t = record { table = t; lanes = map fresh_lane t.ports; reached = 0; failed = false; keeps = keeps }
 
@@ -62,36 +67,44 @@ abbrev pub changed : ℕ → (Lane → Lane) → List Lane → List Lane
 changed port f [] = []
 changed port f (l ∷ lanes) = if l.port == port then f l ∷ lanes else l ∷ changed port f lanes
 
+-- the lane of the port of a number
 abbrev pub lane_at : Paced → ℕ → Option Lane
 lane_at v port = find (λ l. l.port == port) v.lanes
 
--- one more record came in, or left
+-- one more record came in
 abbrev pub came_in : Record → Lane → Lane
 came_in frame l = record { port = l.port; came = l.came ++ frame ∷ []; left = l.left }
 
+-- one more record left
 abbrev pub went_out : Record → Lane → Lane
 went_out frame l = record { port = l.port; came = l.came; left = l.left ++ frame ∷ [] }
 
+-- the switch after a record came in at a port
 abbrev pub after_put : ℕ → Record → Paced → Paced
 after_put port frame v = record { table = v.table; lanes = changed port (came_in frame) v.lanes; reached = v.reached; failed = v.failed; keeps = v.keeps }
 
+-- the switch after it went on to this instant
 abbrev pub after_going : ℕ → Paced → Paced
 after_going h v = record { table = v.table; lanes = v.lanes; reached = h; failed = v.failed; keeps = v.keeps }
 
+-- the switch after a record left a port
 abbrev pub after_leaving : ℕ → Record → Paced → Paced
 after_leaving port frame v = record { table = v.table; lanes = changed port (went_out frame) v.lanes; reached = v.reached; failed = v.failed; keeps = v.keeps }
 
--- the first refusal that is none of memory
+-- a record is early whose stamp is before the instant that the switch has come to, or before that of the last one at its port
 abbrev pub early_at : ℕ → ℕ → Lane → Option PacedFault
 early_at h stamp l = if nat_lt stamp h || nat_lt stamp (last_stamp 0 l.came) then Some Early else None
 
+-- the first refusal other than one of memory: the table has no such port, or the record is early
 abbrev pub refusal_by : ℕ → ℕ → Option Lane → Option PacedFault
 refusal_by h stamp None = Some NoSuchPort
 refusal_by h stamp (Some l) = early_at h stamp l
 
+-- the first refusal of a record with this stamp at the port of a number, other than one of memory
 abbrev pub put_refusal : Paced → ℕ → ℕ → Option PacedFault
 put_refusal v port stamp = refusal_by v.reached stamp (lane_at v port)
 
+-- a fault, unless it is one of memory
 abbrev pub not_of_memory : PacedFault → Option PacedFault
 not_of_memory Memory = None
 not_of_memory NoSuchPort = Some NoSuchPort
@@ -107,11 +120,12 @@ pub record GoesOut (old new : Paced) (port : ℕ) (out : Record) : Type 0 where
   pub next : out_up_to old (Some old.reached) row ≡ lane.left ++ out ∷ rest
   pub after : new ≡ after_leaving port out old
 
--- all of it went out before, or the table has no such port
+-- all that leaves a port up to the instant went out before, or the table has no such port
 pub record NoneGoesOut (old new : Paced) (port : ℕ) : Type 0 where
   pub all : (lane : Lane) (row : PortRow) → lane_at old port ≡ Some lane → port_row old.table port ≡ Some row → lane.left ≡ out_up_to old (Some old.reached) row
   pub same : new ≡ old
 
+-- the next record of a port went out, if there was one
 abbrev pub IsNextOut : Paced → Paced → ℕ → Option Record → Type 0
 IsNextOut old new port None = NoneGoesOut old new port
 IsNextOut old new port (Some out) = GoesOut old new port out
@@ -125,7 +139,7 @@ IsNextSent v port next = (lane : Lane) (row : PortRow) → lane_at v port ≡ So
 abbrev pub IsQuietUntil : Paced → Option ℕ → Type 0
 IsQuietUntil v h = (p : PortRow) → Contains v.table.ports p → out_up_to v h p ≡ out_up_to v (Some v.reached) p
 
--- such an instant, which it has not passed; if there is none, nothing is left
+-- an instant that it has not passed, before which nothing starts; if there is none, nothing is left
 abbrev pub IsNext : Paced → Option ℕ → Type 0
 IsNext v None = IsQuietUntil v None
 IsNext v (Some n) = (v.reached ≤ n) × IsQuietUntil v (Some n)

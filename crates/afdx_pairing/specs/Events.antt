@@ -10,6 +10,7 @@ pub record Numbered : Type 0 where
   pub number : ℕ
   pub frame : Record
 
+-- the number and the stamp of a record, as they are reported
 abbrev pub mark_of : Numbered → Mark
 mark_of n = record { number = n.number; stamp = n.frame.stamp }
 

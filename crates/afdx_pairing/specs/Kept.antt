@@ -26,12 +26,12 @@ abbrev pub MayCome : Limits → Option ℕ → Record → Type 0
 MayCome m None f = ⊥
 MayCome m (Some last) f = last < f.stamp + most_of m
 
+-- the bytes of records, in order
 abbrev pub bytes_of : List Record → List (List ℕ)
 bytes_of records = map (λ r. r.bytes) records
 
--- these records are what left a port of a link's own frames, of which its account passed some: they are the passed frames one by one, in
--- their order, each within its bounds. But some records at the beginning may be of frames that came before, and some passed frames at
--- the end may leave later
+-- a port's records for a link are the frames that its account passed, one by one, in order and within bounds; but some at the beginning may
+-- be of earlier frames, and some passed frames at the end may leave later
 pub record IsKeptFor (m : Limits) (last : Option ℕ) (own passed out : List Record) : Type 0 where
   pub before : List Record
   pub seen : List Record
@@ -47,19 +47,21 @@ pub record IsKeptFor (m : Limits) (last : Option ℕ) (own passed out : List Rec
 
 -- ---- what is told of a recording
 
--- what came of a link, with whether its account passed it, what left for it at a port, and that nothing leaves before an instant any more,
--- in the order in which these are taken
+-- what is seen of a link at a port, in order: a frame came, with whether its account passed it; a record left; or nothing leaves before an
+-- instant any more
 pub data Sight : Type 0 where
   Came : Numbered → Bool → Sight
   Left : Numbered → Sight
   Until : ℕ → Sight
 
+-- the frames that came
 abbrev pub own_of : List Sight → List Record
 own_of [] = []
 own_of (Came n passes ∷ sights) = n.frame ∷ own_of sights
 own_of (Left n ∷ sights) = own_of sights
 own_of (Until at ∷ sights) = own_of sights
 
+-- the frames that came and were passed
 abbrev pub passed_of : List Sight → List Record
 passed_of [] = []
 passed_of (Came n true ∷ sights) = n.frame ∷ passed_of sights
@@ -67,6 +69,7 @@ passed_of (Came n false ∷ sights) = passed_of sights
 passed_of (Left n ∷ sights) = passed_of sights
 passed_of (Until at ∷ sights) = passed_of sights
 
+-- the records that left
 abbrev pub left_of : List Sight → List Record
 left_of [] = []
 left_of (Came n passes ∷ sights) = left_of sights
@@ -82,35 +85,37 @@ AreInOrder m (Left n ∷ sights) =
     AllByRecursion (λ f. left_at m n.frame ≤ f.stamp) (own_of sights) × AllByRecursion (λ r. left_at m n.frame ≤ left_at m r) (left_of sights) × AreInOrder m sights
 AreInOrder m (Until at ∷ sights) = AllByRecursion (λ r. at ≤ left_at m r) (left_of sights) × AreInOrder m sights
 
--- what is held after one, and what it tells
+-- what is held after one of these
 abbrev pub after_one : Pairing → Sight → Pairing
 after_one p (Came n passes) = with_frame p n passes
 after_one p (Left n) = with_left p n
 after_one p (Until at) = kept_at at p
 
+-- what is told at one of these
 abbrev pub told_by_one : Pairing → Sight → List Event
 told_by_one p (Came n passes) = []
 told_by_one p (Left n) = left_told p n
 told_by_one p (Until at) = gone_told at p
 
--- after all, and what all tell
+-- what is held after all of these
 abbrev pub after_all : Pairing → List Sight → Pairing
 after_all p [] = p
 after_all p (s ∷ sights) = after_all (after_one p s) sights
 
+-- what all of these tell
 abbrev pub told_by_all : Pairing → List Sight → List Event
 told_by_all p [] = []
 told_by_all p (s ∷ sights) = told_by_one p s ++ told_by_all (after_one p s) sights
 
--- with what becomes of the frames that wait in the end
+-- what all of these tell, and what becomes of the frames that wait in the end
 abbrev pub all_told : Pairing → Option ℕ → List Sight → List Event
 all_told p last sights = told_by_all p sights ++ end_told (after_all p sights) last
 
--- what does not speak against a switch
+-- an event does not speak against a switch
 abbrev pub IsFine : Event → Type 0
 IsFine e = differs e ≡ false
 
--- if nothing speaks against it, the records are what left of the frames
+-- if nothing speaks against a switch, the records are what left of the frames
 abbrev pub FineIsKept : Type 0
 FineIsKept = (m : Limits) (last : Option ℕ) (sights : List Sight) → AreInOrder m sights
     → AllByRecursion IsFine (all_told (at_first m) last sights) → IsKeptFor m last (own_of sights) (passed_of sights) (left_of sights)

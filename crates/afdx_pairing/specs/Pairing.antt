@@ -25,7 +25,7 @@ at_first m = record { limits = m; waiting = []; policed = []; begun = false }
 
 -- ---- a frame came
 
--- it waits if the account passed it
+-- a frame came: it waits if the account passed it
 abbrev pub with_frame : Pairing → Numbered → Bool → Pairing
 with_frame p n true = record p { waiting = p.waiting ++ n ∷ [] }
 with_frame p n false = record p { policed = p.policed ++ n ∷ [] }
@@ -36,6 +36,7 @@ with_frame p n false = record p { policed = p.policed ++ n ∷ [] }
 abbrev pub gone_by : Limits → ℕ → List Numbered → ℕ
 gone_by m at ns = position_or_len (λ n. stays m at n.frame) ns
 
+-- what is held of frames from an instant on: those that came more than twice the bound before are let go
 abbrev pub kept_at : ℕ → Pairing → Pairing
 kept_at at p = record p { waiting = drop (gone_by p.limits at p.waiting) p.waiting; policed = drop (gone_by p.limits at p.policed) p.policed }
 
@@ -53,14 +54,15 @@ taken_for m came left =
     else if is_late m came.frame left.frame then Late pair
     else Kept pair
 
--- and without one: it may be of a frame from before the recording if it left soon after that began, none was paired before it, and it has
--- the bytes of no frame that was policed then; else it is extra
+-- what a record without such a frame is taken for: one of a frame from before the recording if it left soon after that began, none was
+-- paired before it, and no frame that was policed then has its bytes; else it is extra
 abbrev pub taken_alone : Pairing → Numbered → Event
 taken_alone p left =
     if not p.begun && nat_lt (left_at p.limits left.frame) p.limits.before && not (list_any (λ n. came_within p.limits 2 n.frame left.frame) p.policed)
     then Before (mark_of left)
     else Extra (mark_of left) (option_map mark_of (find (λ n. came_within p.limits 1 n.frame left.frame) p.policed))
 
+-- nothing left of these frames
 abbrev pub missing : List Numbered → List Event
 missing ns = map (λ n. Missing (mark_of n)) ns
 
@@ -69,10 +71,12 @@ abbrev pub paired : Option ℕ → Pairing → Pairing
 paired None p = p
 paired (Some i) p = record p { waiting = drop (i + 1) p.waiting; begun = true }
 
+-- what a record is taken for with its partner
 abbrev pub taken_with : Limits → Option Numbered → Numbered → List Event
 taken_with m None left = []
 taken_with m (Some came) left = taken_for m came left ∷ []
 
+-- what a record tells: the frames before its partner are missing, and what it is taken for
 abbrev pub pairing_told : Option ℕ → Pairing → Numbered → List Event
 pairing_told None p left = taken_alone p left ∷ []
 pairing_told (Some i) p left = missing (take i p.waiting) ++ taken_with p.limits (slice_get p.waiting i) left
@@ -81,12 +85,13 @@ pairing_told (Some i) p left = missing (take i p.waiting) ++ taken_with p.limits
 abbrev pub gone_told : ℕ → Pairing → List Event
 gone_told at p = missing (take (gone_by p.limits at p.waiting) p.waiting)
 
--- what is held after a record, and what it tells
+-- what is held after a record left
 abbrev pub with_left : Pairing → Numbered → Pairing
 with_left p left =
     let kept = kept_at (left_at p.limits left.frame) p in
     paired (partner kept left.frame) kept
 
+-- what a record that left tells: the frames that are let go by then, and what it is taken for
 abbrev pub left_told : Pairing → Numbered → List Event
 left_told p left =
     let at = left_at p.limits left.frame in
@@ -100,5 +105,6 @@ abbrev pub ended : Limits → Option ℕ → Numbered → Event
 ended m None n = Missing (mark_of n)
 ended m (Some last) n = if nat_lt last (n.frame.stamp + most_of m) then After (mark_of n) else Missing (mark_of n)
 
+-- what becomes of all frames that still wait
 abbrev pub end_told : Pairing → Option ℕ → List Event
 end_told p last = map (ended p.limits last) p.waiting

@@ -9,6 +9,7 @@ plain_bytes (Owned v) = v.items
 plain_bytes (Shared p) = p
 plain_bytes (Lent s) = s.now
 
+-- whether bytes are lent
 abbrev pub is_lent : {Z : Type 0} → Bytes Z → Bool
 is_lent (Owned v) = false
 is_lent (Shared p) = false

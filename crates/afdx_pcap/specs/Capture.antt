@@ -23,7 +23,7 @@ format_of magic =
     else if magic == 0x4d3cb2a1 then Some (record { endian = Little; resolution = Nanos })
     else None
 
--- version 2.4 and link type 1, or the first of them that is another
+-- pcap 2.4: version 2.4 and link type 1, or the first of them that is another
 abbrev pub checked_header : Option Format → List ℕ → Result Format PcapFault
 checked_header None bytes = Err Magic
 checked_header (Some f) bytes =
@@ -44,7 +44,7 @@ abbrev pub parts_of_second : Resolution → ℕ
 parts_of_second Micros = 1000000
 parts_of_second Nanos = 1000000000
 
--- nanoseconds of such a part
+-- nanoseconds of a part of a second
 abbrev pub nanos : Resolution → ℕ
 nanos Micros = 1000
 nanos Nanos = 1
@@ -58,7 +58,7 @@ head_of e bytes = record {
   original = field e 12 4 bytes;
 }
 
--- nanoseconds of the stamp that a record's header gives
+-- pcap 2.4: the stamp that a record's header gives, in nanoseconds
 abbrev pub stamp_of : Resolution → Head → ℕ
 stamp_of resolution h = h.seconds * second + h.fraction * nanos resolution
 

@@ -29,6 +29,7 @@ pub record Taking : Type 0 where
   pub bytes : List ℕ
   pub given : ℕ
 
+-- a reader's bytes, as records are taken from them
 abbrev pub as_taking : Reading → Taking
 as_taking r = record { bytes = r.bytes; given = r.given }
 
@@ -46,12 +47,12 @@ abbrev pub AreFirst : List ℕ → List Record → Type 0
 AreFirst bytes [] = Unit {0}
 AreFirst bytes (r ∷ rs) = (rest : List ℕ) × Holds bytes (r ∷ rs) rest
 
--- these are the records that were taken so far
+-- the records that were taken so far are these
 pub record HasTaken (t : Taking) (rs : List Record) : Type 0 where
   pub first : AreFirst t.bytes rs
   pub count : length rs ≡ t.given
 
--- one more is taken
+-- one more record is taken
 abbrev pub taking_on : Taking → Taking
 taking_on t = record t { given = t.given + 1 }
 

@@ -1,8 +1,7 @@
 -- A record of a capture, as contracts see it.
 use Rattle.std.specs.Prelude.{ℕ, ◌≤◌, List, length}
 
--- its instant in nanoseconds, the number of bytes that the frame had on the line,
--- and the bytes that were captured
+-- a record: its instant in nanoseconds, the number of bytes that the frame had on the line, and the bytes that were captured
 pub record Record : Type 0 where
   pub stamp : ℕ
   pub original : ℕ
@@ -12,6 +11,7 @@ pub record Record : Type 0 where
 abbrev pub captured_limit : ℕ
 captured_limit = 262144
 
+-- a record holds no more than the most bytes
 abbrev pub IsWithinLimit : Record → Type 0
 IsWithinLimit r = length r.bytes ≤ captured_limit
 

@@ -13,6 +13,7 @@ header_text =
     ∷ 0 ∷ 0 ∷ 0 ∷ 0 ∷ 0 ∷ 0 ∷ 0 ∷ 0
     ∷ 0 ∷ 0 ∷ 4 ∷ 0 ∷ 1 ∷ 0 ∷ 0 ∷ 0 ∷ []
 
+-- pcap 2.4, as it is written: a number of four bytes, the lowest first
 abbrev pub word : ℕ → List ℕ
 word n = little_bytes 4 n
 
@@ -21,9 +22,11 @@ unfoldable pub head_text : Record → List ℕ
 head_text r =
     word (r.stamp / second) ++ word (r.stamp % second) ++ word (length r.bytes) ++ word (length r.bytes)
 
+-- pcap 2.4: a record: its header, and its bytes
 abbrev pub record_text : Record → List ℕ
 record_text r = head_text r ++ r.bytes
 
+-- pcap 2.4: a capture: the header of the file, and its records
 abbrev pub capture_text : List Record → List ℕ
 capture_text rs = header_text ++ flat_map record_text rs
 

@@ -21,7 +21,7 @@ fits s admitted x = nat_le (x.size + occupied s (came s x) admitted) s.buffer
 abbrev pub admit : Settings → List Item → Item → List Item
 admit s admitted x = if fits s admitted x then admitted ++ x ∷ [] else admitted
 
--- those of the feed that join, after the ones that were admitted before it
+-- the admitted items after all of a feed was offered, one by one
 abbrev pub admit_all : Settings → List Item → List Item → List Item
 admit_all s admitted [] = admitted
 admit_all s admitted (x ∷ feed) = admit_all s (admit s admitted x) feed

@@ -18,12 +18,12 @@ abbrev pub instant : Event → ℕ
 instant (sending s) = s.begin
 instant (aging a) = a.at
 
--- the instant from which the line is free after it
+-- the instant from which the line is free after an event
 abbrev pub free_after : Event → ℕ
 free_after (sending s) = s.end
 free_after (aging a) = a.at
 
--- the item that it is about
+-- the item that an event is about
 abbrev pub item_of : Event → Item
 item_of (sending s) = s.item
 item_of (aging a) = a.item
@@ -58,7 +58,7 @@ fate s b x = if nat_lt s.max_delay (b - x.stamp) then aging (record { item = x; 
 unfoldable pub next : Settings → ℕ → Item → List Item → Event
 next s free first rest = fate s (max free (came s first)) (in_turn s free first rest)
 
--- the items that wait after it
+-- the items that wait after an event
 unfoldable pub others : Settings → ℕ → Item → List Item → List Item
 others s free first rest = remove (first ∷ rest) (turn s (max free (came s first)) (first ∷ rest))
 
@@ -77,12 +77,13 @@ service s free items = serve (length items) s free items
 abbrev pub before : ℕ → List Event → List Event
 before t events = filter (λ event. nat_lt (instant event) t) events
 
--- what is sent, and what is discarded, in order
+-- what is sent by these events, in order
 abbrev pub sent_of : List Event → List Sent
 sent_of [] = []
 sent_of (sending s ∷ events) = s ∷ sent_of events
 sent_of (aging a ∷ events) = sent_of events
 
+-- what is discarded by these events, in order
 abbrev pub aged_of : List Event → List Aged
 aged_of [] = []
 aged_of (sending s ∷ events) = aged_of events

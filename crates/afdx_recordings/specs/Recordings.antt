@@ -63,11 +63,11 @@ AreOffsetsOf text offsets = FoldsTo SetsOffset no_offsets (parts_of text) offset
 abbrev pub no_outputs : Outputs
 no_outputs = record { by_port = replicate 25 false }
 
--- all ports were
+-- all ports were recorded
 abbrev pub all_outputs : Outputs
 all_outputs = record { by_port = replicate 25 true }
 
--- the same outputs, and this one
+-- the same outputs, and the port of this number
 abbrev pub with_output : Outputs → ℕ → Outputs
 with_output outputs port = record { by_port = slice_set outputs.by_port port true }
 

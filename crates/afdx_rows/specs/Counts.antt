@@ -9,16 +9,17 @@ use Rattle.afdx_csv.specs.Csv.{row}
 
 -- ---- columns
 
--- those of the report, by the words of its lines
+-- the columns of the report, by the words of its lines
 abbrev pub count_columns : List (List ℕ)
 count_columns = codes "kind" ∷ codes "port" ∷ codes "link" ∷ codes "priority" ∷ codes "seen" ∷ codes "cut" ∷ codes "short" ∷ codes "long" ∷ codes "foreign"
     ∷ codes "no-link" ∷ codes "wrong-port" ∷ codes "too-big" ∷ codes "clean" ∷ codes "passed" ∷ codes "policed" ∷ codes "offered" ∷ codes "full"
     ∷ codes "aged" ∷ codes "sent" ∷ []
 
--- and of the verdict
+-- the columns of a run: those of its report, and of its verdict
 abbrev pub run_columns : List (List ℕ)
 run_columns = count_columns ++ codes "links" ∷ codes "filtered" ∷ codes "lost" ∷ []
 
+-- the columns of a network's run, whose first is the switch
 abbrev pub network_run_columns : List (List ℕ)
 network_run_columns = codes "switch" ∷ count_columns
 
@@ -42,6 +43,7 @@ class_row columns switch priority id c = row columns ((codes "switch", switch) �
     ∷ (codes "priority", priority) ∷ (codes "offered", decimal c.offered) ∷ (codes "full", decimal c.full) ∷ (codes "aged", decimal c.aged)
     ∷ (codes "sent", decimal c.sent) ∷ [])
 
+-- the copies at a port: the high ones, then the low ones
 abbrev pub out_rows : List (List ℕ) → List ℕ → PortTally → List ℕ
 out_rows columns switch p = class_row columns switch (codes "high") p.id p.high ++ class_row columns switch (codes "low") p.id p.low
 

@@ -13,15 +13,17 @@ use Rattle.afdx_measure.specs.Report.{bound_at}
 use Rattle.afdx_csv.specs.Csv.{optional, row}
 use Rattle.afdx_csv.specs.Slack.{slack_text, share_text}
 
+-- the columns of what is measured of a switch: delays in ns, bytes of buffers, and stamps in ns
 abbrev pub measure_columns : List (List ℕ)
 measure_columns = codes "kind" ∷ codes "link" ∷ codes "port" ∷ codes "sent" ∷ codes "least" ∷ codes "greatest" ∷ codes "bound" ∷ codes "slack"
     ∷ codes "slack_per_mille" ∷ codes "occupied" ∷ codes "buffer" ∷ codes "at" ∷ []
 
--- of a network: what is said of an end of a link, between two ports, and then of a buffer
+-- the columns of a network's delays: what is said of an end of a link, between two ports, and then of a buffer
 abbrev pub end_columns : List (List ℕ)
 end_columns = codes "least" ∷ codes "greatest" ∷ codes "least_bound" ∷ codes "bound" ∷ codes "slack" ∷ codes "slack_per_mille" ∷ codes "occupied"
     ∷ codes "buffer" ∷ codes "at" ∷ []
 
+-- the columns of what is measured of a network: a way has two ports, a buffer one
 abbrev pub network_measure_columns : List (List ℕ)
 network_measure_columns = codes "switch" ∷ codes "kind" ∷ codes "port" ∷ codes "link" ∷ codes "from" ∷ codes "to" ∷ codes "sent" ∷ end_columns
 
@@ -45,16 +47,19 @@ abbrev pub row_at : List (List ℕ) → Bool → Run → Link → ℕ → List �
 row_at columns promised r l port =
     delays_row columns l.id port (summary_of (delays_of l.id (sent_in r (port_row r.table port)))) (bound_at promised r.table port l.priority)
 
+-- the rows of a link, one for each port that it leads to
 abbrev pub link_rows : List (List ℕ) → Bool → Run → Link → List ℕ
 link_rows columns promised r l = flat_map (row_at columns promised r l) l.to
 
+-- the row of a port's buffer
 abbrev pub port_row_of : List (List ℕ) → List ℕ → Run → PortRow → List ℕ
 port_row_of columns switch r p = buffer_row columns switch p.id p.buffer (peak_at r p)
 
--- of each port, by rising number
+-- the rows of the buffers of all ports, by rising number
 abbrev pub buffers_rows : List (List ℕ) → List ℕ → Run → List ℕ
 buffers_rows columns switch r = flat_map (port_row_of columns switch r) r.table.ports
 
--- of each link of the table, in its order, at each of its output ports, in the link's order; then of each port of a switch without a name
+-- the rows of each link of the table, in its order, at each of its output ports, in the link's order; then of each port of a switch without
+-- a name
 abbrev pub measures_rows : List (List ℕ) → Bool → Run → List ℕ
 measures_rows columns promised r = flat_map (link_rows columns promised r) r.table.links ++ buffers_rows columns [] r

@@ -11,6 +11,7 @@ use Rattle.afdx_csv.specs.Csv.{optional, row}
 
 -- ---- check
 
+-- the columns of what ports may be asked for
 abbrev pub check_columns : List (List ℕ)
 check_columns = codes "port" ∷ codes "rate" ∷ codes "buffer" ∷ codes "high" ∷ codes "low" ∷ []
 
@@ -21,10 +22,12 @@ check_row p load least = row check_columns ((codes "port", decimal p.id) ∷ (co
 
 -- ---- size
 
+-- the columns of what ports need and have: in parts of a ns, bytes, and ns
 abbrev pub size_columns : List (List ℕ)
 size_columns = codes "port" ∷ codes "rate" ∷ codes "rate_limit" ∷ codes "buffer" ∷ codes "buffer_limit" ∷ codes "high" ∷ codes "high_limit"
     ∷ codes "low" ∷ codes "low_limit" ∷ codes "breaks" ∷ []
 
+-- the columns of a network's sizes, whose first is the switch
 abbrev pub network_size_columns : List (List ℕ)
 network_size_columns = codes "switch" ∷ size_columns
 
@@ -40,6 +43,7 @@ abbrev pub with_letter : List ℕ → Rule → List ℕ
 with_letter [] rule = letter_of rule
 with_letter (b ∷ text) rule = (b ∷ text) ++ codes ";" ++ letter_of rule
 
+-- the letters of the rules that a port breaks, with semicolons between them
 abbrev pub breaks_text : List Rule → List ℕ
 breaks_text = fold with_letter []
 

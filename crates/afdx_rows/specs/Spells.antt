@@ -9,12 +9,12 @@ use Rattle.afdx_csv.specs.Csv.{optional, row}
 use Rattle.afdx_rows.specs.Counts.{count_columns, network_run_columns}
 use Rattle.afdx_rows.specs.Delays.{end_columns, measures_rows}
 
--- those of the report, of what was measured, of spells and of when frames came
+-- the columns of a survey: of the report, of what was measured, of spells and of when frames came
 abbrev pub survey_columns : List (List ℕ)
 survey_columns = count_columns ++ codes "least" ∷ codes "greatest" ∷ codes "bound" ∷ codes "slack" ∷ codes "slack_per_mille" ∷ codes "occupied"
     ∷ codes "buffer" ∷ codes "at" ∷ codes "from" ∷ codes "to" ∷ codes "least_early" ∷ codes "greatest_early" ∷ codes "frames" ∷ []
 
--- of a network, in which from and to are ports, so that these stamps have other columns
+-- the columns of a network's survey, in which from and to are ports, so that these stamps have other columns
 abbrev pub network_survey_columns : List (List ℕ)
 network_survey_columns = network_run_columns ++ (codes "from" ∷ codes "to" ∷ end_columns)
     ++ codes "first" ∷ codes "last" ∷ codes "least_early" ∷ codes "greatest_early" ∷ codes "frames" ∷ []
@@ -27,6 +27,7 @@ spell_row columns switch stamp_columns link s = row columns ((codes "switch", sw
     ∷ (codes "policed", decimal s.count) ∷ (stamp_columns.0, decimal s.first) ∷ (stamp_columns.1, decimal s.last) ∷ (codes "least_early", decimal s.least)
     ∷ (codes "greatest_early", decimal s.greatest) ∷ [])
 
+-- the rows of all spells of a link
 abbrev pub spell_rows : List (List ℕ) → List ℕ → List ℕ × List ℕ → Run → Link → List ℕ
 spell_rows columns switch stamp_columns r l = flat_map (spell_row columns switch stamp_columns l.id) (spells_in r l)
 
@@ -35,14 +36,14 @@ abbrev pub span_row : List (List ℕ) → List ℕ → List ℕ × List ℕ → 
 span_row columns switch stamp_columns rows = row columns ((codes "switch", switch) ∷ (codes "kind", codes "span") ∷ (stamp_columns.0, optional (stamp_at 0 rows))
     ∷ (stamp_columns.1, optional (stamp_at (length rows - 1) rows)) ∷ (codes "frames", decimal (length rows)) ∷ [])
 
--- each spell of each link, and when frames came
+-- the rows of each spell of each link, and of when frames came
 abbrev pub stamped_rows : List (List ℕ) → List ℕ → List ℕ × List ℕ → Run → List ℕ
 stamped_rows columns switch stamp_columns r = flat_map (spell_rows columns switch stamp_columns r) r.table.links ++ span_row columns switch stamp_columns r.rows
 
--- of a switch of a network
+-- the rows of spells of a switch of a network, and of when frames came
 abbrev pub policing_rows : List ℕ → Run → List ℕ
 policing_rows switch r = stamped_rows network_survey_columns switch (codes "first", codes "last") r
 
--- what is measured of a finished run, and then these, of a switch without a name
+-- the rows of what is measured of a finished run, and then of its spells, of a switch without a name
 abbrev pub survey_rows : List (List ℕ) → Bool → Run → List ℕ
 survey_rows columns promised r = measures_rows columns promised r ++ stamped_rows columns [] (codes "from", codes "to") r

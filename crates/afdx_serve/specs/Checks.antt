@@ -50,17 +50,17 @@ AreTextsOf Is (row ∷ rows) text = (line : List ℕ) × (rest : List ℕ) × Is
 abbrev pub AreLinesOf : Form → ℕ → List Link → List PortRow → List ℕ → Type 0
 AreLinesOf form latency links = AreTextsOf (λ row line. IsLineOf form row (load_of latency row.speed row.id links) line)
 
--- rows are below a heading
+-- the heading of a form: rows are below one, lines are not
 abbrev pub heading_in : Form → (columns : List (List ℕ)) → List ℕ
 heading_in Lines columns = []
 heading_in Csv columns = heading columns
 
--- these, and that the table is accepted; or a heading, and these
+-- what is written of an accepted table: its lines, and that it is accepted; or a heading, and its rows
 abbrev pub check_text : Form → List ℕ → List ℕ
 check_text Lines lines = lines ++ as_line (codes "accepted")
 check_text Csv lines = heading check_columns ++ lines
 
--- those of a table's ports by rising number
+-- what is written of a table's ports, by rising number
 abbrev pub IsCheckOf : Form → Content → List ℕ → Type 0
 IsCheckOf form t text = (lines : List ℕ) × AreLinesOf form t.latency t.links t.ports lines × (text ≡ check_text form lines)
 

@@ -31,11 +31,11 @@ scatter_of t r = t.latency - r.least
 abbrev pub HasFittingTable : Option Files → List ℕ → Recordings → Content → Type 0
 HasFittingTable files path r t = HasTable files path t × Fits t r
 
--- and which is accepted at a switch whose latency varies so
+-- the file is the text of such a table, which is accepted at a switch whose latency varies so
 abbrev pub HasVaryingTable : Option Files → List ℕ → Recordings → Content → Type 0
 HasVaryingTable files path r t = HasFittingTable files path r t × IsAcceptedWith (scatter_of t r) t
 
--- or which is not; this is the first fault
+-- the file is the text of such a table, which is not accepted; this is the first fault
 abbrev pub HasFaultyTable : Option Files → List ℕ → Recordings → LoadFault → Type 0
 HasFaultyTable files path r fault = (t : Content) × HasFittingTable files path r t × (first_scattered_fault (scatter_of t r) t.latency t.links t.ports ≡ Some fault)
 
@@ -47,22 +47,23 @@ HasUnfitTable files path r fault = (t : Content) × HasTable files path t × (fi
 abbrev pub output_names : List ℕ → Outputs → List PortRow → List (List ℕ)
 output_names path recorded ports = flat_map (λ p. if is_recorded recorded p.id then capture_name path p.id ∷ [] else []) ports
 
--- of all captures that are compared: of what came at each port, and then of what left
+-- the names of all captures that are compared: of what came at each port, and then of what left
 abbrev pub names_of : Compare → Outputs → List PortRow → List (List ℕ)
 names_of c recorded ports = map (λ p. capture_name c.input.now p.id) ports ++ output_names c.output.now recorded ports
 
+-- the names of all captures that are compared, for a table
 abbrev pub recording_names : Compare → Recordings → Content → List (List ℕ)
 recording_names c r t = names_of c r.outputs t.ports
 
 -- ---- what is found out
 
--- from the captures under these names, if readers give exactly their texts
+-- what is found out from the captures under these names, if readers give exactly their texts
 pub record IsFoundUnder (names : List (List ℕ)) (t : Content) (r : Recordings) (keeping : Bool) (files : Option Files) (from until : ℕ) (found : Comparison) : Type 0 where
   pub texts : List (List ℕ)
   pub shown : ShowsAll files names texts
   pub is_found : IsFound (λ (text : List ℕ). Some text) t r keeping texts from until found
 
--- from the files: differences are kept if a folder is named for them
+-- what is found out from the files: differences are kept if a folder is named for them
 abbrev pub IsFoundIn : Compare → Recordings → Option Files → ℕ → ℕ → Comparison → Type 0
 IsFoundIn c r files from until found =
     (t : Content) × HasVaryingTable files c.table.now r t × IsFoundUnder (recording_names c r t) t r (is_some c.rows) files from until found
@@ -73,10 +74,11 @@ IsFoundIn c r files from until found =
 abbrev pub rows_name : List ℕ → List ℕ
 rows_name folder = folder ++ codes "/differences.csv"
 
--- one file if a folder is named, and else none
+-- the name of the file of differences if a folder is named, and else none
 abbrev pub rows_names : Compare → List (List ℕ)
 rows_names c = map (λ folder. rows_name folder.now) (option_to_list c.rows)
 
+-- the text of the file of differences if a folder is named, and else none
 abbrev pub rows_texts : Compare → Recordings → Comparison → List (List ℕ)
 rows_texts c r found = map (λ folder. differences_of r found) (option_to_list c.rows)
 
@@ -92,7 +94,7 @@ abbrev pub FailsToGetFitting : Failure → Option Files → List ℕ → Recordi
 FailsToGetFitting (failure.Argument fault) files path r before after = HasUnfitTable files path r fault × (after ≡ before)
 FailsToGetFitting f files path r before after = FailsToRead f files path before after
 
--- or none of a switch whose latency varies so
+-- there is no table that the options fit, or it is not accepted at a switch whose latency varies so
 abbrev pub FailsToGetVarying : Failure → Option Files → List ℕ → Recordings → DeviceLog → DeviceLog → Type 0
 FailsToGetVarying (failure.Load fault) files path r before after = HasFaultyTable files path r fault × (after ≡ before)
 FailsToGetVarying f files path r before after = FailsToGetFitting f files path r before after
@@ -119,12 +121,12 @@ FailsToFind f c r files before after =
 
 -- ---- why it is not put
 
--- what comes before this name was put
+-- what was found out was put as far as the files before this name
 abbrev pub StopsRows : List ℕ → Compare → Recordings → Option Files → Option Files → Type 0
 StopsRows name c r old new =
     (from until : ℕ) × (found : Comparison) × IsFoundIn c r old from until found × StopsAt name (rows_names c) (rows_texts c r found) old new
 
--- this name failed
+-- what was found out was not put, since this name failed
 abbrev pub EndsRows : List ℕ → Compare → Recordings → Option Files → Option Files → DeviceLog → DeviceLog → Type 0
 EndsRows name c r old new before after =
     (from until : ℕ) × (found : Comparison) × IsFoundIn c r old from until found × EndsAt name (rows_names c) (rows_texts c r found) old new before after

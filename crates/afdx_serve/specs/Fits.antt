@@ -42,21 +42,22 @@ pub record Fits (t : Content) (r : Recordings) : Type 0 where
 
 -- ---- why they do not
 
--- A1, in microseconds
+-- A1: the least latency is above the table's, both in microseconds
 abbrev pub latency_fault : Content → Recordings → Option ArgumentFault
 latency_fault t r = if nat_lt t.latency r.least then Some (Latency (r.least / 1000) (t.latency / 1000)) else None
 
--- A2, of the lowest port
+-- A2: the lowest port that `--ports` names and the table lacks
 abbrev pub ports_fault : Content → Recordings → Option ArgumentFault
 ports_fault t r = option_map Ports (find (is_missing t r) port_numbers)
 
--- A2 or A3, of the lowest port
+-- A2 or A3 of a port: the table lacks it, or nothing is recorded there
 abbrev pub offset_fault : Content → ℕ → ArgumentFault
 offset_fault t port = if lacks t port then Offset port else LeftOut port
 
+-- the fault of the lowest port where `--offset` adds something and nothing is recorded
 abbrev pub offsets_fault : Content → Recordings → Option ArgumentFault
 offsets_fault t r = option_map (offset_fault t) (find (is_stray t r) port_numbers)
 
--- profile: the first, in this order
+-- profile: the first fault of the options: of the latency, then of the ports, then of the offsets
 abbrev pub first_argument_fault : Content → Recordings → Option ArgumentFault
 first_argument_fault t r = option_or (latency_fault t r) (option_or (ports_fault t r) (offsets_fault t r))

@@ -31,21 +31,21 @@ pub record IsMeasured (inputs : Inputs) (files : Option Files) (tally : Tally) (
   -- over an accepted table the bounds are kept: no delay is above its bound, and no buffer held more than the least that its load asks for
   pub within : inputs.unchecked ≡ false → (p : PortRow) → Contains table.ports p → IsWithinTheLoad done.run p
 
--- what is written of a finished run
+-- what is written of a finished run, in either form
 abbrev pub measures_text : Form → Bool → Run → List ℕ
 measures_text Lines promised r = report_of promised r
 measures_text Csv promised r = heading measure_columns ++ measures_rows measure_columns promised r
 
--- `measure` reports this; over a checked table it promises the bounds
+-- `measure` reports this of the files; over a checked table it promises the bounds
 abbrev pub MeasuresTo : Form → Inputs → Option Files → List ℕ → Type 0
 MeasuresTo form inputs files text = (tally : Tally) × (done : State) × IsMeasured inputs files tally done × (text ≡ measures_text form (not inputs.unchecked) done.run)
 
--- what is written of it and of its counts: the report of `run`, and then what was measured, and when links were policed and frames came
+-- what a survey writes: the report of `run`, and then what was measured, and when links were policed and frames came
 abbrev pub survey_text : Form → Bool → Tally → Run → List ℕ
 survey_text Lines promised counts r = counts_text Lines counts ++ survey_of promised r
 survey_text Csv promised counts r = heading survey_columns ++ counts_rows survey_columns [] counts ++ survey_rows survey_columns promised r
 
--- `survey` reports this
+-- `survey` reports this of the files
 abbrev pub SurveysTo : Form → Inputs → Option Files → List ℕ → Type 0
 SurveysTo form inputs files text =
     (tally : Tally) × (done : State) × (is : IsMeasured inputs files tally done) × (text ≡ survey_text form (not inputs.unchecked) is.run.whole.counts done.run)

@@ -29,12 +29,12 @@ use Rattle.afdx_serve.specs.Networks.{names_of, HasNetwork, IsRefused}
 abbrev pub rate_fault : ℕ → List Link → PortRow → Option LoadFault
 rate_fault latency links row = past row.id Rate parts (load_of latency row.speed row.id links).rate
 
--- of the first port that has one
+-- the fault of the first port whose links ask for more than its line
 abbrev pub first_rate_fault : ℕ → List Link → List PortRow → Option LoadFault
 first_rate_fault latency links [] = None
 first_rate_fault latency links (row ∷ rows) = option_or (rate_fault latency links row) (first_rate_fault latency links rows)
 
--- by switch, of which n come before these
+-- no port's links ask for more than its line, by switch, of which n come before these
 abbrev pub rates_fit : ℕ → List Content → Answer
 rates_fit n [] = Ok tt
 rates_fit n (t ∷ ts) = load_fits n (first_rate_fault t.latency t.links t.ports) >>= λ _. rates_fit (n + 1) ts

@@ -36,7 +36,7 @@ use Rattle.afdx_serve.specs.NetworkRuns.{counts_of, HasGiven}
 
 -- ---- the ends of links
 
--- that of an exit, of which nothing is promised: its frames come in where the way back from it ends
+-- the end of an exit, of which nothing is promised: its frames come in where the way back from it ends
 abbrev pub unchecked_end : Network → Exit → LinkEnd
 unchecked_end net x = record {
   link = x.link;
@@ -45,7 +45,7 @@ unchecked_end net x = record {
   bounds = None;
 }
 
--- of an accepted network those of its ways, of any other those of its exits; by link, then by switch and port
+-- the ends of links: of an accepted network those of its ways, of any other those of its exits; by link, then by switch and port
 abbrev pub AreEndsOf : (accepted : Bool) → Network → List LinkEnd → Type 0
 AreEndsOf true net ends = (ways : List Way) × AreWaysOf net ways × (ends ≡ map link_end_of ways)
 AreEndsOf false net ends = (exits : List Exit) × IsPermutation (exits_of net) exits × IsSorted by_link exits × (ends ≡ map (unchecked_end net) exits)
@@ -61,11 +61,11 @@ abbrev pub end_text : Form → (columns : List (List ℕ)) → Names → LinkEnd
 end_text Lines columns names e d = as_line (link_end_text names e d)
 end_text Csv columns names e d = link_end_row columns names e d
 
--- of these ends
+-- what is said of these ends in a form, with the delays of the copies that were sent there
 abbrev pub HaveEnds : Form → (columns : List (List ℕ)) → Names → Origins → List LinkEnd → List ℕ → Type 0
 HaveEnds form columns names = HaveEndTexts (end_text form columns names)
 
--- no delay there is greater than the most that is promised
+-- no delay at the end of a link is greater than the most that is promised
 abbrev pub IsWithinItsWay : Origins → LinkEnd → Type 0
 IsWithinItsWay o e = (d : Delays) → IsSummary o.net o.sent e.link e.to d → IfSome d.range (λ range. IfSome e.bounds (λ bounds. range.greatest ≤ bounds.most))
 
@@ -81,18 +81,20 @@ abbrev pub buffers_of : Form → (columns : List (List ℕ)) → (name : List �
 buffers_of Lines columns name s = report_of name (flat_map (port_line s.run) s.run.table.ports)
 buffers_of Csv columns name s = buffers_rows columns name s.run
 
--- and when its links were policed and frames came
+-- when the links of the switch of this name were policed and frames came, in a form
 abbrev pub spells_of : Form → (name : List ℕ) → State → List ℕ
 spells_of Lines name s = report_of name (policing_of s.run)
 spells_of Csv name s = policing_rows name s.run
 
--- of all switches: how full the buffers were, the counts, and when links were policed and frames came
+-- how full the buffers of all switches were
 abbrev pub buffers_in : Form → (columns : List (List ℕ)) → Names → List (Tally × State) → List ℕ
 buffers_in form columns = said_of (λ name counts s. buffers_of form columns name s)
 
+-- the counts of all switches
 abbrev pub counts_in : Form → Names → List (Tally × State) → List ℕ
 counts_in form = said_of (λ name counts s. counts_of form network_survey_columns name counts)
 
+-- when the links of all switches were policed, and when frames came
 abbrev pub policing_in : Form → Names → List (Tally × State) → List ℕ
 policing_in form = said_of (λ name counts s. spells_of form name s)
 
@@ -110,7 +112,7 @@ pub record WatchesFrom (files : Option Files) (path : List ℕ) (net : Network) 
   pub ended : AreEnded net.tables came left switches
   pub sent : HaveSent net switches o
 
--- so did that of the network of a file, which is accepted unless the run is unchecked
+-- the run of the network of a file, which is accepted unless the run is unchecked, came to these
 pub record IsMeasuredNetwork (inputs : NetworkInputs) (files : Option Files) (net : Network) (switches : List (Tally × State)) (o : Origins) : Type 0 where
   pub has_network : HasNetwork files inputs.network.now net
   pub watched : WatchesFrom files inputs.input.now net switches o
@@ -118,7 +120,7 @@ pub record IsMeasuredNetwork (inputs : NetworkInputs) (files : Option Files) (ne
 
 -- ---- the texts of a run, whatever it is over
 
--- what is measured of it: what is said of these ends, and how full buffers were
+-- what is measured of a network's run: what is said of the ends of links, and how full buffers were
 pub record IsMeasuredText (form : Form) (columns : List (List ℕ)) (accepted : Bool) (net : Network) (names : Names) (switches : List (Tally × State)) (o : Origins) (text : List ℕ) : Type 0 where
   pub ends : List LinkEnd
   pub lines : List ℕ

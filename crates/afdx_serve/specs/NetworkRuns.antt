@@ -37,9 +37,11 @@ abbrev pub names_at : List ℕ → Names → List (List Text) → List (List ℕ
 names_at path (name ∷ names) (texts ∷ more) = names_in (switch_folder path name) texts ++ names_at path names more
 names_at path _ _ = []
 
+-- the bytes of all captures, by switch and then by port
 abbrev pub bytes_at : List (List Text) → List (List ℕ)
 bytes_at all = flat_map bytes_of_captures all
 
+-- the captures that the switches led to
 abbrev pub captures_of : List Results → List (List Text)
 captures_of left = map (λ r. r.captures) left
 
@@ -95,7 +97,7 @@ pub record GetsGiven (name : List ℕ) (files : Option Files) (path : List ℕ) 
   pub is_there : slice_get (open_names path (names_of net.layout.switches) net 0 net.tables) place ≡ Some name
   pub earlier : ShowsAll files (take place (open_names path (names_of net.layout.switches) net 0 net.tables)) got
 
--- not all was got, or it leads to nothing
+-- not all captures of a network's run were got, or they lead to nothing
 abbrev pub FailsToGetGiven : Failure → Option Files → List ℕ → Network → DeviceLog → DeviceLog → Type 0
 FailsToGetGiven (failure.Get name) files path net before after = GetsGiven (string_bytes name) files path net × (after ≡ one_more (string_bytes name) before)
 FailsToGetGiven failure.Memory files path net before after = Unit {0}
@@ -119,22 +121,23 @@ FailsToLeadFrom f network unchecked input files before after =
     × ((FailsToPlanNetwork f unchecked net × (after ≡ before))
     ⊎ ((unchecked ≡ false → IsAcceptedNetwork net) × FailsToGetGiven f files input net before after)))
 
+-- the files that a command names lead to no run
 abbrev pub FailsToLeadNetwork : Failure → NetworkPaths → Option Files → DeviceLog → DeviceLog → Type 0
 FailsToLeadNetwork f paths files before after = FailsToLeadFrom f paths.network.now paths.unchecked paths.input.now files before after
 
--- those before this name were put
+-- the captures of a network's run were put as far as those before this name
 abbrev pub StopsNetwork : List ℕ → NetworkPaths → Option Files → Option Files → Type 0
 StopsNetwork name paths old new =
     (net : Network) × (left : List Results) × LeadsToNetwork paths old net left
     × StopsAt name (names_at paths.output.now (names_of net.layout.switches) (captures_of left)) (bytes_at (captures_of left)) old new
 
--- this name failed
+-- the captures of a network's run were not put, since this name failed
 abbrev pub EndsNetwork : List ℕ → NetworkPaths → Option Files → Option Files → DeviceLog → DeviceLog → Type 0
 EndsNetwork name paths old new before after =
     (net : Network) × (left : List Results) × LeadsToNetwork paths old net left
     × EndsAt name (names_at paths.output.now (names_of net.layout.switches) (captures_of left)) (bytes_at (captures_of left)) old new before after
 
--- they were not put
+-- the captures of a network's run were not put
 abbrev pub FailsToPutNetwork : Failure → NetworkPaths → Option Files → Option Files → DeviceLog → DeviceLog → Type 0
 FailsToPutNetwork (failure.Put name) paths old new before after = EndsNetwork (string_bytes name) paths old new before after
 FailsToPutNetwork failure.Memory paths old new before after = KeepsFiles old new ⊎ ((name : List ℕ) × StopsNetwork name paths old new)

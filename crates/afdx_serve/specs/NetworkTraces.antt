@@ -29,6 +29,7 @@ network_trace_names path names = flat_map (λ name. trace_names (switch_folder p
 abbrev pub switch_texts : Selection → List (Option ℕ) → Run → List (List ℕ)
 switch_texts selection firsts r = with_column 0 firsts (arrivals_text selection r) ∷ departures_text selection r ∷ []
 
+-- the texts of all switches, two for each
 abbrev pub network_trace_texts : Selection → List (List (Option ℕ)) → List State → List (List ℕ)
 network_trace_texts selection (firsts ∷ more) (s ∷ runs) = switch_texts selection firsts s.run ++ network_trace_texts selection more runs
 network_trace_texts selection _ _ = []
@@ -44,7 +45,7 @@ pub record TracesNetworkTo (paths : NetworkPaths) (files : Option Files) (net : 
   pub watched : WatchesFrom files paths.input.now net switches origins
   pub accepted : paths.unchecked ≡ false → IsAcceptedNetwork net
 
--- they lead to these texts
+-- the files lead to these texts, two for each switch
 pub record IsNetworkTraceIn (paths : NetworkPaths) (files : Option Files) (net : Network) (texts : List (List ℕ)) : Type 0 where
   pub switches : List (Tally × State)
   pub runs : List State
@@ -56,23 +57,24 @@ pub record IsNetworkTraceIn (paths : NetworkPaths) (files : Option Files) (net :
   pub whole : ShowsAllLines selection
   pub texts_are : texts ≡ network_trace_texts selection firsts runs
 
--- they were put
+-- the texts of a network's trace were put
 abbrev pub PutsNetworkTrace : NetworkPaths → Option Files → Option Files → DeviceLog → DeviceLog → Type 0
 PutsNetworkTrace paths old new before after =
     (net : Network) × (texts : List (List ℕ)) × IsNetworkTraceIn paths old net texts × PutsFiles old new (network_trace_names paths.output.now (names_of net.layout.switches)) texts
     × (after ≡ settled_after (length (network_trace_names paths.output.now (names_of net.layout.switches))) before)
 
--- those before this name were put, or this name failed
+-- the texts of a network's trace were put as far as those before this name
 abbrev pub StopsNetworkTrace : List ℕ → NetworkPaths → Option Files → Option Files → Type 0
 StopsNetworkTrace name paths old new =
     (net : Network) × (texts : List (List ℕ)) × IsNetworkTraceIn paths old net texts × StopsAt name (network_trace_names paths.output.now (names_of net.layout.switches)) texts old new
 
+-- the texts of a network's trace were not put, since this name failed
 abbrev pub EndsNetworkTrace : List ℕ → NetworkPaths → Option Files → Option Files → DeviceLog → DeviceLog → Type 0
 EndsNetworkTrace name paths old new before after =
     (net : Network) × (texts : List (List ℕ)) × IsNetworkTraceIn paths old net texts
     × EndsAt name (network_trace_names paths.output.now (names_of net.layout.switches)) texts old new before after
 
--- they were not put
+-- the texts of a network's trace were not put
 abbrev pub FailsToTraceNetwork : Failure → NetworkPaths → Option Files → Option Files → DeviceLog → DeviceLog → Type 0
 FailsToTraceNetwork (failure.Put name) paths old new before after = EndsNetworkTrace (string_bytes name) paths old new before after
 FailsToTraceNetwork failure.Memory paths old new before after = KeepsFiles old new ⊎ ((name : List ℕ) × StopsNetworkTrace name paths old new)

@@ -23,6 +23,7 @@ use Rattle.afdx_serve.specs.Runs.{FailsToGet}
 
 -- ---- what is got
 
+-- the bytes of texts that the code has
 abbrev pub bytes_in : {Z : Type 0} → List (Vec ℕ Z) → List (List ℕ)
 bytes_in texts = map (λ text. text.items) texts
 
@@ -30,6 +31,7 @@ bytes_in texts = map (λ text. text.items) texts
 abbrev pub table_names : List ℕ → List Switch → List (List ℕ)
 table_names path switches = map (λ s. path_with_file_name path s.path) switches
 
+-- the names of switches, by their places
 abbrev pub names_of : List Switch → Names
 names_of switches = map (λ s. s.name) switches
 
@@ -37,11 +39,11 @@ names_of switches = map (λ s. s.name) switches
 abbrev pub HasLayout : Option Files → List ℕ → Layout → Type 0
 HasLayout files path l = (text : List ℕ) × Shows files path text × (layout_of text ≡ Ok l)
 
--- these are the files of its tables, one for each switch
+-- the files of a network's tables have these texts, one for each switch
 abbrev pub HasTexts : Option Files → List ℕ → List Switch → List (List ℕ) → Type 0
 HasTexts files path switches texts = ShowsAll files (table_names path switches) texts × (length texts ≡ length switches)
 
--- these are the tables of these texts
+-- the tables of these texts
 abbrev pub AreTables : List (List ℕ) → List Content → Type 0
 AreTables texts tables = map table_of texts ≡ map (λ t. Ok t) tables
 
@@ -64,7 +66,7 @@ switch_of (fault.Jitter short) = Some short.switch
 switch_of (fault.NoJitter short) = Some short.switch
 switch_of _ = None
 
--- and its name
+-- the name of the switch that a refusal is of
 abbrev pub named : Names → NetworkFault → Option (List ℕ)
 named names e = option_and_then (slice_get names) (switch_of e)
 
@@ -86,15 +88,15 @@ AreRefusedRows names rule shorts (failure.Network (network.Rows r s n)) = (r ≡
 AreRefusedRows names rule shorts failure.Memory = Unit {0}
 AreRefusedRows names rule shorts _ = ⊥
 
--- the first refusal, or the rows whose jitter is not enough
+-- the verdict on a network: the first refusal, or the rows whose jitter is not enough
 abbrev pub NetworkVerdict : Type 0
 NetworkVerdict = Result (List Short) NetworkFault
 
--- of a network whose loads are accepted: what tables do not agree on, or else those rows
+-- the verdict on a network whose loads are accepted: what tables do not agree on, or else the rows whose jitter is not enough
 abbrev pub judged : Network → NetworkVerdict
 judged net = misfit net >>= λ fits. shortages net
 
--- of a network that is there: the refusal of a load, or else that
+-- the verdict on a network that is there: the refusal of a load, or else that of its tables and jitters
 unfoldable pub verdict_of : Network → NetworkVerdict
 verdict_of net = loads_fit net >>= λ loads. judged net
 
@@ -110,7 +112,7 @@ FailsToAcceptNetwork f net = LeadsToFailure (names_of net.layout.switches) (verd
 
 -- ---- why a network was not got, and the failures before and after
 
--- the layout was not
+-- a network's layout was not got
 abbrev pub FailsToLayout : Failure → Option Files → List ℕ → DeviceLog → DeviceLog → Type 0
 FailsToLayout (failure.Network (network.Refused e name)) files path before after =
     ((text : List ℕ) × Shows files path text × (layout_of text ≡ Err e)) × (name ≡ None) × (after ≡ before)
@@ -145,7 +147,7 @@ FailsToReadTables (failure.Network (network.Table refusal name)) switches texts 
 FailsToReadTables failure.Memory switches texts = Unit {0}
 FailsToReadTables _ switches texts = ⊥
 
--- the tables were not there, or one of the wires' ends is no port
+-- the tables of a network were not there, or one of the wires' ends is no port
 abbrev pub FailsToJoin : Failure → Option Files → List ℕ → Layout → DeviceLog → DeviceLog → Type 0
 FailsToJoin (failure.Network (network.Table refusal name)) files path l before after =
     ((texts : List (List ℕ)) × HasTexts files path l.switches texts × StopsAtTable (string_bytes name) refusal l.switches texts) × (after ≡ before)
@@ -159,7 +161,7 @@ abbrev pub FailsToGetNetwork : Failure → Option Files → List ℕ → DeviceL
 FailsToGetNetwork f files path before after =
     FailsToLayout f files path before after ⊎ ((l : Layout) × HasLayout files path l × FailsToJoin f files path l before after)
 
--- or was, and is refused for this
+-- a network was not got; or it was, and is refused for this
 abbrev pub FailsToTakeNetwork : (Failure → Network → Type 0) → Failure → Option Files → List ℕ → DeviceLog → DeviceLog → Type 0
 FailsToTakeNetwork IsWhy f files path before after =
     FailsToGetNetwork f files path before after ⊎ ((net : Network) × HasNetwork files path net × IsWhy f net × (after ≡ before))

@@ -22,9 +22,11 @@ use Rattle.afdx_folder.specs.Files.{Files, Shows, ShowsAll, KeepsFiles, KeepsOth
 abbrev pub capture_name : List ℕ → ℕ → List ℕ
 capture_name folder port = folder ++ codes "/port-" ++ decimal port ++ codes ".pcap"
 
+-- the names of these captures in a folder
 abbrev pub names_in : List ℕ → List Text → List (List ℕ)
 names_in folder captures = map (λ c. capture_name folder c.0) captures
 
+-- the bytes of these captures
 abbrev pub bytes_of_captures : List Text → List (List ℕ)
 bytes_of_captures captures = map (λ c. c.1) captures
 

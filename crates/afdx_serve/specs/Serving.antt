@@ -56,6 +56,7 @@ pub record World : Type 0 where
   -- how often the folder failed, for which name at last, and how many new files its device has taken
   pub failed : DeviceLog
 
+-- what commands work on, of a writer, a folder and its log
 abbrev pub world : Option (List ℕ) → Option Files → DeviceLog → World
 world written files failed = record { written = written; files = files; failed = failed }
 
@@ -65,7 +66,7 @@ world written files failed = record { written = written; files = files; failed =
 abbrev pub Writes : (List ℕ → Type 0) → Option (List ℕ) → Option (List ℕ) → Type 0
 Writes IsText old new = (text : List ℕ) × IsText text × Appends old new text
 
--- some of one was
+-- a prefix of a text of which this is so was written
 abbrev pub WritesSome : (List ℕ → Type 0) → Option (List ℕ) → Option (List ℕ) → Type 0
 WritesSome IsText old new = (text : List ℕ) × IsText text × AppendsPrefix old new text
 
@@ -81,7 +82,7 @@ KeepsFolder old new = KeepsFiles old.files new.files × (new.failed ≡ old.fail
 abbrev pub Reports : (List ℕ → Type 0) → World → World → Type 0
 Reports IsText old new = Writes IsText old.written new.written × KeepsFolder old new
 
--- it was not, and nothing was put: the writer failed, or memory ran out, or this is why there is no such text
+-- no such text was written whole, and nothing was put: the writer failed, or memory ran out, or this is why there is none
 abbrev pub FailsToReport : Failure → (List ℕ → Type 0) → Type 0 → World → World → Type 0
 FailsToReport failure.Write IsText why old new = WritesSome IsText old.written new.written × KeepsFolder old new
 FailsToReport failure.Memory IsText why old new = KeepsFiles old.files new.files × WritesNothing old new
@@ -118,6 +119,7 @@ FailsToTake f files path before after = FailsToRead f files path before after
 abbrev pub Checks : Form → List ℕ → World → World → Type 0
 Checks form path old new = Reports (ChecksTo form path old.files) old new
 
+-- the lines of a check were not written: why, and how much was
 abbrev pub FailsToCheck : Failure → Form → List ℕ → World → World → Type 0
 FailsToCheck f form path old new = FailsToReport f (ChecksTo form path old.files) (FailsToTake f old.files path old.failed new.failed) old new
 
@@ -125,6 +127,7 @@ FailsToCheck f form path old new = FailsToReport f (ChecksTo form path old.files
 abbrev pub Sizes : Form → List ℕ → World → World → Type 0
 Sizes form path old new = Reports (SizesTo form path old.files) old new
 
+-- what ports need and have was not written
 abbrev pub FailsToSize : Failure → Form → List ℕ → World → World → Type 0
 FailsToSize f form path old new = FailsToReport f (SizesTo form path old.files) (FailsToRead f old.files path old.failed new.failed) old new
 
@@ -134,6 +137,7 @@ FailsToSize f form path old new = FailsToReport f (SizesTo form path old.files) 
 abbrev pub ChecksNetwork : Form → List ℕ → World → World → Type 0
 ChecksNetwork form path old new = Reports (ChecksNetworkTo form path old.files) old new
 
+-- the lines of a network's check were not written
 abbrev pub FailsToCheckNetwork : Failure → Form → List ℕ → World → World → Type 0
 FailsToCheckNetwork f form path old new =
     FailsToReport f (ChecksNetworkTo form path old.files) (FailsToTakeNetwork FailsToAcceptNetwork f old.files path old.failed new.failed) old new
@@ -142,6 +146,7 @@ FailsToCheckNetwork f form path old new =
 abbrev pub SizesNetwork : Form → List ℕ → World → World → Type 0
 SizesNetwork form path old new = Reports (SizesNetworkTo form path old.files) old new
 
+-- what the ports of a network's tables need and have was not written
 abbrev pub FailsToSizeNetwork : Failure → Form → List ℕ → World → World → Type 0
 FailsToSizeNetwork f form path old new = FailsToReport f (SizesNetworkTo form path old.files) (FailsToGetNetwork f old.files path old.failed new.failed) old new
 
@@ -149,17 +154,18 @@ FailsToSizeNetwork f form path old new = FailsToReport f (SizesNetworkTo form pa
 abbrev pub SaysJitters : Form → List ℕ → Network → List RowNeed → Option Short → World → World → Type 0
 SaysJitters form path net rows past old new = Reports (JittersAre form old.files path net rows past) old new
 
--- they were, and none is past that; so the check of the network accepts these jitters
+-- the jitters that the rows of the file's network need were written, and none is past what a table can have; so the check of the network
+-- accepts them
 abbrev pub GivesJitters : Form → List ℕ → World → World → Type 0
 GivesJitters form path old new = (net : Network) × (rows : List RowNeed) × SaysJitters form path net rows None old new
 
--- all were, and rows need more than a table can have: these are refused
+-- the jitters that rows need were written, and some are more than a table can have: these rows are refused
 abbrev pub FailsPastJitters : Failure → Form → List ℕ → World → World → Type 0
 FailsPastJitters f form path old new =
     (net : Network) × (rows : List RowNeed) × (short : Short) × SaysJitters form path net rows (Some short) old new
     × AreRefusedRows (names_of net.layout.switches) jitter.NoJitter (all_past rows) f
 
--- they were not, or one is past that
+-- the jitters that rows need were not written, or some are more than a table can have
 abbrev pub FailsToGiveJitters : Failure → Form → List ℕ → World → World → Type 0
 FailsToGiveJitters f form path old new =
     FailsToReport f (GivesJittersTo form path old.files) (FailsToTakeNetwork FailsToFit f old.files path old.failed new.failed) old new
@@ -172,16 +178,16 @@ PutsNetwork paths old new net left =
     × PutsFiles old.files new.files (names_at paths.output.now (names_of net.layout.switches) (captures_of left)) (bytes_at (captures_of left))
     × (new.failed ≡ settled_after (length (names_at paths.output.now (names_of net.layout.switches) (captures_of left))) old.failed)
 
--- and these are the reports
+-- the captures of a network's run were put, and these are its reports
 abbrev pub RunsNetworkTo : Form → NetworkPaths → World → World → List ℕ → Type 0
 RunsNetworkTo form paths old new text =
     (net : Network) × (left : List Results) × PutsNetwork paths old new net left × (text ≡ runs_text form (names_of net.layout.switches) left)
 
--- they were written
+-- the captures of a network's run were put, and its reports were written
 abbrev pub RunsNetwork : Form → NetworkPaths → World → World → Type 0
 RunsNetwork form paths old new = Writes (RunsNetworkTo form paths old new) old.written new.written
 
--- why not all was done, and what was done
+-- why a network's run was not put or not reported, and what was done
 abbrev pub FailsToRunNetwork : Failure → Form → NetworkPaths → World → World → Type 0
 FailsToRunNetwork failure.Write form paths old new = WritesSome (RunsNetworkTo form paths old new) old.written new.written
 FailsToRunNetwork f form paths old new = FailsToPutNetwork f paths old.files new.files old.failed new.failed × WritesNothing old new
@@ -190,18 +196,20 @@ FailsToRunNetwork f form paths old new = FailsToPutNetwork f paths old.files new
 abbrev pub MeasuresNetwork : Form → NetworkInputs → World → World → Type 0
 MeasuresNetwork form inputs old new = Reports (MeasuresNetworkTo form inputs old.files) old new
 
--- a text of such a run was not
+-- a text of a network's run of which nothing is put was not written
 abbrev pub FailsToWatchNetwork : (List ℕ → Type 0) → Failure → NetworkInputs → World → World → Type 0
 FailsToWatchNetwork IsText f inputs old new =
     FailsToReport f IsText (FailsToLeadFrom f inputs.network.now inputs.unchecked inputs.input.now old.files old.failed new.failed) old new
 
+-- what was measured of a network's run was not written
 abbrev pub FailsToMeasureNetwork : Failure → Form → NetworkInputs → World → World → Type 0
 FailsToMeasureNetwork f form inputs old new = FailsToWatchNetwork (MeasuresNetworkTo form inputs old.files) f inputs old new
 
--- the same of a survey
+-- a survey of a network's run was written: what was measured, the counts, and when links were policed
 abbrev pub SurveysNetwork : Form → NetworkInputs → World → World → Type 0
 SurveysNetwork form inputs old new = Reports (SurveysNetworkTo form inputs old.files) old new
 
+-- a survey of a network's run was not written
 abbrev pub FailsToSurveyNetwork : Failure → Form → NetworkInputs → World → World → Type 0
 FailsToSurveyNetwork f form inputs old new = FailsToWatchNetwork (SurveysNetworkTo form inputs old.files) f inputs old new
 
@@ -215,7 +223,7 @@ PerformsNetwork (ask.Measure inputs form) old new = MeasuresNetwork form inputs 
 PerformsNetwork (ask.Survey inputs form) old new = SurveysNetwork form inputs old new
 PerformsNetwork (ask.Trace paths) old new = PutsNetworkTrace paths old.files new.files old.failed new.failed × WritesNothing old new
 
--- why it was not, and what was done
+-- why a request of networks was not done, and what was done
 abbrev pub FailsToPerformNetwork : Failure → NetworkRequest → World → World → Type 0
 FailsToPerformNetwork f (ask.Check path form) old new = FailsToCheckNetwork f form path.now old new
 FailsToPerformNetwork f (ask.Size path form) old new = FailsToSizeNetwork f form path.now old new
@@ -233,16 +241,16 @@ PutsResults paths old new results =
     LeadsTo paths old.files results × PutsFiles old.files new.files (names_in paths.output.now results.captures) (bytes_of_captures results.captures)
     × (new.failed ≡ settled_after (length (names_in paths.output.now results.captures)) old.failed)
 
--- and this is their report; there is something that the run is to fail on, or nothing
+-- the results of a run were put, and this is their report; it found something that the run is to fail on (true), or nothing
 abbrev pub RunsTo : Bool → Paths → RunOptions → World → World → List ℕ → Type 0
 RunsTo found paths options old new text =
     (results : Results) × PutsResults paths old new results × (text ≡ text_of options results.counts) × (is_found options.fail_on (verdict_of results.counts) ≡ found)
 
--- it was written, and there is nothing
+-- the results of a run were put and its report was written, and there is nothing that it is to fail on
 abbrev pub Runs : Paths → RunOptions → World → World → Type 0
 Runs paths options old new = Writes (RunsTo false paths options old new) old.written new.written
 
--- there is something, or why not all was done, and what was done
+-- a run found something that it is to fail on; or why it was not put or not reported, and what was done
 abbrev pub FailsToRunAll : Failure → Paths → RunOptions → World → World → Type 0
 FailsToRunAll failure.Found paths options old new = Writes (RunsTo true paths options old new) old.written new.written
 FailsToRunAll failure.Write paths options old new = (found : Bool) × WritesSome (RunsTo found paths options old new) old.written new.written
@@ -252,29 +260,32 @@ FailsToRunAll f paths options old new = FailsToRun f paths old.files new.files o
 abbrev pub Measures : Form → Inputs → World → World → Type 0
 Measures form inputs old new = Reports (MeasuresTo form inputs old.files) old new
 
+-- what was measured of a run was not written
 abbrev pub FailsToMeasure : Failure → Form → Inputs → World → World → Type 0
 FailsToMeasure f form inputs old new = FailsToReport f (MeasuresTo form inputs old.files) (FailsToGather f inputs old.files old.failed new.failed) old new
 
--- the same of a survey
+-- a survey of a run was written: what was measured, the counts, and when links were policed
 abbrev pub Surveys : Form → Inputs → World → World → Type 0
 Surveys form inputs old new = Reports (SurveysTo form inputs old.files) old new
 
+-- a survey of a run was not written
 abbrev pub FailsToSurvey : Failure → Form → Inputs → World → World → Type 0
 FailsToSurvey f form inputs old new = FailsToReport f (SurveysTo form inputs old.files) (FailsToGather f inputs old.files old.failed new.failed) old new
 
 -- ---- recordings
 
--- what was found out from the files was put, if a folder is named for it, and this is its report; nothing speaks against the switch, or something does
+-- what was found out from the files was put, if a folder is named for it, and this is its report; nothing speaks against the switch (true),
+-- or something does
 abbrev pub ComparesTo : Form → Bool → Compare → Recordings → World → World → List ℕ → Type 0
 ComparesTo form conforms c r old new text =
     (from until : ℕ) × (found : Comparison) × PutsRows c r old.files new.files old.failed new.failed from until found
     × (text ≡ report_of form r from until found) × (conform found ≡ conforms)
 
--- it was written, and nothing does
+-- the report of recordings was written, and nothing speaks against the switch
 abbrev pub Compares : Form → Compare → Recordings → World → World → Type 0
 Compares form c r old new = Writes (ComparesTo form true c r old new) old.written new.written
 
--- something does, or why not all was done, and what was done
+-- something speaks against the switch; or why recordings were not compared or not reported, and what was done
 abbrev pub FailsToCompareAll : Failure → Form → Compare → Recordings → World → World → Type 0
 FailsToCompareAll failure.Found form c r old new = Writes (ComparesTo form false c r old new) old.written new.written
 FailsToCompareAll failure.Write form c r old new = (conforms : Bool) × WritesSome (ComparesTo form conforms c r old new) old.written new.written
@@ -282,11 +293,11 @@ FailsToCompareAll f form c r old new = FailsToCompare f c r old.files new.files 
 
 -- ---- what MESSAGES says of a code
 
--- this entry was written
+-- the entry of a code was written
 abbrev pub WritesEntry : List ℕ → Option (List ℕ) → Option (List ℕ) → Type 0
 WritesEntry entry old new = Appends old new entry
 
--- why it was not, and what was written
+-- why the entry of a code was not written, and what was
 abbrev pub FailsToWriteEntry : Failure → List ℕ → Option (List ℕ) → Option (List ℕ) → Type 0
 FailsToWriteEntry failure.Write entry old new = AppendsPrefix old new entry
 FailsToWriteEntry _ entry old new = ⊥
@@ -307,7 +318,7 @@ Performs (request.Compare c r form) input old new = Compares form c r old new
 Performs (request.Explain entry) input old new = WritesEntry entry.now old.written new.written × KeepsFolder old new
 Performs (request.Network r) input old new = PerformsNetwork r old new
 
--- why it was not done, and what was done
+-- why a request was not done, and what was done
 abbrev pub FailsToPerform : Failure → Request → Option (List ℕ) → World → World → Type 0
 FailsToPerform f (request.Alone link) input old new = FailsToAnswer f link input old.written new.written × KeepsFolder old new
 FailsToPerform f (request.Check path form) input old new = FailsToCheck f form path.now old new
@@ -324,7 +335,7 @@ FailsToPerform f (request.Network r) input old new = FailsToPerformNetwork f r o
 abbrev pub Helps : List (List ℕ) → World → World → Type 0
 Helps arguments old new = AskForHelp arguments × ((text : List ℕ) × Appends old.written new.written text) × KeepsFolder old new
 
--- it was, or a request was done
+-- help was asked for and written, or a request was done
 abbrev pub Serves : List (List ℕ) → Option (List ℕ) → World → World → Type 0
 Serves arguments input old new = Helps arguments old new ⊎ ((r : Request) × Asks arguments r × Performs r input old new)
 

@@ -41,6 +41,7 @@ letter_of Buffer = codes " L2"
 letter_of HighDelay = codes " L3"
 letter_of LowDelay = codes " L4"
 
+-- the letters of the rules that a port breaks
 abbrev pub letters_of : List Rule → List ℕ
 letters_of [] = []
 letters_of (rule ∷ rules) = letter_of rule ++ letters_of rules
@@ -55,11 +56,11 @@ abbrev pub amounts_text : PortRow → Load → ℕ → List ℕ
 amounts_text row load least =
     codes "port " ++ decimal row.id ++ codes " rate " ++ pair_text (decimal load.rate) parts ++ codes " buffer " ++ pair_text (decimal least) row.buffer
 
--- their bounds beside the greatest delay, in nanoseconds
+-- the bounds of a port's links beside the greatest delay, in nanoseconds
 abbrev pub delays_text : PortRow → Load → List ℕ
 delays_text row load = codes " high " ++ delay_text load.highs (high_bound load) row.max_delay ++ codes " low " ++ delay_text load.lows (low_bound load) row.max_delay
 
--- these, and the rules that are broken
+-- what is written of a port's size: the amounts, the bounds, and the rules that are broken
 abbrev pub size_text : PortRow → Load → ℕ → List ℕ
 size_text row load least = amounts_text row load least ++ delays_text row load ++ verdict_text (broken_rules row load)
 
@@ -68,16 +69,17 @@ abbrev pub of_switch : Option (List ℕ) → List ℕ
 of_switch None = []
 of_switch (Some name) = codes ", switch " ++ name
 
+-- the columns of one table's sizes, or of a network's
 abbrev pub columns_for : Option (List ℕ) → List (List ℕ)
 columns_for None = size_columns
 columns_for (Some name) = network_size_columns
 
--- what is written of a port
+-- what is written of a port's size, in either form
 abbrev pub size_in : Form → Option (List ℕ) → PortRow → Load → ℕ → List ℕ
 size_in Lines switch row load least = as_line (size_text row load least ++ of_switch switch)
 size_in Csv switch row load least = size_row (columns_for switch) (unwrap_or switch []) row load least
 
--- before all of it
+-- the heading before the sizes of all ports, in a form that has one
 abbrev pub size_heading : Form → Option (List ℕ) → List ℕ
 size_heading form switch = heading_in form (columns_for switch)
 
@@ -95,7 +97,7 @@ AreSizesOf form switch latency links = AreTextsOf (λ row line. IsSizeOf form sw
 abbrev pub AreSizesWith : Form → Option (List ℕ) → Content → List ℕ → Type 0
 AreSizesWith form switch t text = AreSizesOf form switch t.latency t.links t.ports text
 
--- those of a table alone
+-- what is written of the sizes of a table alone
 abbrev pub AreSizesIn : Form → Content → List ℕ → Type 0
 AreSizesIn form t text = (lines : List ℕ) × AreSizesWith form None t lines × (text ≡ size_heading form None ++ lines)
 
@@ -111,7 +113,7 @@ AreSizesFrom form n names [] text = text ≡ []
 AreSizesFrom form n names (t ∷ tables) text =
     (lines : List ℕ) × (rest : List ℕ) × AreSizesWith form (Some (name_of names n)) t lines × AreSizesFrom form (n + 1) names tables rest × (text ≡ lines ++ rest)
 
--- those of all switches
+-- what is written of the sizes of all switches of a network
 abbrev pub AreSizesOfAll : Form → Names → List Content → List ℕ → Type 0
 AreSizesOfAll form names tables text =
     (lines : List ℕ) × AreSizesFrom form 0 names tables lines × (text ≡ size_heading form (Some []) ++ lines)

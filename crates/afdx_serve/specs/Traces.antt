@@ -14,13 +14,15 @@ use Rattle.afdx_messages.specs.declared.failure.Failure.{Failure}
 use Rattle.afdx_folder.specs.Files.{Files, PutsFiles, DeviceLog}
 use Rattle.afdx_serve.specs.Runs.{inputs_of, HasPlan, HasCaptures, StopsAt, EndsAt, FailsToEnd}
 
--- profile: the names of the two files in a folder, in the order in which they are put
+-- profile: the name of the file of arrivals in a folder
 abbrev pub arrivals_name : List ℕ → List ℕ
 arrivals_name folder = folder ++ codes "/arrivals.csv"
 
+-- profile: the name of the file of departures in a folder
 abbrev pub departures_name : List ℕ → List ℕ
 departures_name folder = folder ++ codes "/departures.csv"
 
+-- both names, in the order in which the files are put
 abbrev pub trace_names : List ℕ → List (List ℕ)
 trace_names folder = arrivals_name folder ∷ departures_name folder ∷ []
 
@@ -28,7 +30,7 @@ trace_names folder = arrivals_name folder ∷ departures_name folder ∷ []
 abbrev pub trace_texts : Selection → Run → List (List ℕ)
 trace_texts selection r = arrivals_text selection r ∷ departures_text selection r ∷ []
 
--- that is these texts, if the selection is what the options say
+-- what is reported of a finished switch is these texts, if the selection is what the options say
 abbrev pub AreTracesOf : TraceOptions → Run → List (List ℕ) → Type 0
 AreTracesOf options r texts =
     (selection : Selection) × (selection.links.now ≡ options.links.items) × (selection.relative ≡ options.relative) × (texts ≡ trace_texts selection r)
@@ -42,25 +44,25 @@ pub record TracesTo (paths : Paths) (files : Option Files) (s : State) : Type 0 
   pub is_done : IsDoneOf (not paths.unchecked) table captures s
   pub isolated : paths.unchecked ≡ false → IsIsolatedRun s.run
 
--- it leads to these two texts
+-- the files lead to these two texts
 abbrev pub IsTraceIn : Paths → TraceOptions → Option Files → List (List ℕ) → Type 0
 IsTraceIn paths options files texts = (s : State) × TracesTo paths files s × AreTracesOf options s.run texts
 
--- they were put
+-- the two texts of a trace were put
 abbrev pub PutsTrace : Paths → TraceOptions → Option Files → Option Files → Type 0
 PutsTrace paths options old new = (texts : List (List ℕ)) × IsTraceIn paths options old texts × PutsFiles old new (trace_names paths.output.now) texts
 
--- those before this name were put
+-- the texts of a trace were put as far as those before this name
 abbrev pub StopsTrace : List ℕ → Paths → TraceOptions → Option Files → Option Files → Type 0
 StopsTrace name paths options old new =
     (texts : List (List ℕ)) × IsTraceIn paths options old texts × StopsAt name (trace_names paths.output.now) texts old new
 
--- this name failed
+-- the texts of a trace were not put, since this name failed
 abbrev pub EndsTrace : List ℕ → Paths → TraceOptions → Option Files → Option Files → DeviceLog → DeviceLog → Type 0
 EndsTrace name paths options old new before after =
     (texts : List (List ℕ)) × IsTraceIn paths options old texts × EndsAt name (trace_names paths.output.now) texts old new before after
 
--- they were not put
+-- the texts of a trace were not put
 abbrev pub FailsToTrace : Failure → Paths → TraceOptions → Option Files → Option Files → DeviceLog → DeviceLog → Type 0
 FailsToTrace f paths options old new before after =
     FailsToEnd (λ name. EndsTrace name paths options old new before after) (λ name. StopsTrace name paths options old new) f paths old new before after

@@ -8,10 +8,11 @@ use Rattle.afdx_session.specs.Outcome.{Results, IsOutcome}
 use Rattle.afdx_session.specs.Headline.{IsIsolated}
 use Rattle.afdx_session.specs.Session.{Intake, Seen, taken_of, after_failure}
 
--- the captures of all ports, as far as they have come
+-- the capture of a port, as far as it has come
 abbrev pub text_in : Intake → Text
 text_in i = (i.port, i.bytes)
 
+-- the captures of all ports, as far as they have come
 abbrev pub texts_in : Seen → List Text
 texts_in v = map text_in v.intakes
 

@@ -26,7 +26,7 @@ pub record HasTaken {F : Type 0} (contents : F → Option (List ℕ)) (v : Seen)
   pub were : WereTaken v port taken
   pub appended : Appends (contents start) (contents now) taken
 
--- so has each, of the port at its place
+-- since the start each file has what was taken of the port at its place
 pub record HaveTaken {F : Type 0} (contents : F → Option (List ℕ)) (v : Seen) (start now : List F) : Type 0 where
   pub long : length now ≡ length start
   pub each : (place : ℕ) (p : PortRow) (f g : F) → slice_get v.table.ports place ≡ Some p → slice_get start place ≡ Some f → slice_get now place ≡ Some g → HasTaken contents v p.id f g
@@ -42,6 +42,6 @@ pub record IsFinishedInto {F : Type 0} (contents : F → Option (List ℕ)) (v :
   -- on a checked table the headline holds of it
   pub isolated : v.accepted ≡ true → IsIsolated v.table (texts_in v) whole
 
--- why it was not: a call had failed; or memory ran out or a capture has a fault, that of the lowest port
+-- why the rest of the outputs was not appended: a call had failed; or memory ran out or a capture has a fault, that of the lowest port
 abbrev pub IsNotFinishedInto : Seen → RunFault → Type 0
 IsNotFinishedInto v fault = ((v.failed ≡ true) × (fault ≡ run.Failed)) ⊎ ((v.failed ≡ false) × IsReadFault (texts_in v) fault)

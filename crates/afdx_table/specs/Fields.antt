@@ -24,6 +24,7 @@ abbrev pub are_known : List Key → Members → Bool
 are_known ks no_members = true
 are_known ks (member text d ms) = is_one_of ks text && are_known ks ms
 
+-- the table has no other key than these
 unfoldable pub known_at : At → List Key → Members → Result (Unit {0}) TableFault
 known_at at ks ms = if are_known ks ms then Ok tt else Err (UnknownKey at)
 
@@ -75,11 +76,12 @@ optional_number_at at k ms = if_present (number_in at k) (get_member (key_text k
 unfoldable pub optional_text_at : At → Key → Members → Result (Option (List ℕ)) TableFault
 optional_text_at at k ms = if_present (text_in at k) (get_member (key_text k) ms)
 
--- an optional array of tables: no tables if it is missing
+-- the tables under a key, in file order: none if it is missing
 abbrev pub tables_in : At → Key → Option Data → Result (List Members) TableFault
 tables_in at k None = Ok []
 tables_in at k (Some d) = or_refuse (Kind at k) (option_and_then (all_of as_table) (as_array d))
 
+-- an optional array of tables
 unfoldable pub tables_at : At → Key → Members → Result (List Members) TableFault
 tables_at at k ms = tables_in at k (get_member (key_text k) ms)
 

@@ -5,6 +5,7 @@ use Rattle.afdx_units.specs.declared.bag.Bag.{Bag}
 use Rattle.afdx_units.specs.declared.line.Priority.{Priority}
 use Rattle.afdx_units.specs.declared.police.Police.{Police}
 
+-- a virtual link: its number, where it comes in and leads to, its gap, jitter and greatest frame, its priority, and how it is policed
 pub record Link : Type 0 where
   pub id : ℕ
   -- the port at which its frames come in

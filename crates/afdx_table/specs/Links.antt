@@ -18,6 +18,7 @@ use Rattle.afdx_table.specs.Refusal.{◌>>=◌, or_refuse}
 use Rattle.afdx_table.specs.Fields.{known_at, bounded_at, number_at, numbers_at, text_at, optional_text_at}
 use Rattle.afdx_table.specs.Ports.{has_port}
 
+-- one of these links has the number
 abbrev pub has_link : List Link → ℕ → Bool
 has_link links id = list_any (λ l. l.id == id) links
 
@@ -34,7 +35,7 @@ targets at ports from before (p ∷ rest) =
 abbrev pub first_keys : List Key
 first_keys = key.Id ∷ key.From ∷ key.To ∷ key.Bag ∷ key.Jitter ∷ key.MaxSize ∷ key.Priority ∷ []
 
--- from the second version on a link may state how it is policed
+-- the keys of a link in a table of this version: from the second on it may state how it is policed
 abbrev pub link_keys : ℕ → List Key
 link_keys version = if version == 1 then first_keys else first_keys ++ key.Police ∷ []
 

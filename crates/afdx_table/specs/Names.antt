@@ -49,6 +49,7 @@ speed_of version mbit =
     else if mbit == 1000 && nat_le 3 version then Some Thousand
     else None
 
+-- ARINC 664 Part 7: the gaps (BAG) that a link can have: 1 to 128 ms, each twice the one before
 abbrev pub bags : List Bag
 bags = Ms1 ∷ Ms2 ∷ Ms4 ∷ Ms8 ∷ Ms16 ∷ Ms32 ∷ Ms64 ∷ Ms128 ∷ []
 
@@ -61,6 +62,7 @@ abbrev pub priority_text : Priority → List ℕ
 priority_text High = codes "high"
 priority_text Low = codes "low"
 
+-- profile: the priority of this name
 abbrev pub priority_of : List ℕ → Option Priority
 priority_of text = if bytes_eq text (priority_text High) then Some High else if bytes_eq text (priority_text Low) then Some Low else None
 
@@ -69,5 +71,6 @@ abbrev pub police_text : Police → List ℕ
 police_text Byte = codes "byte"
 police_text Frame = codes "frame"
 
+-- profile: the kind of policing of this name
 abbrev pub police_of : List ℕ → Option Police
 police_of text = if bytes_eq text (police_text Byte) then Some Byte else if bytes_eq text (police_text Frame) then Some Frame else None

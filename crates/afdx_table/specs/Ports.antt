@@ -13,6 +13,7 @@ use Rattle.afdx_table.specs.Names.{speed_of}
 use Rattle.afdx_table.specs.Refusal.{◌>>=◌, or_refuse}
 use Rattle.afdx_table.specs.Fields.{known_at, bounded_at, number_at}
 
+-- one of these ports has the number
 abbrev pub has_port : List PortRow → ℕ → Bool
 has_port ports id = list_any (λ p. p.id == id) ports
 
@@ -21,6 +22,7 @@ abbrev pub with_port : PortRow → List PortRow → List PortRow
 with_port row [] = row ∷ []
 with_port row (p ∷ ps) = if nat_lt row.id p.id then row ∷ p ∷ ps else p ∷ with_port row ps
 
+-- profile: the keys of a port
 abbrev pub port_keys : List Key
 port_keys = key.Id ∷ key.Mbit ∷ key.Buffer ∷ key.MaxDelay ∷ []
 

@@ -19,7 +19,7 @@ first_keys = key.Version ∷ key.Constant ∷ key.Port ∷ key.Link ∷ []
 abbrev pub all_keys : List Key
 all_keys = key.Version ∷ key.Constant ∷ key.Latency ∷ key.Port ∷ key.Link ∷ []
 
--- from the third version on the top may state a latency
+-- the keys of the top of a table of this version: from the third on it may state a latency
 abbrev pub top_keys : ℕ → List Key
 top_keys version = if nat_lt version 3 then first_keys else all_keys
 

@@ -38,6 +38,8 @@ pub record IsLink (ports : List PortRow) (l : Link) : Type 0 where
   pub leads_out : 0 < length l.to
   pub targets : AreTargets ports l.from l.to
 
+-- profile, but for the constant (ARINC 664 Part 7): a table of at most 24 ports, by rising number, and of at most 4,096 links, each number
+-- once; the latency in nanoseconds
 pub record IsWellFormed (c : Content) : Type 0 where
   pub constant_length : length c.constant ≡ 4
   -- ARINC 664 Part 7: the two lowest bits of its first byte are set

@@ -18,6 +18,7 @@ use Rattle.afdx_trace.specs.declared.shown.Shown.{Shown}
 use Rattle.afdx_trace.specs.Csv.{next_field, joined_by, optional}
 use Rattle.afdx_trace.specs.Shown.{is_shown, shown_of}
 
+-- the first line: the names of the columns
 abbrev pub arrivals_heading : List ℕ
 arrivals_heading = codes "frame,port,record,stamp,link,size,fate,early,full\n"
 
@@ -68,15 +69,16 @@ fate_fields r before row =
 abbrev pub record_in : List Row → Row → ℕ
 record_in before row = count_by (λ other. other.in_port == row.in_port) before + 1
 
--- the fields before these: first the number of arrivals before it
+-- the fields before these, which say which frame it was: first the number of arrivals before it
 abbrev pub frame_fields : Shown → List Row → Row → List ℕ
 frame_fields shown before row = decimal (length before)
     ++ flat_map next_field (decimal row.in_port ∷ decimal (record_in before row) ∷ decimal (row.stamp - shown.origin) ∷ optional row.link ∷ decimal row.size ∷ [])
 
+-- the line of an arrival: which frame it was, and what became of it
 abbrev pub arrival_line : Shown → Run → List Row → Row → List ℕ
 arrival_line shown r before row = frame_fields shown before row ++ flat_map next_field (fate_fields r before row) ++ codes "\n"
 
--- that line, if it is shown
+-- the line of an arrival, if it is shown
 abbrev pub shown_line : Shown → Run → List Row → Row → List ℕ
 shown_line shown r before row = if is_shown shown row.link then arrival_line shown r before row else []
 

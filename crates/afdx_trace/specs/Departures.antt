@@ -17,6 +17,7 @@ use Rattle.afdx_trace.specs.declared.shown.Shown.{Shown}
 use Rattle.afdx_trace.specs.Csv.{next_field}
 use Rattle.afdx_trace.specs.Shown.{is_shown, shown_of}
 
+-- the first line: the names of the columns
 abbrev pub departures_heading : List ℕ
 departures_heading = codes "port,record,frame,link,priority,size,came,start,left,delay,outcome\n"
 
@@ -43,6 +44,7 @@ event_lines shown port s before [] = []
 event_lines shown port s before (sending x ∷ events) = if_shown shown x.item (sent_line shown port s (before + 1) x) ++ event_lines shown port s (before + 1) events
 event_lines shown port s before (aging x ∷ events) = if_shown shown x.item (aged_line shown port s x) ++ event_lines shown port s before events
 
+-- the lines of a port: of all copies that it sent or discarded so far
 abbrev pub port_lines : Shown → Run → PortRow → List ℕ
 port_lines shown r p = event_lines shown p.id (settings_of r.table.latency p) 0 (done (port_in r p))
 

@@ -11,6 +11,7 @@ is_among [] link = true
 is_among (l ∷ links) None = false
 is_among (l ∷ links) (Some link) = list_any (λ other. other == link) (l ∷ links)
 
+-- whether lines of this link are shown
 abbrev pub is_shown : Shown → Option ℕ → Bool
 is_shown shown link = is_among shown.links.now link
 

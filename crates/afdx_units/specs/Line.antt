@@ -9,10 +9,11 @@ use Rattle.afdx_units.specs.declared.line.Speed.TheVariants.{Ten, Hundred, Thous
 abbrev pub size_of : ℕ → ℕ
 size_of captured = captured + 4
 
--- IEEE 802.3: the least and the greatest size of a frame in bytes
+-- IEEE 802.3: the least size of a frame in bytes
 abbrev pub least_size : ℕ
 least_size = 64
 
+-- IEEE 802.3: the greatest size of a frame in bytes
 abbrev pub greatest_size : ℕ
 greatest_size = 1518
 

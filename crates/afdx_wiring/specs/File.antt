@@ -22,6 +22,7 @@ use Rattle.afdx_wiring.specs.Fields.{known_at, optional_number_at, flag_at, text
 
 -- ---- what a file says
 
+-- what the file says of a switch
 pub record Switch : Type 0 where
   pub name : List ℕ
   -- the name of its table's file
@@ -31,6 +32,7 @@ pub record Switch : Type 0 where
   -- an outage: nothing comes in there
   pub down : Bool
 
+-- what the file says of a network
 pub record Layout : Type 0 where
   -- what each end system's port captured came over one line
   pub one_line : Bool
@@ -45,6 +47,7 @@ is_down switches place = option_map_or (λ s. s.down) (slice_get switches place)
 
 -- ---- switches
 
+-- one of these switches has the name
 abbrev pub has_switch : List Switch → List ℕ → Bool
 has_switch switches name = list_any (λ s. bytes_eq s.name name) switches
 
@@ -62,6 +65,7 @@ switch_at at before ms = do
   once ← unless (has_switch before name) (TwiceSwitch at)
   Ok (record { name = name; path = path; least = least * 1000; down = down })
 
+-- the switches of these tables, of which n come before
 unfoldable pub switches_from : ℕ → List Switch → List Members → Result (List Switch) NetworkFault
 switches_from n before [] = Ok before
 switches_from n before (ms ∷ rest) = do
@@ -80,12 +84,15 @@ end_at at k ms = do
 unfoldable pub found : At → List Switch → List ℕ × ℕ → Result End NetworkFault
 found at switches e = or_refuse (NoSuchSwitch at) (option_map (λ n. record { switch = n; port = e.1 }) (position (λ s. bytes_eq s.name e.0) switches))
 
+-- both ends are one port of one switch
 abbrev pub is_end : End → End → Bool
 is_end e f = (e.switch == f.switch) && (e.port == f.port)
 
+-- one of these wires comes from this end
 abbrev pub comes_from : List Wire → End → Bool
 comes_from wires e = list_any (λ w. is_end w.from e) wires
 
+-- one of these wires goes to this end
 abbrev pub goes_to : List Wire → End → Bool
 goes_to wires e = list_any (λ w. is_end w.to e) wires
 
@@ -110,6 +117,7 @@ wire_at at switches before ms = do
   to ← found at switches to_text
   fitting at before (record { from = from; to = to; delay = delay; down = down || is_down switches from.switch || is_down switches to.switch })
 
+-- the wires of these tables, of which n come before
 unfoldable pub wires_from : ℕ → List Switch → List Wire → List Members → Result (List Wire) NetworkFault
 wires_from n switches before [] = Ok before
 wires_from n switches before (ms ∷ rest) = do
@@ -118,12 +126,13 @@ wires_from n switches before (ms ∷ rest) = do
 
 -- ---- the file
 
--- what the top says: the version is the first, and there are at most 64 switches
+-- what the top of the file says, its switches and wires not read yet
 pub record Top : Type 0 where
   pub one_line : Bool
   pub switches : List Members
   pub wires : List Members
 
+-- the top of the file: its version is the first, and there are at most 64 switches
 unfoldable pub top_at : Members → Result Top NetworkFault
 top_at ms = do
   known ← known_at place.Top (key.Version ∷ key.OneLine ∷ key.Switch ∷ key.Wire ∷ []) ms
@@ -135,6 +144,7 @@ top_at ms = do
   few ← unless (nat_lt 64 (length switches)) (Range place.Top key.Switch)
   Ok (record { one_line = one_line; switches = switches; wires = wires })
 
+-- the layout that the text's tree says: the top, then each switch, then each wire
 unfoldable pub layout_in : Members → Result Layout NetworkFault
 layout_in ms = do
   top ← top_at ms

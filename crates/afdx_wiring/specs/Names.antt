@@ -7,6 +7,7 @@ use Rattle.afdx_wiring.specs.declared.fault.At.TheVariants as place
 use Rattle.afdx_wiring.specs.declared.fault.Key.{Key}
 use Rattle.afdx_wiring.specs.declared.fault.Key.TheVariants as key
 
+-- a key as it is written in the file, and in the line of a fault
 abbrev pub key_text : Key → List ℕ
 key_text key.Version = codes "version"
 key_text key.OneLine = codes "one_line"
@@ -20,6 +21,7 @@ key_text key.To = codes "to"
 key_text key.Delay = codes "delay_ns"
 key_text key.Down = codes "down"
 
+-- a place of the file in the line of a fault
 abbrev pub place_text : At → List ℕ
 place_text place.Top = codes "top"
 place_text (place.Switch n) = codes "switch " ++ decimal n
@@ -38,10 +40,11 @@ is_name text = nat_le 1 (length text) && nat_le (length text) 16 && list_all is_
 
 -- ---- ends
 
--- the number of a port, from 1 to 24, as decimal digits with no zero before them
+-- a number that ends in this decimal digit, if the digit is from low to high
 abbrev pub digit : (low high base : ℕ) → ℕ → Option ℕ
 digit low high base d = if nat_le (48 + low) d && nat_le d (48 + high) then Some (base + d - 48) else None
 
+-- the number of a port, from 1 to 24, as decimal digits with no zero before them
 abbrev pub port_in : List ℕ → Option ℕ
 port_in (d ∷ []) = digit 1 9 0 d
 port_in (tens ∷ d ∷ []) = if tens == 49 then digit 0 9 10 d else if tens == 50 then digit 0 4 20 d else None

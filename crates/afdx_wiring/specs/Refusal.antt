@@ -14,7 +14,7 @@ abbrev pub or_refuse : {A : Type 0} → NetworkFault → Option A → Result A N
 or_refuse e None = Err e
 or_refuse e (Some x) = Ok x
 
--- nothing, or else the refusal
+-- the refusal if this is so, and else nothing
 abbrev pub unless : Bool → NetworkFault → Result (Unit {0}) NetworkFault
 unless bad e = if bad then Err e else Ok tt
 

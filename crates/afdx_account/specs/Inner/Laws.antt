@@ -26,7 +26,7 @@ NextJoinsWhereItConforms A = (frame_of : A → Frame) (t : Terms) (xs : List A) 
     then passed_of frame_of t xs ++ x ∷ []
     else passed_of frame_of t xs)
 
--- the same of frames themselves
+-- of a list of frames, the next one joins those passed so far exactly if it conforms to them
 abbrev pub NextFrameJoinsWhereItConforms : Type 0
 NextFrameJoinsWhereItConforms = (t : Terms) (frames : List Frame) (f : Frame)
     → passed_frames t (frames ++ f ∷ [])
@@ -42,12 +42,12 @@ abbrev pub HeadroomIsCredited : Type 0
 HeadroomIsCredited = (t : Terms) (frames : List Frame) (now later : ℕ) → now ≤ later → NoneLater frames now
     → headroom t (passed_frames t frames) later ≡ credited_level t (headroom t (passed_frames t frames) now) (later - now)
 
--- a frame conforms exactly if its price is within it
+-- a frame conforms exactly if its price is within the headroom
 abbrev pub HeadroomDecides : Type 0
 HeadroomDecides = (t : Terms) (frames : List Frame) (f : Frame) → NoneLater frames f.stamp
     → conforms t (passed_frames t frames) f ≡ nat_le (t.price f.size) (headroom t (passed_frames t frames) f.stamp)
 
--- and takes its price away from it if it is passed
+-- a frame that is passed takes its price away from the headroom
 abbrev pub HeadroomIsDebited : Type 0
 HeadroomIsDebited = (t : Terms) (passed : List Frame) (f : Frame)
     → headroom t (passed ++ f ∷ []) f.stamp ≡ headroom t passed f.stamp - t.price f.size
@@ -62,7 +62,7 @@ abbrev pub FramePricesPay : Type 0
 FramePricesPay = (max_size : ℕ) (bag : Bag) (jitter : ℕ) (speed : Speed) (size : ℕ) → size ≤ max_size
     → parts * cost_of speed size ≤ frame_weight max_size bag speed * (frame_terms bag jitter).price size
 
--- by either kind
+-- by either kind of policing, what a frame costs pays for its line time
 abbrev pub PricesPay : Type 0
 PricesPay = (police : Police) (max_size : ℕ) (bag : Bag) (jitter : ℕ) (speed : Speed) (size : ℕ) → least_size ≤ size → size ≤ max_size
     → parts * cost_of speed size ≤ weight_by police max_size bag speed * (terms_by police max_size bag jitter).price size

@@ -8,6 +8,7 @@ use Rattle.afdx_pcap.specs.Fault.{last_stamp}
 use Rattle.afdx_pcap.specs.Reading.{AreReadUpTo}
 use Rattle.afdx_pcap.specs.Text.{record_text, capture_text}
 
+-- all of these laws together
 pub record Ground : Type 0 where
   pub next : NextJoinsWhereItConforms Record
   pub by_frames : PassedByTheirFrames Record

@@ -17,6 +17,7 @@ pub record HasOnly (table : Content) (port : ℕ) (link : Alone) : Type 0 where
   pub from_port : row.from ≡ port
   pub greatest : row.max_size ≡ link.max_size
 
+-- a frame is the link's own exactly if such a table's filter finds it clean
 abbrev pub OwnFramesAreClean : Type 0
 OwnFramesAreClean =
     (table : Content) (port : ℕ) (link : Alone) (frame : Record) → HasOnly table port link → IsTrue (is_own link frame) ↔ (verdict_of table port frame ≡ Clean link.id)

@@ -19,6 +19,7 @@ use Rattle.afdx_alone.specs.Answer.{account_terms, passed_of_link}
 use Rattle.afdx_alone.specs.Inner.Offer.{IsOffered}
 use Rattle.afdx_alone.specs.Inner.Sizes.{longest_record}
 
+-- the link's own frames of these records, as its account sees them
 abbrev pub own_frames : Alone → List Record → List Frame
 own_frames link seen = map frame_of (filter (is_own link) seen)
 

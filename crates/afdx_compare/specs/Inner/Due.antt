@@ -23,18 +23,21 @@ abbrev pub IsDueBy : Watch → Content → Source → Bool → Arrival → Type 
 IsDueBy w t s true a = IsDueOf w t s a
 IsDueBy w t s false a = a.due ≡ a.head.frame.stamp
 
+-- a record of this capture is so in order
 abbrev pub IsDue : Watch → Content → Option Source → Arrival → Type 0
 IsDue w t None a = Unit {0}
 IsDue w t (Some s) a = IsDueBy w t s s.leaves a
 
+-- each of these is so in order, by the capture at its place
 abbrev pub AreDue : Watch → Content → List Source → List Arrival → Type 0
 AreDue w t captures arrivals = AllByRecursion (λ a. IsDue w t (slice_get captures a.place) a) arrivals
 
--- a record counts
+-- a record counts by its stamp, as one that left (true) or that came
 abbrev pub counts_as : Watch → Bool → ℕ → Bool
 counts_as w true stamp = has_record w stamp
 counts_as w false stamp = has_frame w stamp
 
+-- a record of this capture counts
 abbrev pub counts : Watch → Option Source → Arrival → Bool
 counts w None a = false
 counts w (Some s) a = counts_as w s.leaves a.head.frame.stamp
@@ -43,11 +46,12 @@ counts w (Some s) a = counts_as w s.leaves a.head.frame.stamp
 abbrev pub AreFrom : Watch → List Source → ℕ → List Arrival → Type 0
 AreFrom w captures at arrivals = AllByRecursion (λ a. counts w (slice_get captures a.place) a ≡ true → at ≤ a.due) arrivals
 
--- a record comes in its turn after what was told before
+-- a record that left (true) or that came is in its turn after what was told before
 abbrev pub MayArriveBy : Source → Bool → Arrival → Comparison → Type 0
 MayArriveBy s true a c = IsInTurn s a.head c
 MayArriveBy s false a c = has_frame c.watch a.head.frame.stamp ≡ true → IsBy a.head.frame.stamp c
 
+-- a record of this capture is in its turn, and there is such a capture
 abbrev pub MayArrive : Option Source → Arrival → Comparison → Type 0
 MayArrive None a c = ⊥
 MayArrive (Some s) a c = MayArriveBy s s.leaves a c

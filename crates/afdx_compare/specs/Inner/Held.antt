@@ -13,11 +13,12 @@ use Rattle.afdx_compare.specs.Arrivals.{with_arrivals}
 abbrev pub is_settled : Recordings → Option ℕ → Bool → ℕ → Bool
 is_settled r greatest leaves stamp = (not leaves || is_some r.until) || option_map_or (λ at. nat_le (stamp + r.tolerance) at) greatest false
 
+-- it is known whether a record of this capture counts
 abbrev pub is_settled_of : Recordings → Option ℕ → Option Source → Arrival → Bool
 is_settled_of r greatest None a = false
 is_settled_of r greatest (Some s) a = is_settled r greatest s.leaves a.head.frame.stamp
 
--- so it is of the first that waits
+-- it is known whether the first record that waits counts
 abbrev pub is_first_settled : Recordings → List Source → Option ℕ → List Arrival → Bool
 is_first_settled r captures greatest [] = false
 is_first_settled r captures greatest (a ∷ waits) = is_settled_of r greatest (slice_get captures a.place) a

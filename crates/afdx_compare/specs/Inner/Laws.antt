@@ -29,11 +29,12 @@ use Rattle.afdx_compare.specs.Within.{IsKeptWithin, exactly}
 abbrev pub ComeInOrder : Content → List Capture → Type 0
 ComeInOrder t read = (l : Link) → Contains t.links l → InOrder 0 (map frame_of (own_records t l read))
 
--- the headline is what our own switch has to keep to: so whatever a run of an accepted table answers keeps to it
+-- over whole and exact captures of an accepted table, what is asked of any switch is the headline
 abbrev pub ExactlyIsIsolated : Type 0
 ExactlyIsIsolated = (t : Content) (read : List Capture) (out : PortRow → List Record) → IsWellFormed t → IsAccepted t → ComeInOrder t read
     → IsKeptWithin (exactly t) t t.ports read out ↔ ((p : PortRow) → Contains t.ports p → IsIsolatedAt t read p (out p))
 
+-- whatever a run of an accepted table answers keeps to what is asked of any switch
 abbrev pub OurRunsKeepToIt : Type 0
 OurRunsKeepToIt = (t : Content) (texts : List Text) (results : Results) → IsWellFormed t → IsAccepted t → AreOfPorts t texts → (run : IsIsolated t texts results)
     → IsKeptWithin (exactly t) t t.ports run.read run.out
@@ -54,18 +55,21 @@ came_in [] captures = []
 came_in (p ∷ ps) [] = []
 came_in (p ∷ ps) (rs ∷ captures) = record { port = p.id; records = rs } ∷ came_in ps captures
 
--- those at the places after them are what left at the ports that were recorded, by the clock that all is compared by
+-- a record with its stamp by a clock
 abbrev pub at_clock : Clock → Record → Record
 at_clock c x = record x { stamp = moved c x.stamp }
 
+-- what was recorded at a port, by the clock that all is compared by
 abbrev pub by_clock : Recordings → PortRow → List Record → List Record
 by_clock r p rs = map (at_clock (output_clock r p)) rs
 
+-- what left at a port, if these are in turn the captures of these ports
 abbrev pub left_among : Recordings → List PortRow → List (List Record) → PortRow → List Record
 left_among r [] captures at = []
 left_among r (p ∷ ps) [] at = []
 left_among r (p ∷ ps) (rs ∷ captures) at = if p.id == at.id then by_clock r p rs else left_among r ps captures at
 
+-- what left at a port that was recorded: those captures are at the places after what came
 abbrev pub left_out : Content → Recordings → List (List Record) → PortRow → List Record
 left_out t r captures at = left_among r (recorded_ports t r) (drop (length t.ports) captures) at
 

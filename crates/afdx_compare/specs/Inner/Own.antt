@@ -13,9 +13,11 @@ abbrev pub is_own_of : ℕ → Option ℕ → Bool
 is_own_of place None = false
 is_own_of place (Some link) = link == place
 
+-- a frame that came at the port of a number, if it counts and is one of the link at this place; else nothing
 abbrev pub own_came : Watch → Content → ℕ → ℕ → Record → List Record
 own_came w t place port r = if has_frame w r.stamp && is_own_of place (place_of_own t port r) then r ∷ [] else []
 
+-- a record of this capture, if it came, counts and is the link's own frame; else nothing
 abbrev pub own_from : Watch → Content → ℕ → Option Source → Record → List Record
 own_from w t place None r = []
 own_from w t place (Some s) r = if s.leaves then [] else own_came w t place s.port r

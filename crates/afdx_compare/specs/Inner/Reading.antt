@@ -22,16 +22,17 @@ pub record IsReady (r : Recordings) (s : Sources) (c : Comparison) : Type 0 wher
   pub sources : s ≡ sources_of c.table r
   pub begun : IsBegun c.table r from keeping c
 
--- each is by the clock of its capture
+-- an arrival is by the clock of its capture
 pub record IsClocked (clocks : List Clock) (a : Arrival) : Type 0 where
   pub clock : Clock
   pub at : slice_get clocks a.place ≡ Some clock
   pub due : a.due ≡ due_at clock a.head.frame.stamp
 
+-- all of these arrivals are by the clocks of their captures
 abbrev pub AreClocked : List Clock → List Arrival → Type 0
 AreClocked clocks arrivals = AllByRecursion (IsClocked clocks) arrivals
 
--- these came so far, of which those that wait are not taken yet; of all that is read the least stamp is this one
+-- these arrivals came so far, of which those that wait are not taken yet; of all that is read the least stamp is this one
 pub record HasRead {R Z : Type 0} (remaining : R → Option (List ℕ)) (r : Recordings) (s : Sources) (first now : List R) (m : Merging Z)
     (least greatest : Option ℕ) (waits : List Arrival) (start c : Comparison) : Type 0 where
   pub came : List Arrival
@@ -41,7 +42,7 @@ pub record HasRead {R Z : Type 0} (remaining : R → Option (List ℕ)) (r : Rec
   pub greatest_is : greatest ≡ greatest_of came
   pub taken : AreTaken r s.captures greatest came waits start c
 
--- these are all
+-- these arrivals are all that readers give
 pub record IsReadOut {R : Type 0} (remaining : R → Option (List ℕ)) (r : Recordings) (s : Sources) (first : List R)
     (least greatest : Option ℕ) (waits : List Arrival) (start c : Comparison) : Type 0 where
   pub came : List Arrival

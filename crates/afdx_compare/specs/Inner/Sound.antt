@@ -29,6 +29,7 @@ pub record IsOf (w : Watch) (t : Content) (l : Link) (f : Watched) : Type 0 wher
   pub terms : account_terms f.account ≡ terms_of l
   pub outputs : AllByRecursion (λ o. IsLimited w t o.port o.limits) f.outputs
 
+-- a comparison has each link and port of its well-formed table at its place, and each link is so
 pub record IsSound (c : Comparison) : Type 0 where
   pub formed : IsWellFormed c.table
   pub many_links : length c.links ≡ length c.table.links

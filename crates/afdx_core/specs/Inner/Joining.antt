@@ -21,12 +21,15 @@ use Rattle.afdx_core.specs.Isolation.{IsRun}
 abbrev pub GoesOn : Run → Run → Type 0
 GoesOn old new = (p : PortRow) → (more : List Sent) × (sent_in new (Some p) ≡ sent_in old (Some p) ++ more)
 
+-- each arrival keeps what ports had sent
 abbrev pub ArrivalsGoOn : Type 0
 ArrivalsGoOn = (r : Run) (row : Row) → r.finished ≡ false → r.latest ≤ row.stamp → GoesOn r (after_row row r)
 
+-- each advance keeps what ports had sent
 abbrev pub AdvancesGoOn : Type 0
 AdvancesGoOn = (r : Run) (to : ℕ) → r.finished ≡ false → r.latest ≤ to → GoesOn r (after_advance to r)
 
+-- the end keeps what ports had sent
 abbrev pub FinishGoesOn : Type 0
 FinishGoesOn = (r : Run) → r.finished ≡ false → GoesOn r (after_finish r)
 
@@ -35,10 +38,11 @@ pub record Joins (r : Run) (row : Row) (p : PortRow) (x : Item) : Type 0 where
   pub admitted : (port_in (after_row row r) p).admitted ≡ (port_in r p).admitted ++ x ∷ []
   pub bytes : occupied_in (after_row row r) (Some p) ≡ x.size + occupied (settings_of r.table.latency p) (came (settings_of r.table.latency p) x) (port_in r p).admitted
 
--- it admitted nothing of it
+-- the port admitted nothing of this arrival
 abbrev pub StaysOut : Run → Row → PortRow → Type 0
 StaysOut r row p = (port_in (after_row row r) p).admitted ≡ (port_in r p).admitted
 
+-- what its answer says has become of the copy: the port queued it, or admitted nothing
 abbrev pub BecomesOf : Run → Row → PortRow → Item → Offer → Type 0
 BecomesOf r row p x Queued = Joins r row p x
 BecomesOf r row p x Full = StaysOut r row p

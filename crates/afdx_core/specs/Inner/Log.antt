@@ -4,6 +4,7 @@ use Rattle.afdx_past.specs.Seen.{Seen}
 use Rattle.afdx_core.specs.declared.step.Row.{Row}
 use Rattle.afdx_core.specs.declared.step.Fate.{Fate}
 
+-- the rows and fates of all arrivals; those that no call needs any more are let go, unless all are kept
 pub record LogValue (Z : Type 0) : Type 0 where
   pub rows : Seen Row
   pub fates : Seen Fate

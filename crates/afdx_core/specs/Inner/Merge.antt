@@ -34,6 +34,7 @@ MergedIsAMerge = (captures : List Capture) → ((port : ℕ) → Rises (records_
 abbrev pub Precedes : Arrival → Arrival → Type 0
 Precedes a b = (a.frame.stamp < b.frame.stamp) ⊎ ((a.frame.stamp ≡ b.frame.stamp) × (a.port ≤ b.port))
 
+-- these arrivals come one before the other
 abbrev pub AreByStampAndPort : List Arrival → Type 0
 AreByStampAndPort [] = Unit {0}
 AreByStampAndPort (a ∷ arrivals) = AllByRecursion (λ b. Precedes a b) arrivals × AreByStampAndPort arrivals

@@ -25,7 +25,7 @@ StartsWithNone = (t : Content) → fresh t ≡ counts_so_far t []
 abbrev pub NoteCountsOneMore : Type 0
 NoteCountsOneMore = (r : Run) (row : Row) → IsWellFormed r.table → noted (step_of r row) (counts_so_far r.table r.rows) ≡ counts_so_far r.table (r.rows ++ row ∷ [])
 
--- the end makes them the counts of the run
+-- the end makes the counts of all arrivals the counts of the run
 abbrev pub EndCountsTheRun : Type 0
 EndCountsTheRun = (r : Run) → IsWellFormed r.table → ended_tally (after_finish r) (counts_so_far r.table r.rows) ≡ counts_of r.table r.rows
 
@@ -36,6 +36,7 @@ NotesCountTheRun = (t : Content) (rows : List Row) → IsWellFormed t
 
 -- ---- sums, while no counter is at its greatest value
 
+-- the frames of all verdicts together
 abbrev pub sum_of_verdicts : InCount → ℕ
 sum_of_verdicts c = c.cut + c.short + c.long + c.foreign + c.no_link + c.wrong_port + c.too_big + c.clean
 

@@ -10,6 +10,7 @@ none = 18446744073709551615
 abbrev pub instant_in : ℕ → Option ℕ
 instant_in n = if nat_le stamp_end n then None else Some n
 
+-- the instants that are kept in the numbers of the first places, of which there are so many
 abbrev pub instants_in : ℕ → List ℕ → List (Option ℕ)
 instants_in places numbers = map instant_in (take places numbers)
 

@@ -35,10 +35,12 @@ place_of WrongPort = 5
 place_of TooBig = 6
 place_of (Clean id) = 7
 
+-- the verdict's own case holds, and none of those before it does
 pub record IsFirstCase (table : Content) (port : ℕ) (frame : Record) (verdict : Verdict) : Type 0 where
   pub holds : HasCase table port frame verdict
   pub none_before : (other : Verdict) → place_of other < place_of verdict → HasCase table port frame other → ⊥
 
+-- the verdict on a frame is the one whose case is the first that holds
 abbrev pub VerdictIsTheFirstCase : Type 0
 VerdictIsTheFirstCase = (table : Content) (port : ℕ) (frame : Record) (verdict : Verdict)
     → (verdict_of table port frame ≡ verdict) ↔ IsFirstCase table port frame verdict

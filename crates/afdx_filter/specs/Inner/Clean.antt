@@ -19,5 +19,6 @@ pub record HasLink (table : Content) (port : ℕ) (frame : Record) (id : ℕ) : 
   pub size_least : least_size ≤ size_of (length frame.bytes)
   pub size_most : size_of (length frame.bytes) ≤ link.max_size
 
+-- a clean frame is one of its link
 abbrev pub CleanFramesHaveALink : Type 0
 CleanFramesHaveALink = (table : Content) (port : ℕ) (frame : Record) (id : ℕ) → verdict_of table port frame ≡ Clean id → HasLink table port frame id

@@ -19,5 +19,6 @@ pub record IsFrameOf (table : Content) (port : ℕ) (frame : Record) (link : Lin
   pub from_port : link.from ≡ port
   pub fits : size_of (length frame.bytes) ≤ link.max_size
 
+-- frames are clean exactly if they are such frames of a link of this number
 abbrev pub CleanExactly : Type 0
 CleanExactly = (table : Content) (port : ℕ) (frame : Record) (id : ℕ) → (verdict_of table port frame ≡ Clean id) ↔ ((link : Link) × (link.id ≡ id) × IsFrameOf table port frame link)

@@ -16,6 +16,7 @@ Grow flows d level after = All (λ flow. (after flow ≤ flow.terms.cap) × (aft
 abbrev pub charge : Item → Flow → ℕ
 charge x flow = if nat_eq flow.id x.link then flow.terms.price x.size else 0
 
+-- each account is debited what the item takes from it, or more
 abbrev pub AreDebited : List Flow → Item → (Flow → ℕ) → (Flow → ℕ) → Type 0
 AreDebited flows x level after = All (λ flow. after flow + charge x flow ≤ level flow) flows
 

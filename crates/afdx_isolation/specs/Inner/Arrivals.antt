@@ -15,7 +15,7 @@ StampsDoNotFall arrivals = InOrder 0 (map frame_of_item arrivals)
 abbrev pub IsClean : List Flow → Item → Type 0
 IsClean flows x = (flow : Flow) → Contains flows flow → x.link ≡ flow.id → (flow.priority ≡ x.priority) × (least_size ≤ x.size) × (x.size ≤ flow.largest)
 
--- those that the flow's policing passes
+-- the arrivals of a flow that its policing passes
 abbrev pub passed : Flow → List Item → List Item
 passed flow arrivals = passed_of frame_of_item flow.terms (own flow.id arrivals)
 
@@ -33,6 +33,7 @@ abbrev pub feed_after : List Flow → List Item → List Item → List Item
 feed_after flows before [] = []
 feed_after flows before (x ∷ arrivals) = if joins flows before x then x ∷ feed_after flows (before ++ x ∷ []) arrivals else feed_after flows (before ++ x ∷ []) arrivals
 
+-- what the port is offered of all arrivals
 abbrev pub feed_of : List Flow → List Item → List Item
 feed_of flows arrivals = feed_after flows [] arrivals
 

@@ -41,7 +41,7 @@ PotentialsHold = (s : Settings) (flows : List Flow) (arrivals : List Item) (now 
     → All (λ (x : Item). x.stamp ≤ now) arrivals
     → KeepsPotentials s flows (reach s now) (level_after arrivals now) (line_at s (reach s now) (feed_of flows arrivals))
 
--- the first gives that all fits into the buffer: no copy is Full
+-- the first potential gives that all fits into the buffer: no copy is Full
 abbrev pub NoneIsFull : Type 0
 NoneIsFull = (s : Settings) (flows : List Flow) (arrivals : List Item) → Arrive s flows arrivals → IsWithinRate s flows → HasBuffer s flows
     → admitted s (feed_of flows arrivals) ≡ feed_of flows arrivals
@@ -51,11 +51,11 @@ abbrev pub KeepsBound : Priority → Type 0
 KeepsBound priority = (s : Settings) (flows : List Flow) (arrivals : List Item) → Arrive s flows arrivals → IsWithinRate s flows → IsWithinDelay s flows priority
     → All (λ event. (item_of event).priority ≡ priority → IsTimely s (demand_of s flows) event) (service s 0 (feed_of flows arrivals))
 
--- the second gives the high bound: no high copy is Aged
+-- the second potential gives the high bound: no high copy is Aged
 abbrev pub HighKeepsBound : Type 0
 HighKeepsBound = KeepsBound High
 
--- the third gives the low bound: no low copy is Aged
+-- the third potential gives the low bound: no low copy is Aged
 abbrev pub LowKeepsBound : Type 0
 LowKeepsBound = KeepsBound Low
 
@@ -67,6 +67,7 @@ pub record IsIsolatedPort (s : Settings) (flows : List Flow) (arrivals : List It
   pub exactly_passed : (flow : Flow) → Contains flows flow
       → own flow.id (map item_of (service s 0 (admitted s (feed_of flows arrivals)))) ≡ passed flow arrivals
 
+-- the law of one port: if it carries its flows, it isolates them, whatever arrives
 abbrev pub Isolates : Type 0
 Isolates = (s : Settings) (flows : List Flow) (arrivals : List Item) → Arrive s flows arrivals → CarriesFlows s flows → IsIsolatedPort s flows arrivals
 
@@ -84,6 +85,7 @@ pub record IsIsolatedSoFar (flows : List Flow) (arrivals : List Item) (c : Conte
   pub in_bound : All (IsInBound c.settings (demand_of c.settings flows)) (sent_of (done c))
   pub prefix : PrefixLeaves flows arrivals c
 
+-- at each instant before the end too, a port that carries its flows isolates them
 abbrev pub IsolatesSoFar : Type 0
 IsolatesSoFar = (c : Content) (flows : List Flow) (arrivals : List Item) → Arrive c.settings flows arrivals → CarriesFlows c.settings flows
     → c.admitted ≡ admitted c.settings (feed_of flows arrivals) → IsIsolatedSoFar flows arrivals c
@@ -92,8 +94,8 @@ IsolatesSoFar = (c : Content) (flows : List Flow) (arrivals : List Item) → Arr
 abbrev pub frames_for : ℕ → Settings → List Flow → List Item → List Frame
 frames_for id s flows arrivals = map frame_of_item (own id (map item_of (service s 0 (admitted s (feed_of flows arrivals)))))
 
--- they are the same at two ports, of two tables and two lists of arrivals, if the link's terms and its own frames are the
--- same, whatever the other links are and send
+-- the frames that leave for a link are the same at two ports, of two tables and two lists of arrivals, if the link's terms and its own
+-- frames are the same, whatever the other links are and send
 abbrev pub OthersChangeNothing : Type 0
 OthersChangeNothing = (s s' : Settings) (flows flows' : List Flow) (flow flow' : Flow) (arrivals arrivals' : List Item)
     → Arrive s flows arrivals → CarriesFlows s flows → Arrive s' flows' arrivals' → CarriesFlows s' flows'

@@ -20,20 +20,23 @@ pub record IsPaidFor (s : Settings) (flow : Flow) : Type 0 where
   pub pays : (size : ℕ) → least_size ≤ size → size ≤ flow.largest → parts * cost_of s.speed size ≤ flow.weight * flow.terms.price size
   pub credited : 0 < flow.weight * flow.terms.rate
 
+-- the flows of high priority
 abbrev pub high_flows : List Flow → List Flow
 high_flows flows = filter (λ flow. is_high flow.priority) flows
 
+-- the flows of low priority
 abbrev pub low_flows : List Flow → List Flow
 low_flows flows = filter (λ flow. not (is_high flow.priority)) flows
 
--- the line time that flows may ask for in each nanosecond, and at once
+-- the line time that flows may ask for in each nanosecond, in parts of a ns
 abbrev pub rates : List Flow → ℕ
 rates flows = sum_by (λ flow. flow.weight * flow.terms.rate) flows
 
+-- the line time that flows may ask for at once, in parts of a ns
 abbrev pub bursts : List Flow → ℕ
 bursts flows = sum_by (λ flow. flow.weight * flow.terms.cap) flows
 
--- the line time in nanoseconds of their longest frame, 0 if there are none
+-- the line time in nanoseconds of the longest frame of these flows, 0 if there are none
 abbrev pub longest : Settings → List Flow → ℕ
 longest s [] = 0
 longest s (flow ∷ flows) = max (cost_of s.speed flow.largest) (longest s flows)
@@ -48,6 +51,7 @@ pub record Demand : Type 0 where
   pub low_largest : ℕ
   pub latency : ℕ
 
+-- what these flows ask of a port with these settings
 abbrev pub demand_of : Settings → List Flow → Demand
 demand_of s flows = record {
   rate = rates flows;
@@ -65,7 +69,7 @@ abbrev pub queue_bound : Demand → Priority → ℕ
 queue_bound demand High = (demand.high_burst + parts * demand.low_largest) / parts
 queue_bound demand Low = demand.burst / (parts - demand.high_rate)
 
--- from its arrival, one latency before that instant
+-- the most nanoseconds from the arrival of a frame to its end: one latency more than from its queueing
 abbrev pub bound : Demand → Priority → ℕ
 bound demand priority = queue_bound demand priority + demand.latency
 

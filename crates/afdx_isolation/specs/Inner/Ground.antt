@@ -7,6 +7,7 @@ use Rattle.afdx_port.specs.Inner.Events.{SentInTime}
 use Rattle.afdx_port.specs.Inner.Order.{ReachesInOrder, KeepsOrder}
 use Rattle.afdx_port.specs.Inner.Work.{WorkBoundsBytes}
 
+-- all of these laws together
 pub record Ground : Type 0 where
   pub credited : HeadroomIsCredited
   pub decides : HeadroomDecides

@@ -20,21 +20,21 @@ pub record IsKeptLevel (s : Settings) (flows : List Flow) (items : List Item) (n
   pub potentials : KeepsPotentials s flows now level (line_at s now items)
   pub ends : All (BeginsAs s (EndsBy parts s (demand_of s flows))) (service s 0 items)
 
--- it is so of a new port
+-- what is kept is true of a new port
 abbrev pub IsKeptAtFirst : Type 0
 IsKeptAtFirst = (s : Settings) (flows : List Flow) (now : ℕ) (level : Flow → ℕ) → AreWithinCaps flows level → IsKeptLevel s flows [] now level
 
--- while time passes
+-- it stays true while time passes
 abbrev pub IsKeptOverTime : Type 0
 IsKeptOverTime = (s : Settings) (flows : List Flow) (items : List Item) (now d : ℕ) (level after : Flow → ℕ) → All (IsPaidFor s) flows → IsWithinRate s flows
     → Grow flows d level after → IsKeptLevel s flows items now level → IsKeptLevel s flows items (now + d) after
 
--- and with an item that its account has paid for
+-- it stays true with an item that its account has paid for
 abbrev pub IsKeptByWhatIsPaidFor : Type 0
 IsKeptByWhatIsPaidFor = (s : Settings) (flows : List Flow) (items : List Item) (x : Item) (level after : Flow → ℕ) → All (IsPaidFor s) flows → IsWithinRate s flows
     → IsOfAFlow flows x → AreDebited flows x level after → IsKeptLevel s flows items (came s x) level → IsKeptLevel s flows (items ++ x ∷ []) (came s x) after
 
--- such an item fits into a buffer that holds the bursts and one frame
+-- an item that its account has paid for fits into a buffer that holds the bursts and one frame
 abbrev pub WhatIsPaidForFits : Type 0
 WhatIsPaidForFits = (s : Settings) (flows : List Flow) (items : List Item) (x : Item) (level after : Flow → ℕ) → All (IsPaidFor s) flows → IsWithinRate s flows → HasBuffer s flows
     → IsOfAFlow flows x → AreDebited flows x level after → IsKeptLevel s flows items (came s x) level → fits s items x ≡ true

@@ -21,7 +21,7 @@ pub record CarriesLines (s : Settings) (flows : List Flow) (lines : List Line) (
   pub buffer : burst + parts * (demand_by s flows burst high_burst).largest ≤ parts * (tick_of s.speed * s.buffer)
   pub delay : (priority : Priority) → All (λ (flow : Flow). flow.priority ≡ priority → bound (demand_by s flows burst high_burst) priority ≤ s.max_delay) flows
 
--- as without lines, with the bounds of this demand
+-- a port isolates its flows, with the bounds of this demand
 pub record IsIsolatedBy (s : Settings) (flows : List Flow) (demand : Demand) (arrivals : List Item) : Type 0 where
   pub none_full : admitted s (feed_of flows arrivals) ≡ feed_of flows arrivals
   pub timely : All (IsTimely s demand) (service s 0 (admitted s (feed_of flows arrivals)))

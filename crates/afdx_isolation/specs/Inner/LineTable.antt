@@ -20,11 +20,12 @@ use Rattle.afdx_isolation.specs.Table.{bound_of, settings_of}
 abbrev pub comes_in : List Link → (port id : ℕ) → Bool
 comes_in links port id = list_any (λ l. nat_eq l.id id && nat_eq l.from port) links
 
--- the lines of a table's ports, over some of which frames are known to come one after the other, to within so many nanoseconds
+-- the line of a port: the links that come in there, and whether frames are known to come over it one after the other, to within so many ns
 abbrev pub line_at : List Link → (rounding_at : ℕ → Option ℕ) → PortRow → Line
 line_at links rounding_at q =
     record { has = comes_in links q.id; known = option_map (λ rounding. record { speed = q.speed; rounding = rounding }) (rounding_at q.id) }
 
+-- the lines of all ports of a table
 abbrev pub lines_of : Content → (ℕ → Option ℕ) → List Line
 lines_of t rounding_at = map (line_at t.links rounding_at) t.ports
 
@@ -45,6 +46,7 @@ pub record IsInLesserBound (t : Content) (row : PortRow) (burst high_burst : ℕ
   pub least : x.item.stamp + t.latency + cost_of row.speed x.item.size ≤ x.end
   pub most : x.end ≤ x.item.stamp + bound
 
+-- if frames come over lines as they are said to, whatever a port sends is within such a bound
 abbrev pub AcceptedLinesKeepBounds : Type 0
 AcceptedLinesKeepBounds = (t : Content) (arrivals : List Item) → ArriveAt t arrivals → (row : PortRow) → Contains t.ports row
     → (rounding_at : ℕ → Option ℕ) → KeepToLines (lines_of t rounding_at) arrivals → (burst high_burst : ℕ) → AreLesser t row rounding_at burst high_burst

@@ -12,6 +12,7 @@ use Rattle.afdx_port.specs.Inner.Work.{item_cost}
 use Rattle.afdx_account.specs.Policing.{parts}
 use Rattle.afdx_isolation.specs.Inner.Flow.{Flow, Demand, high_flows, demand_of}
 
+-- the line time of these items together, in ns
 abbrev pub costs : Settings → List Item → ℕ
 costs s items = sum_by (item_cost s) items
 

@@ -29,6 +29,7 @@ pub record IsWithinSupply (n : ℕ) (s : Settings) (demand : Demand) (now start 
   pub low_ends : Ahead s (LowEnds n s demand now u.high_level) (start + costs s first) second
   pub high_ends : Ahead s (HighEnds n s demand) start first
 
+-- what waits at a port's line as it stands is within the supply
 abbrev pub KeepsSupply : Settings → Demand → ℕ → Supply → LineState → Type 0
 KeepsSupply s demand now u line = IsWithinSupply parts s demand now line.free u (highs line.waiting) (lows line.waiting)
 

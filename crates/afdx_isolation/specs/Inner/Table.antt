@@ -57,6 +57,7 @@ pub record IsIsolatedAt (t : Content) (row : PortRow) (arrivals : List Item) (c 
       × (own link.id (map (λ (x : Sent). x.item) (sent_of (done c))) ++ rest ≡ passed_by link arrivals)
       × (c.finished ≡ true → rest ≡ [])
 
+-- if a table's load is accepted, each port isolates its links, whatever arrives
 abbrev pub AcceptedTablesIsolate : Type 0
 AcceptedTablesIsolate = (t : Content) (arrivals : List Item) → ArriveAt t arrivals → (row : PortRow) → Contains t.ports row
     → (c : PortContent) → c.settings ≡ settings_of t.latency row → c.admitted ≡ admitted (settings_of t.latency row) (feed_of (flows_at t row) arrivals)
@@ -77,8 +78,8 @@ OffersWhatThePolicingPasses = (t : Content) → IsWellFormed t → (row : PortRo
 abbrev pub frames_for : ℕ → PortContent → List Frame
 frames_for id c = map frame_of_item (own id (map (λ (x : Sent). x.item) (sent_of (done c))))
 
--- in two tables, and after two lists of arrivals, these are the same at the ports of a link whose terms and whose own frames are
--- the same, whatever the other links are and send
+-- in two tables, and after two lists of arrivals, the frames that ports have sent for a link are the same if its terms and its own frames
+-- are the same, whatever the other links are and send
 abbrev pub OthersChangeNothingInTables : Type 0
 OthersChangeNothingInTables = (t t' : Content) (arrivals arrivals' : List Item) → ArriveAt t arrivals → ArriveAt t' arrivals'
     → (row row' : PortRow) → Contains t.ports row → Contains t'.ports row'

@@ -17,7 +17,7 @@ fates_from t level since (f ∷ fs) =
     let passes = nat_le (t.price f.size) now in
     passes ∷ fates_from t (if passes then now - t.price f.size else now) f.stamp fs
 
--- those of a list whose fate is to be passed
+-- the elements of a list whose fate is to be passed
 abbrev pub chosen : {A : Type 0} → List Bool → List A → List A
 chosen [] xs = []
 chosen (passes ∷ fates) [] = []
@@ -37,7 +37,7 @@ abbrev pub AtRestIsTheAccount : Type 0
 AtRestIsTheAccount = (t : Terms) (frames : List Frame) (fates : List Bool) → AllFit t frames
     → Allowed t 0 (at_rest t 0) frames fates ↔ (fates ≡ fates_from t t.cap 0 frames)
 
--- so that those that they choose are those that policing passes
+-- at rest and without noise the frames that fates choose are those that policing passes
 abbrev pub AccountsChooseWhatConforms : Type 0
 AccountsChooseWhatConforms = (t : Terms) (frames : List Frame) → InOrder 0 frames → chosen (fates_from t t.cap 0 frames) frames ≡ passed_frames t frames
 
@@ -53,6 +53,7 @@ abbrev pub FateMayBe : Type 0
 FateMayBe = (t : Terms) (tolerance size : ℕ) (l : Levels) (seen : Bool) → l.least ≤ l.most
     → IsTrue (may_be t tolerance size l (fate_told (outlook_of t tolerance size l) seen))
 
+-- how much is unknown of a level, in units
 abbrev pub width : Levels → ℕ
 width l = l.most - l.least
 
@@ -84,7 +85,7 @@ NoiseIsAllowedAtRest = (t : Terms) (tolerance : ℕ) (came seen : List Frame) �
     → AllZip (IsNear tolerance) came seen
     → Allowed t tolerance (at_rest t tolerance) seen (fates_from t t.cap 0 came)
 
--- and also whatever level it had at the instant from which on all was recorded
+-- what an account did with what came is allowed of what was recorded, whatever level it had at the instant from which on all was recorded
 abbrev pub NoiseIsAllowed : Type 0
 NoiseIsAllowed = (t : Terms) (tolerance level since : ℕ) (came seen : List Frame) → level ≤ t.cap → InOrder since came → InOrder since seen → AllFit t seen
     → AllZip (IsNear tolerance) came seen

@@ -6,6 +6,7 @@ use Rattle.afdx_units.specs.declared.line.Priority.TheVariants.{High, Low}
 use Rattle.afdx_table.specs.Link.{Link}
 use Rattle.afdx_load.specs.Load.{Load, rate_of, burst_of, time_of}
 
+-- a load with one more link of this priority, by its rate and burst in parts of a ns and the line time of its longest frame in ns
 abbrev pub counted : Priority → ℕ → ℕ → ℕ → Load → Load
 counted High rate burst time load = record {
   highs = load.highs + 1;
@@ -30,5 +31,6 @@ counted Low rate burst time load = record {
   latency = load.latency;
 }
 
+-- a load with one more link
 abbrev pub with_link : Speed → Load → Link → Load
 with_link speed load link = counted link.priority (rate_of speed link) (burst_of speed link) (time_of speed link) load

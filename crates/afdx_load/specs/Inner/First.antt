@@ -21,6 +21,7 @@ place_of Buffer = 1
 place_of HighDelay = 2
 place_of LowDelay = 3
 
+-- the fault's rule is broken at its port, no rule before it is, and none is at a lower port
 pub record IsFirstFault (c : Content) (f : LoadFault) : Type 0 where
   pub row : PortRow
   pub is_port : Contains c.ports row
@@ -32,5 +33,6 @@ pub record IsFirstFault (c : Content) (f : LoadFault) : Type 0 where
   pub no_rule_before : (rule : Rule) → place_of rule < place_of f.rule → Breaks c row rule → ⊥
   pub no_lower_port : (other : PortRow) → Contains c.ports other → other.id < row.id → (rule : Rule) → Breaks c other rule → ⊥
 
+-- the fault that a check names is the one that is so
 abbrev pub FaultIsTheFirst : Type 0
 FaultIsTheFirst = (c : Content) (f : LoadFault) → IsWellFormed c → (first_fault c.latency c.links c.ports ≡ Some f) ↔ IsFirstFault c f

@@ -23,7 +23,7 @@ AsksWhatItsAccountGives = (speed : Speed) (link : Link) →
     (rate_of speed link ≡ weight_of speed link * (terms_of link).rate)
     × (burst_of speed link ≡ weight_of speed link * (terms_of link).cap)
 
--- and each asks for something
+-- each link asks for something
 abbrev pub EachLinkAsks : Type 0
 EachLinkAsks = (speed : Speed) (link : Link) → least_size ≤ link.max_size → 0 < rate_of speed link
 

@@ -8,11 +8,12 @@ use Rattle.afdx_table.specs.declared.rows.PortRow.{PortRow}
 use Rattle.afdx_load.specs.Load.{Load, asked_of}
 use Rattle.afdx_load.specs.Inner.Adding.{with_link}
 
--- each is a place, and is there once
+-- each of these numbers is a place, and is there once
 abbrev pub are_slots : List ℕ → Bool
 are_slots [] = true
 are_slots (n ∷ ns) = nat_lt n 25 && not (list_any (λ m. m == n) ns) && are_slots ns
 
+-- the speed in the place of a port's number
 abbrev pub speed_at : List Speed → ℕ → Speed
 speed_at speeds port = slice_index_or speeds port Ten
 
@@ -24,6 +25,7 @@ HasSpeeds speeds ports = All (λ row. (row.id < 25) × (speed_at speeds row.id �
 abbrev pub AreLoads : List Link → List PortRow → List Load → Type 0
 AreLoads links ports loads = All (λ row. (row.id < 25) × ((d : Load) → slice_index_or loads row.id d ≡ asked_of row.speed row.id links)) ports
 
+-- each load has room for one more link
 abbrev pub HaveRoom : List Load → Type 0
 HaveRoom loads = (port : ℕ) (d : Load) → port < 25 → (slice_index_or loads port d).highs + (slice_index_or loads port d).lows < 4096
 

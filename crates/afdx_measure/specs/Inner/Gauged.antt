@@ -29,7 +29,7 @@ pub record IsGaugedAt {Z : Type 0} (r : Run) (place : ℕ) (p : PortRow) (g : At
   pub delays : (k : ℕ) (l : Link) (d : Delays) → slice_get r.table.links k ≡ Some l → slice_index_or g.delays.items k d ≡ summary_of (delays_of l.id (handed_at r place p))
   pub peak : g.peak ≡ peak_at r p
 
--- so it is at the port of a number
+-- what is noted of the port of a number agrees with the run
 pub record IsOfPort {Z : Type 0} (r : Run) (port : ℕ) (g : AtPort Z) : Type 0 where
   pub place : ℕ
   pub row : PortRow
@@ -37,7 +37,7 @@ pub record IsOfPort {Z : Type 0} (r : Run) (port : ℕ) (g : AtPort Z) : Type 0 
   pub there : slice_get r.table.ports place ≡ Some row
   pub gauged : IsGaugedAt r place row g
 
--- so it is at each port
+-- what is noted of each port agrees with the run
 pub record AreGauged {Z : Type 0} (r : Run) (g : Gauges Z) : Type 0 where
   pub formed : IsWellFormed r.table
   pub counts : length r.handed ≡ length r.table.ports
@@ -51,11 +51,13 @@ AgreesWith r (Some g) = AreGauged r g
 
 -- ---- at first
 
+-- nothing is noted of a port yet
 pub record IsFresh {Z : Type 0} (links : ℕ) (g : AtPort Z) : Type 0 where
   pub long : length g.delays.items ≡ links
   pub none : (k : ℕ) (d : Delays) → k < links → slice_index_or g.delays.items k d ≡ summary_of []
   pub peak : g.peak ≡ None
 
+-- nothing is noted of any port of a table yet
 pub record AreFresh {Z : Type 0} (t : Content) (ports : List (AtPort Z)) : Type 0 where
   pub formed : IsWellFormed t
   pub many : length ports ≡ length t.ports
@@ -63,7 +65,7 @@ pub record AreFresh {Z : Type 0} (t : Content) (ports : List (AtPort Z)) : Type 
 
 -- ---- notes at a port
 
--- its buffer held so much, which is noted after what it held before
+-- the buffer of the port at a place held so much, which is noted after what it held before
 pub record IsFilledAt {Z : Type 0} (place : ℕ) (filling : Filling) (old new : List (AtPort Z)) : Type 0 where
   pub long : length new ≡ length old
   pub others : (k : ℕ) (a : AtPort Z) → k ≢ place → slice_index_or new k a ≡ slice_index_or old k a
@@ -71,7 +73,7 @@ pub record IsFilledAt {Z : Type 0} (place : ℕ) (filling : Filling) (old new : 
   pub here : (a : AtPort Z) (all : List Filling) → place < length old → (slice_index_or old place a).peak ≡ peak_of all
       → (slice_index_or new place a).peak ≡ peak_of (all ++ filling ∷ [])
 
--- it handed out one copy more, of the link at a place
+-- the port at a place handed out one copy more, of the link at a place
 pub record IsSentAt {Z : Type 0} (place link : ℕ) (s : Sent) (old new : List (AtPort Z)) : Type 0 where
   pub long : length new ≡ length old
   pub others : (k : ℕ) (a : AtPort Z) → k ≢ place → slice_index_or new k a ≡ slice_index_or old k a
@@ -84,6 +86,7 @@ pub record IsSentAt {Z : Type 0} (place link : ℕ) (s : Sent) (old new : List (
 
 -- ---- the answers of ports to an arrival
 
+-- how full a port's buffer was, admission by admission
 abbrev pub fillings_in : Run → PortRow → List Filling
 fillings_in r p = fillings (settings_of r.table.latency p) [] (port_in r p).admitted
 
@@ -92,10 +95,11 @@ abbrev pub FillsBy : Run → Run → ℕ → PortRow → Offer → Type 0
 FillsBy r now at p Queued = peak_at now p ≡ peak_of (fillings_in r p ++ record { bytes = occupied_in now (Some p); at = at } ∷ [])
 FillsBy r now at p Full = peak_at now p ≡ peak_at r p
 
+-- the ports that were offered a copy
 abbrev pub asked : List (ℕ × Offer) → List ℕ
 asked offers = map (λ (o : ℕ × Offer). o.0) offers
 
--- so it is of each port that was asked. None was asked twice, and the peak of each other port is as it was
+-- each port that was asked noted its answer; none was asked twice, and the peak of each other port is as it was
 pub record Fill (r now : Run) (at : ℕ) (offers : List (ℕ × Offer)) : Type 0 where
   pub formed : IsWellFormed now.table
   pub once : IsDistinct nat_eq (asked offers)

@@ -21,7 +21,7 @@ pub record HaveSpells (r : Run) (spells : List Noted) : Type 0 where
   pub each : (place : ℕ) (l : Link) (d : Noted) → slice_get r.table.links place ≡ Some l
       → ((slice_index_or spells place d).gap ≡ bag_ns l.bag) × ((slice_index_or spells place d).spells ≡ spells_in r l)
 
--- these, how many frames came, and when the first and the last of them did
+-- the spells of each link, how many frames came, and when the first and the last of them did
 pub record IsPoliced {Z : Type 0} (r : Run) (p : Policing Z) : Type 0 where
   pub formed : IsWellFormed r.table
   pub spells : HaveSpells r p.spells.items
@@ -33,7 +33,7 @@ abbrev pub KnowsPolicing : {Z : Type 0} → Run → Option (Policing Z) → Type
 KnowsPolicing r None = Unit {0}
 KnowsPolicing r (Some p) = IsPoliced r p
 
--- the ends with one arrival more
+-- the stamps of the first and of the last arrival, with one arrival more
 abbrev pub ends_with : ℕ → Option (ℕ × ℕ) → Option (ℕ × ℕ)
 ends_with at None = Some (at, at)
 ends_with at (Some ends) = Some (ends.0, at)

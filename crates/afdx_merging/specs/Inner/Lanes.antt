@@ -18,7 +18,7 @@ use Rattle.afdx_merging.specs.Merge.{numbered_from}
 abbrev pub fresh_lane : {Z : Type 0} → Clock → Lane Z
 fresh_lane c = record { clock = c; reader = record { bytes = []; given = 0; closed = false; fault = None; lent = false }; head = None; count = 0 }
 
--- its next record was taken from it
+-- a lane after its next record was taken from it
 abbrev pub without_head : {Z : Type 0} → Lane Z → Lane Z
 without_head l = record l { head = None }
 

@@ -20,10 +20,11 @@ use Rattle.afdx_merging.specs.Inner.Lanes.{without_head, IsAtHand, IsReadBy, IsS
 abbrev pub due_of : {Z : Type 0} → Lane Z → Option ℕ
 due_of l = option_map (λ n. due_at l.clock n.frame.stamp) l.head
 
+-- the instants by which the next records of lanes are in order
 abbrev pub dues_of : {Z : Type 0} → List (Lane Z) → List (Option ℕ)
 dues_of lanes = map (λ l. due_of l) lanes
 
--- the stamp of its next record
+-- the stamp of a lane's next record
 abbrev pub stamp_of : {Z : Type 0} → Lane Z → Option ℕ
 stamp_of l = option_map (λ n. n.frame.stamp) l.head
 
@@ -46,7 +47,7 @@ pub record IsLaneOf {R Z : Type 0} (remaining : R → Option (List ℕ)) (c : Cl
   pub are : at_place place arrivals ≡ map (arrival_at place c) given
   pub at_hand : IsAtHand l
 
--- so did all, in order; readers gave this at first, and give that now
+-- all lanes handed out these arrivals, in order; readers gave this at first, and give that now
 pub record HasMerged {R Z : Type 0} (remaining : R → Option (List ℕ)) (clocks : List Clock) (first now : List R) (m : Merging Z) (arrivals : List Arrival) : Type 0 where
   pub room : 0 < length m.piece.items
   pub many : length m.lanes.items ≡ length clocks
@@ -71,11 +72,11 @@ IsUnreadAt place (fault.Capture at why) = ⊥
 abbrev pub HaveNoFault : {Z : Type 0} → List (Lane Z) → ℕ → Type 0
 HaveNoFault {Z} lanes n = (k : ℕ) (l : Lane Z) → k < n → slice_get lanes k ≡ Some l → l.reader.fault ≡ None
 
--- the one at a place has no record at hand
+-- the lane at a place has no record at hand
 abbrev pub HasNoneAt : {Z : Type 0} → List (Lane Z) → ℕ → Type 0
 HasNoneAt {Z} lanes place = (l : Lane Z) → slice_get lanes place ≡ Some l → l.head ≡ None
 
--- those before a place have what their readers gave, which gave this at first
+-- the lanes before a place have what their readers gave, which gave this at first
 abbrev pub AreReadBy : {R Z : Type 0} → (R → Option (List ℕ)) → List R → List R → List (Lane Z) → ℕ → Type 0
 AreReadBy {R} {Z} remaining first now lanes n = (k : ℕ) (f r : R) (l : Lane Z) → k < n → slice_get first k ≡ Some f → slice_get now k ≡ Some r → slice_get lanes k ≡ Some l
     → (given : List Numbered) × IsReadBy remaining f r l given
@@ -133,7 +134,7 @@ pub record IsFirstOut {R : Type 0} (remaining : R → Option (List ℕ)) (first 
   pub here : (f : R) → slice_get first place ≡ Some f → IsReadOut remaining f (Some why)
   pub before : (k : ℕ) (f : R) → k < place → slice_get first k ≡ Some f → IsReadOut remaining f None
 
--- of those before a place the first that gives a fault, if one does
+-- the first of the readers before a place that gives a fault, if one does
 abbrev pub IsFoundBefore : {R : Type 0} → (R → Option (List ℕ)) → List R → ℕ → Option (ℕ × PcapFault) → Type 0
 IsFoundBefore {R} remaining first n None = (k : ℕ) (f : R) → k < n → slice_get first k ≡ Some f → IsReadOut remaining f None
 IsFoundBefore {R} remaining first n (Some found) = (found.0 < n) × IsFirstOut remaining first found.0 found.1

@@ -33,7 +33,7 @@ end_place ends e = position_or_len (λ x. is_end x e) ends
 abbrev pub records_at : (place : ℕ) → List Arrival → List Record
 records_at place came = map (λ a. a.head.frame) (at_place place came)
 
--- those that came in at a port: of the capture at its place
+-- the records of these arrivals that came in at a port: of the capture at its place
 abbrev pub came_at : List End → List Arrival → (switch port : ℕ) → List Record
 came_at ends came switch port = records_at (end_place ends (end_at switch port)) came
 
@@ -82,12 +82,12 @@ pub record IsNextIn {R : Type 0} (remaining : R → Option (List ℕ)) (net : Ne
 
 -- ---- the lines, when all were taken
 
--- those that came in at the port at a place came over one line
+-- the records that came in at the port at a place came over one line
 abbrev pub IsOverItsLine : Network → List Arrival → (place : ℕ) → Type 0
 IsOverItsLine net came place = (e : End) (row : PortRow) → slice_get (open_ends net) place ≡ Some e → port_at net e ≡ Some row
     → RecordsKeepToLineWithin stamp_rounding row.speed (records_at place came)
 
--- if the file says so, all did
+-- the records of each port came over one line, if the file says so
 abbrev pub AreOverLines : Network → List Arrival → Type 0
 AreOverLines net came = net.layout.one_line ≡ true → (place : ℕ) → IsOverItsLine net came place
 
@@ -102,11 +102,12 @@ pub record BreaksALine (net : Network) (came : List Arrival) (switch port number
   pub row_is : port_at net (end_at switch port) ≡ Some row
   pub breach : IsBreachAt row.speed (records_at place came) number
 
+-- the fault says where a line was broken so
 abbrev pub IsLineFault : Network → List Arrival → NetworkRunFault → Type 0
 IsLineFault net came (fault.Line switch port number) = BreaksALine net came switch port number
 IsLineFault net came _ = ⊥
 
--- all were taken
+-- all arrivals were taken, over the lines of their ports
 pub record HasTakenAll {R : Type 0} (remaining : R → Option (List ℕ)) (net : Network) (first : List R) (old : Intake) (came : List Arrival) : Type 0 where
   pub more : List Arrival
   pub merged : AreMerged remaining (map (λ e. same_clock) (open_ends net)) first (came ++ more)
@@ -115,7 +116,7 @@ pub record HasTakenAll {R : Type 0} (remaining : R → Option (List ℕ)) (net :
 
 -- ---- what is given is not read on
 
--- the same fault, said of a port
+-- the fault of captures that are merged, said of a port
 abbrev pub IsFaultAt : List End → MergeFault → NetworkRunFault → Type 0
 IsFaultAt ends merge.Memory why = why ≡ fault.Memory
 IsFaultAt ends (merge.Read place) why = why ≡ fault.Read place

@@ -24,7 +24,7 @@ pub record IsNotedAt (o : Origins) (switch : ℕ) (v : Paced) (p : PortRow) (l :
   pub first : sends_up_to v (Some v.reached) p ≡ sent_from o.sent (end_at switch p.id) ++ rest
   pub many : length (sent_from o.sent (end_at switch p.id)) ≡ length l.left
 
--- so it is at each port of each switch, and all keep their lists or none does
+-- what was noted of each port of each switch is so, and all keep their lists or none does
 pub record AreNotedAt (net : Network) (keeps : Bool) (o : Origins) (sites : List Site) : Type 0 where
   pub network : o.net ≡ net
   pub kept : (switch : ℕ) (s : Site) → slice_get sites switch ≡ Some s → s.paced.keeps ≡ keeps
@@ -35,7 +35,7 @@ pub record NoneHasLeft (keeps : Bool) (s : Site) : Type 0 where
   pub kept : s.paced.keeps ≡ keeps
   pub each : (port : ℕ) (l : Lane) → lane_at s.paced port ≡ Some l → l.left ≡ []
 
--- so it is, if anything is noted
+-- what was noted is so, if anything is noted
 abbrev pub AreNoted : Network → (keeps : Bool) → List Site → Option Origins → Type 0
 AreNoted net keeps sites None = Unit {0}
 AreNoted net keeps sites (Some o) = AreNotedAt net keeps o sites

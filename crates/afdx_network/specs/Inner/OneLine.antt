@@ -10,7 +10,8 @@ use Rattle.afdx_network_check.specs.Net.{Network, stamp_rounding}
 use Rattle.afdx_network.specs.declared.line.Line.{Line}
 use Rattle.afdx_network.specs.Given.{is_open, IsBreachAt}
 
--- it has brought these records: none came too soon, and it keeps the soonest instant of the last one; or it keeps the number of the first that did
+-- a line has brought these records: none came too soon, and it keeps the soonest instant of the last one; or it keeps the number of the
+-- first that did
 pub record HasBrought (line : Line) (records : List Record) : Type 0 where
   pub kept : line.breach ≡ None → RecordsKeepToLineWithin stamp_rounding line.speed records × (line.came ≡ last_soonest line.speed None (map frame_of records))
   pub broken : (number : ℕ) → line.breach ≡ Some number → IsBreachAt line.speed records number

@@ -5,12 +5,13 @@ use Rattle.std.specs.Io.KnownBytes.{Appends}
 use Rattle.afdx_pcap.specs.Text.{capture_text}
 use Rattle.afdx_session.specs.Texts.{Text}
 
+-- the capture of what left a port: the bytes that have gone to its file, and those that have not
 pub record Output : Type 0 where
   pub port : ℕ
   pub gone : List ℕ
   pub text : List ℕ
 
--- that of a port that nothing left
+-- the capture of a port that nothing left
 abbrev pub silent : ℕ → Output
 silent port = record { port = port; gone = []; text = capture_text [] }
 
@@ -18,10 +19,11 @@ silent port = record { port = port; gone = []; text = capture_text [] }
 abbrev pub all_gone : Output → Output
 all_gone o = record { port = o.port; gone = o.gone ++ o.text; text = [] }
 
--- the whole captures, and what has gone of each
+-- the whole captures
 abbrev pub texts_in : List Output → List Text
 texts_in outputs = map (λ o. (o.port, o.gone ++ o.text)) outputs
 
+-- what has gone to the file of each capture
 abbrev pub gone_in : List Output → List (List ℕ)
 gone_in outputs = map (λ o. o.gone) outputs
 

@@ -83,7 +83,7 @@ pub record IsSite (net : Network) (given : Given) (switch : ℕ) (s : Site) : Ty
 abbrev pub HasSent : Option ℕ → Site → Type 0
 HasSent h s = AtPorts (λ p l. length (out_up_to s.paced h p) ≤ length l.left) s.paced
 
--- so much at one port
+-- all that leaves the port of a number up to an instant has left; all that ever leaves it, if there is none
 abbrev pub HasSentAt : Option ℕ → ℕ → Site → Type 0
 HasSentAt h port s = (p : PortRow) (l : Lane) → port_row s.paced.table port ≡ Some p → lane_at s.paced port ≡ Some l → length (out_up_to s.paced h p) ≤ length l.left
 
@@ -129,7 +129,7 @@ pub record AreSites (net : Network) (given : Given) (sites : List Site) : Type 0
   pub each : (switch : ℕ) (s : Site) → slice_get sites switch ≡ Some s → IsSite net given switch s
   pub all : length sites ≡ length net.tables
 
--- and whatever left has gone over the wires
+-- each switch of the network has its site, and whatever left has gone over the wires
 pub record AreCarried (net : Network) (given : Given) (sites : List Site) : Type 0 where
   pub are : AreSites net given sites
   pub wires : All (IsCarried sites) net.layout.wires
@@ -218,6 +218,7 @@ pub record HandsOut (old new : Site) (place port : ℕ) (out : Record) : Type 0 
   pub gone : new.gone ≡ old.gone
   pub next : new.next ≡ old.next
 
+-- the next record that left the port at a place went to its capture, if there was one
 abbrev pub IsHandedOut : Site → Site → (place port : ℕ) → Option Record → Type 0
 IsHandedOut old new place port None = NoneGoesOut old.paced new.paced port × (new.left ≡ old.left) × (new.gone ≡ old.gone) × (new.next ≡ old.next)
 IsHandedOut old new place port (Some out) = HandsOut old new place port out
@@ -229,10 +230,11 @@ pub record HandsOver (old new : Site) : Type 0 where
   pub next : new.next ≡ old.next
   pub long : length new.gone ≡ length old.gone
 
--- what has gone to the files of each switch, and of all of them
+-- what has gone to the files of each switch
 abbrev pub gone_at : List Site → List (List (List ℕ))
 gone_at sites = map (λ s. s.gone) sites
 
+-- what has gone to the files of all of them, file by file
 abbrev pub gone_of : List Site → List (List ℕ)
 gone_of sites = flat_map (λ all. all) (gone_at sites)
 
@@ -255,7 +257,7 @@ pub record CanCome (sites : List Site) (w : Wire) (frame : Record) : Type 0 wher
   pub at : slice_get sites w.to.switch ≡ Some site
   pub fine : put_refusal site.paced w.to.port (frame.stamp + w.delay) ≡ None
 
--- it came there
+-- a record came at a wire's end, later by the wire's delay
 pub record CameOver (old new : List Site) (w : Wire) (frame : Record) : Type 0 where
   pub site : Site
   pub at : slice_get old w.to.switch ≡ Some site
@@ -264,7 +266,7 @@ pub record CameOver (old new : List Site) (w : Wire) (frame : Record) : Type 0 w
   pub small : IsWithinLimit frame
   pub new_is : new ≡ slice_set old w.to.switch (after_putting w.to.port (delayed w.delay frame) site)
 
--- why it did not: memory ran out, or it would come in the last second that pcap can hold, or later
+-- why a record did not come over a wire: memory ran out, or it would come in the last second that pcap can hold, or later
 abbrev pub IsLateFault : Wire → Record → NetworkRunFault → Type 0
 IsLateFault w frame fault.Memory = Unit {0}
 IsLateFault w frame (fault.Capture switch port why) = (switch ≡ w.to.switch) × (port ≡ w.to.port) × (last_second ≤ frame.stamp + w.delay) × IsLate why
@@ -279,7 +281,7 @@ pub record SendsOn (end : ℕ) (old new : Site) : Type 0 where
   pub out : (h : ℕ) (p : PortRow) → h ≤ end → out_up_to new.paced (Some h) p ≡ out_up_to old.paced (Some h) p
   pub left : (port : ℕ) (l : Lane) → lane_at new.paced port ≡ Some l → (was : Lane) × (lane_at old.paced port ≡ Some was) × (length was.left ≤ length l.left)
 
--- so do all
+-- all switches go on within a window
 pub record SendOn (end : ℕ) (old new : List Site) : Type 0 where
   pub all : length new ≡ length old
   pub each : (n : ℕ) (s : Site) → slice_get new n ≡ Some s → (was : Site) × (slice_get old n ≡ Some was) × SendsOn end was s
@@ -307,7 +309,7 @@ pub record Visits (net : Network) (given : Given) (begin end switch : ℕ) (old 
 abbrev pub latest : ℕ
 latest = 4294967231000000000
 
--- after so many switches and cables, each of which takes at most 501 ms
+-- 64 seconds before the last second, and so many switches and cables later, each of which takes at most 501 ms
 abbrev pub after_hops : ℕ → ℕ
 after_hops n = latest + n * 501000000
 

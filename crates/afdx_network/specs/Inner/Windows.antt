@@ -28,7 +28,7 @@ pub record GoesOn {R : Type 0} (remaining : R → Option (List ℕ)) (net : Netw
   pub on : IsOnWay remaining net first now i (came ++ more) given h sites
   pub early : (order : HasOrder net) → All (λ w. w.delay ≤ 1000000) net.layout.wires → All IsAccepted net.tables → NoneCameLate (came ++ more) → AreEarly order.place old → AreEarly order.place sites
 
--- nothing is left
+-- nothing is left of what is given, and all has left the switches
 pub record IsThrough {R : Type 0} (remaining : R → Option (List ℕ)) (net : Network) (first now : List R) (i : Intake) (sites : List Site) : Type 0 where
   pub came : List Arrival
   pub given : Given
@@ -64,7 +64,7 @@ pub record HasRunThrough {R F : Type 0} (remaining : R → Option (List ℕ)) (c
   pub files : length new ≡ length (gone_of sites)
   pub gone : HaveGone contents old new (gone_of sites)
 
--- so it is of a run over all that the readers give
+-- nothing is left of a run over all that the readers give
 pub record IsRunOver {R F : Type 0} (remaining : R → Option (List ℕ)) (contents : F → Option (List ℕ)) (net : Network) (first : List R) (old new : List F) (sites : List Site) : Type 0 where
   pub given : Given
   pub given_by : AreGivenBy remaining net first given

@@ -13,7 +13,7 @@ given_in n t = option_map_or (λ place. record t { links = with_jitter place (n.
 abbrev pub given : RowNeed → List Content → List Content
 given n ts = if nat_le n.need 10000 then option_map_or (λ t. slice_set ts n.switch (given_in n t)) (slice_get ts n.switch) ts else ts
 
--- one after another
+-- tables, each of whose rows here is given what it needs, one after another
 abbrev pub given_all : List RowNeed → List Content → List Content
 given_all [] ts = ts
 given_all (n ∷ ns) ts = given_all ns (given n ts)

@@ -19,6 +19,6 @@ abbrev pub HasWholeJitters : Network → Type 0
 HasWholeJitters net = (r : Row) (backs : List Back) (d : Delays) → Contains (rows_of net) r → IsWayBack net r backs → AreDelaysBy (whole_bound_at net) net backs d
     → IsEnough d (source_of r backs).link.jitter r.link.jitter
 
--- then they are enough
+-- jitters that are enough for the bounds by whole loads are enough
 abbrev pub WholeJittersAreEnough : Type 0
 WholeJittersAreEnough = (net : Network) → All IsWellFormed net.tables → HasWholeJitters net → HasJitters net

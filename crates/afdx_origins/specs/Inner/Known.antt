@@ -44,7 +44,7 @@ pub record IsComing (net : Network) (sent : List Departure) (switch : ℕ) (t : 
   pub each : (place : ℕ) (l : Link) (a : AtLink) → slice_get t.links place ≡ Some l
       → All (IsOnItsWay net sent (record { switch = switch; link = l })) (slice_index_or s.links.items place a).coming.items
 
--- so it is at each switch
+-- each frame that is known at any switch came for its row
 pub record AreComing (net : Network) (sent : List Departure) (switches : List AtSwitch) : Type 0 where
   pub many : length switches ≡ length net.tables
   pub each : (switch : ℕ) (t : Content) (s : AtSwitch) → slice_get net.tables switch ≡ Some t → IsComing net sent switch t (slice_index_or switches switch s)
@@ -53,12 +53,13 @@ pub record AreComing (net : Network) (sent : List Departure) (switches : List At
 abbrev pub delays_in : List AtSwitch → AtSwitch → AtLink → (switch place : ℕ) → List Delays
 delays_in switches s a switch place = (slice_index_or (slice_index_or switches switch s).links.items place a).delays.items
 
--- they are those of what was sent
+-- the delays that are kept are those of what was sent
 pub record HaveDelays (net : Network) (sent : List Departure) (switches : List AtSwitch) : Type 0 where
   pub ports : (switch place link : ℕ) (l : Link) (s : AtSwitch) (a : AtLink) → IsRowAt net switch link place l → length (delays_in switches s a switch place) ≡ length l.to
   pub each : (switch place link port at : ℕ) (l : Link) (s : AtSwitch) (a : AtLink) (d : Delays) → IsRowAt net switch link place l → position (λ to. to == port) l.to ≡ Some at
       → IsSummary net sent link (record { switch = switch; port = port }) (slice_index_or (delays_in switches s a switch place) at d)
 
+-- all that is kept agrees with what was sent
 pub record AreKnown (net : Network) (sent : List Departure) (switches : List AtSwitch) : Type 0 where
   pub coming : AreComing net sent switches
   pub delays : HaveDelays net sent switches
@@ -73,19 +74,20 @@ pub record Leaves (net : Network) (sent : List Departure) (e : End) (link end fi
   pub leads : leads_to e.port row.link ≡ true
   pub came : CameFirst net sent row copy first
 
--- the delays stay
+-- the delays that are kept stay as they were
 pub record KeepDelays (old new : List AtSwitch) : Type 0 where
   pub many : length new ≡ length old
   pub delays : (switch place : ℕ) (s : AtSwitch) (a : AtLink) → delays_in new s a switch place ≡ delays_in old s a switch place
 
 -- ---- at first, and one delay more
 
+-- nothing came for the link, and there are no delays at any of its ports
 pub record IsFreshLink (many : ℕ) (a : AtLink) : Type 0 where
   pub none : a.coming.items ≡ []
   pub ports : length a.delays.items ≡ many
   pub no_delays : (place : ℕ) (d : Delays) → place < many → slice_index_or a.delays.items place d ≡ summary_of []
 
--- of each link of a table
+-- nothing came for any link of a table, and there are no delays
 pub record IsFreshSwitch (t : Content) (s : AtSwitch) : Type 0 where
   pub formed : IsWellFormed t
   pub many : length s.links.items ≡ length t.links
@@ -98,7 +100,7 @@ pub record HasJoined (c : Coming) (old new : List Coming) : Type 0 where
   pub was : old ≡ gone ++ kept
   pub is : new ≡ kept ++ c ∷ []
 
--- so it is of the link at a place
+-- some of the first frames of the link at a place were forgotten, and one came in after the others
 pub record HasComing (place : ℕ) (c : Coming) (old new : List AtLink) : Type 0 where
   pub within : place < length old
   pub long : length new ≡ length old
@@ -113,7 +115,7 @@ pub record HasMore (place delay : ℕ) (old new : List Delays) : Type 0 where
   pub others : (k : ℕ) (d : Delays) → k ≢ place → slice_index_or new k d ≡ slice_index_or old k d
   pub here : (ns : List ℕ) (d : Delays) → slice_index_or old place d ≡ summary_of ns → slice_index_or new place d ≡ summary_of (ns ++ delay ∷ [])
 
--- so it is of the link at a place
+-- a port of the link at a place has one delay more
 pub record HasDelay (place port delay : ℕ) (old new : List AtLink) : Type 0 where
   pub within : place < length old
   pub long : length new ≡ length old

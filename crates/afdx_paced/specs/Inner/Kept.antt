@@ -17,7 +17,7 @@ use Rattle.afdx_paced.specs.Paced.{Paced, captures_of, out_up_to}
 use Rattle.afdx_paced.specs.Inner.Parts.{Parts, lanes_of, gone_of, waiting_of}
 use Rattle.afdx_paced.specs.declared.feeder.Feeder.{Feeder}
 
--- as contracts see it
+-- a feeder as contracts see it
 abbrev pub paced_of : {Z : Type 0} → Feeder Z → ℕ → Bool → Paced
 paced_of f reached failed = record { table = f.switch.run.table; lanes = lanes_of f.lanes.items; reached = reached; failed = failed; keeps = f.switch.keeps }
 
@@ -61,7 +61,7 @@ pub record IsFirstBefore (until : ℕ) (heads : List (Option ℕ)) (place : ℕ)
   pub first : IsFirstUpTo heads (length heads) place stamp
   pub before : stamp < until
 
--- none of them does
+-- none of these instants lies before another one
 abbrev pub NoneBefore : ℕ → List (Option ℕ) → Type 0
 NoneBefore until heads = (place at : ℕ) → place < length heads → instant_at heads place ≡ Some at → until ≤ at
 
@@ -94,6 +94,7 @@ pub record HasLeft {Z : Type 0} (h : ℕ) (f : Feeder Z) (place : ℕ) (p : Port
   pub rest : List Record
   pub prefix : out_up_to (paced_of f h false) (Some h) p ≡ l.left ++ rest
 
+-- what each port of the switch handed out is what left there
 abbrev pub HaveLeft : {Z : Type 0} → ℕ → Feeder Z → Type 0
 HaveLeft h f = (place : ℕ) (p : PortRow) (l : Parts) → slice_get f.switch.run.table.ports place ≡ Some p → slice_get f.lanes.items place ≡ Some l → HasLeft h f place p l
 

@@ -26,10 +26,11 @@ abbrev pub Rise : {X : Type 0} → (X → ℕ) → List X → Type 0
 Rise f [] = Unit {0}
 Rise f (x ∷ xs) = AllByRecursion (λ other. f x ≤ f other) xs × Rise f xs
 
--- the instants of spots, and of records
+-- spots are in the order of their instants
 abbrev pub AreInOrder : List Spot → Type 0
 AreInOrder spots = Rise (λ s. s.stamp) spots
 
+-- records are in the order of their stamps
 abbrev pub ComeInOrder : List Numbered → Type 0
 ComeInOrder ns = Rise (λ n. n.frame.stamp) ns
 

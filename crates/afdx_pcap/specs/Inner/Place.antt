@@ -39,7 +39,7 @@ found_in bytes x = record { stamp = x.stamp; original = x.original; bytes = take
 abbrev pub next_in : List ℕ → Next → Record
 next_in bytes x = record { stamp = x.progress.last; original = x.original; bytes = take (x.progress.place - x.start) (drop x.start bytes) }
 
--- its bytes are there, and not too many for a record
+-- the bytes of a record are there, and not too many for one
 pub record IsPart (bytes : List ℕ) (x : Next) : Type 0 where
   pub order : x.start ≤ x.progress.place
   pub within : x.progress.place ≤ length bytes
@@ -56,7 +56,7 @@ pub record BeginsAt (kept : List ℕ) (p : Progress) (x : Next) : Type 0 where
 abbrev pub Comes : List ℕ → Option Progress → Next → Type 0
 Comes kept o x = (p : Progress) × (place_of kept o ≡ Ok p) × BeginsAt kept p x
 
--- none does
+-- no whole record comes next
 abbrev pub NoneComes : List ℕ → ℕ → Option Progress → Type 0
 NoneComes kept n o = (p : Progress) → place_of kept o ≡ Ok p → record_fault p.format p.last (n + 1) (drop p.place kept) ≢ None
 

@@ -12,7 +12,7 @@ abbrev pub EarlierEventsStay : Type 0
 EarlierEventsStay = (s : Settings) (t free : ℕ) (items : List Item) (x : Item) → t ≤ came s x
     → before t (service s free (items ++ x ∷ [])) ≡ before t (service s free items)
 
--- nor does an offer of it
+-- an offer of an arrival that is queued at t or later changes no event before t
 abbrev pub EarlierEventsStayAdmitted : Type 0
 EarlierEventsStayAdmitted = (s : Settings) (t : ℕ) (admitted : List Item) (x : Item) → t ≤ came s x
     → before t (service s 0 (admit s admitted x)) ≡ before t (service s 0 admitted)

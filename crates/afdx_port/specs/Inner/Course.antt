@@ -61,12 +61,14 @@ abbrev pub WorkIsOfTheLine : Type 0
 WorkIsOfTheLine = (s : Settings) (t : ℕ) (items : List Item)
     → work s t items ≡ ((line_at s t items).free - t) + sum_by (item_cost s) (line_at s t items).waiting
 
--- an item that waits, that an event is about, or that was sent, is one of those that came
+-- an item that waits is one of those that came
 abbrev pub WaitingIsOfItems : Type 0
 WaitingIsOfItems = (s : Settings) (t : ℕ) (items : List Item) → All (Contains items) (line_at s t items).waiting
 
+-- an item that an event is about is one of those that came
 abbrev pub EventsAreOfItems : Type 0
 EventsAreOfItems = (s : Settings) (free : ℕ) (items : List Item) → All (λ event. Contains items (item_of event)) (service s free items)
 
+-- an item that was sent is one of those that were admitted
 abbrev pub SentIsOfItems : Type 0
 SentIsOfItems = (c : Content) → All (λ (sent : Sent). Contains c.admitted sent.item) (sent_of (done c))

@@ -11,10 +11,11 @@ use Rattle.afdx_port.specs.Service.{Event, sending, item_of, fate, service, befo
 abbrev pub EachHasOneEvent : Type 0
 EachHasOneEvent = (s : Settings) (free : ℕ) (items : List Item) (kind : Item → Bool) → count_by (λ event. kind (item_of event)) (service s free items) ≡ count_by kind items
 
--- of events in two parts, what is sent or discarded is that of the first part, and then that of the second
+-- of events in two parts, what is sent is that of the first part and then that of the second
 abbrev pub SentInParts : Type 0
 SentInParts = (first second : List Event) → sent_of (first ++ second) ≡ sent_of first ++ sent_of second
 
+-- of events in two parts, what is discarded is that of the first part and then that of the second
 abbrev pub AgedInParts : Type 0
 AgedInParts = (first second : List Event) → aged_of (first ++ second) ≡ aged_of first ++ aged_of second
 
@@ -28,6 +29,6 @@ pub record SentGoesOn : Type 0 where
 abbrev pub SentInTime : Type 0
 SentInTime = (s : Settings) (b : ℕ) (x : Item) → b - x.stamp ≤ s.max_delay → fate s b x ≡ sending (record { item = x; begin = b; end = b + cost_of s.speed x.size })
 
--- and that takes time, whatever its size
+-- sending an item takes time, whatever its size
 abbrev pub SendingTakesTime : Type 0
 SendingTakesTime = (speed : Speed) (size : ℕ) → 0 < cost_of speed size

@@ -18,9 +18,10 @@ abbrev pub OccupiedIsWhatHasNotGone : Type 0
 OccupiedIsWhatHasNotGone = (s : Settings) (items later : List Item) (x : Item) → InOrder s (items ++ x ∷ later)
     → occupied s (came s x) items + gone (came s x) (sent_of (service s 0 (items ++ x ∷ later))) (aged_of (service s 0 (items ++ x ∷ later))) ≡ sum_by (λ item. item.size) items
 
--- the ends of what is sent do not fall, nor do the instants at which items are discarded
+-- the ends of what is sent do not fall
 abbrev pub SentEndInOrder : Type 0
 SentEndInOrder = (s : Settings) (items : List Item) → AllPairs (λ a b. a.end ≤ b.end) (sent_of (service s 0 items))
 
+-- the instants at which items are discarded do not fall
 abbrev pub AgedInOrder : Type 0
 AgedInOrder = (s : Settings) (items : List Item) → AllPairs (λ a b. a.at ≤ b.at) (aged_of (service s 0 items))

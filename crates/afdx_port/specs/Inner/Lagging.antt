@@ -13,7 +13,7 @@ NothingDueStays = (c : Content) (to : ℕ) → c.finished ≡ false → c.horizo
 abbrev pub AdvanceAdds : Type 0
 AdvanceAdds = (c : Content) (to : ℕ) → c.finished ≡ false → c.horizon ≤ to → (more : List Event) × (done (advanced to c) ≡ done c ++ more)
 
--- and so does what the end carries out
+-- what the end carries out comes after what was carried out before
 abbrev pub FinishAdds : Type 0
 FinishAdds = (c : Content) → (more : List Event) × (done (closed c) ≡ done c ++ more)
 

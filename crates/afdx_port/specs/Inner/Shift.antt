@@ -18,6 +18,6 @@ later_by d (aging x) = aging (record { item = x.item; at = x.at + d })
 abbrev pub LatencyMovesEvents : Type 0
 LatencyMovesEvents = (s : Settings) (items : List Item) → s.latency ≤ s.max_delay → service s 0 items ≡ map (later_by s.latency) (service (at_once s) 0 items)
 
--- and the same items are admitted
+-- if the latency is within the greatest delay, the same items are admitted
 abbrev pub LatencyAdmitsTheSame : Type 0
 LatencyAdmitsTheSame = (s : Settings) (feed : List Item) → s.latency ≤ s.max_delay → admitted s feed ≡ admitted (at_once s) feed

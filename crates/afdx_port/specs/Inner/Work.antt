@@ -52,11 +52,11 @@ EndsWithinASecond = (s : Settings) (free : ℕ) (items : List Item) → s.max_de
 abbrev pub WorkBalances : Type 0
 WorkBalances = (s : Settings) (t : ℕ) (items : List Item) → NoneAged s t items → work s t items + line_time t s items ≡ sum_by (item_cost s) items
 
--- and the line rests only if no work is left
+-- the work falls with time: the line rests only if no work is left
 abbrev pub WorkFalls : Type 0
 WorkFalls = (s : Settings) (t u : ℕ) (items : List Item) → t ≤ u → HaveCome s t items → NoneAged s u items → work s u items ≡ work s t items - (u - t)
 
--- and a new arrival adds its line time
+-- a new arrival adds its line time to the work
 abbrev pub WorkGrows : Type 0
 WorkGrows = (s : Settings) (t : ℕ) (items : List Item) (x : Item) → t ≤ came s x → NoneAged s t items → work s t (items ++ x ∷ []) ≡ work s t items + item_cost s x
 
@@ -75,7 +75,7 @@ HighWorkFalls = (s : Settings) (t u most : ℕ) (items : List Item) → t ≤ u 
 abbrev pub WithinCurve : Settings → ℕ → ℕ → ℕ → ℕ → List Item → Type 0
 WithinCurve s scale most rate t items = (pre mid : List Item) (x : Item) → items ≡ pre ++ x ∷ mid → scale * sum_by (item_cost s) (x ∷ mid) ≤ most + rate * (t - came s x)
 
--- such arrivals keep the work within `most`/`scale`
+-- arrivals within a curve keep the work within `most`/`scale`
 abbrev pub WorkWithin : Type 0
 WorkWithin = (s : Settings) (scale most rate t : ℕ) (items : List Item) → rate ≤ scale → InOrder s items → HaveCome s t items → NoneAged s t items
     → WithinCurve s scale most rate t items → scale * work s t items ≤ most
@@ -84,7 +84,7 @@ WorkWithin = (s : Settings) (scale most rate t : ℕ) (items : List Item) → ra
 abbrev pub high_cost : Settings → Item → ℕ
 high_cost s item = if is_high item.priority then item_cost s item else 0
 
--- the same of the high items alone
+-- in each window that begins with a high item and ends with the list, the line time of high items that comes is within the curve
 abbrev pub HighWithinCurve : Settings → ℕ → ℕ → ℕ → ℕ → List Item → Type 0
 HighWithinCurve s scale most rate t items = (pre mid : List Item) (x : Item) → items ≡ pre ++ x ∷ mid → scale * sum_by (high_cost s) (x ∷ mid) ≤ most + rate * (t - came s x)
 

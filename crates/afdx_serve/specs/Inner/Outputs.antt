@@ -7,11 +7,11 @@ use Rattle.afdx_serve.specs.Runs.{StopsAt, StopsSettling}
 
 -- ---- of the files of a folder that did not show its own, nothing is said
 
--- they have no byte
+-- new files have no byte
 abbrev pub AreEmpty : {N : Type 0} → (N → Option (List ℕ)) → Option Files → List N → Type 0
 AreEmpty {N} contents shown files = IfSome shown (λ _. (place : ℕ) (new : N) → slice_get files place ≡ Some new → contents new ≡ Some [])
 
--- each has the bytes at its place
+-- each new file has the bytes at its place
 abbrev pub HaveBytes : {N : Type 0} → (N → Option (List ℕ)) → Option Files → List N → List (List ℕ) → Type 0
 HaveBytes {N} contents shown files all =
     IfSome shown (λ _. (place : ℕ) (new : N) (bytes : List ℕ) → slice_get files place ≡ Some new → slice_get all place ≡ Some bytes → contents new ≡ Some bytes)

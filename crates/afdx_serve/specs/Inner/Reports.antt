@@ -10,7 +10,7 @@ use Rattle.afdx_serve.specs.Verdicts.{text_of, is_found}
 abbrev pub needs_verdict : RunOptions → Bool
 needs_verdict o = o.verdict || o.fail_on.policed || o.fail_on.filtered || o.fail_on.lost
 
--- it has the text, and says whether there is something that the run is to fail on
+-- a report has the text of a run's counters, and says whether there is something that the run is to fail on
 pub record IsReportOf (options : RunOptions) (counts : Tally) (report : Report) : Type 0 where
   pub text : string_bytes report.text ≡ text_of options counts
   pub found : report.is_found ≡ is_found options.fail_on (verdict_of counts)

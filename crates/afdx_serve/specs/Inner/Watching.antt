@@ -39,7 +39,7 @@ pub record HasPartsMore (form : Form) (name : List ℕ) (counts : Tally) (s : St
   pub buffers : new.buffers.items ≡ old.buffers.items ++ buffers_of form network_survey_columns name s
   pub policing : new.policing.items ≡ old.policing.items ++ spells_of form name s
 
--- it is of these switches, their counts below a heading
+-- what is written of the switches is of these, their counts below a heading
 pub record ArePartsOf (form : Form) (names : Names) (switches : List (Tally × State)) (p : Parts) : Type 0 where
   pub counts : p.counts.items ≡ heading_in form network_survey_columns ++ counts_in form names switches
   pub buffers : p.buffers.items ≡ buffers_in form network_survey_columns names switches
@@ -56,7 +56,7 @@ pub record HasTraced (files : Option Files) (path : List ℕ) (net : Network) (t
   pub whole : ShowsAllLines selection
   pub texts_are : texts ≡ network_trace_texts selection firsts (map (λ (both : Tally × State). both.1) switches)
 
--- it came to these counts and finished switches, and sent these copies, of which this is so
+-- a network's run came to these counts and finished switches, and sent these copies, of which this is so
 pub record HasMeasured (Says : List (Tally × State) → Origins → Type 0) (files : Option Files) (path : List ℕ) (net : Network) : Type 0 where
   pub switches : List (Tally × State)
   pub origins : Origins

@@ -32,7 +32,7 @@ pub record HavePrefixes {F : Type 0} (contents : F → Option (List ℕ)) (t : C
   pub each : (place k : ℕ) (p : PortRow) (f g : F) → slice_get t.ports place ≡ Some p → slice_get taken place ≡ Some k → slice_get start place ≡ Some f → slice_get now place ≡ Some g
       → Appends (contents f) (contents g) (take k (output_text t arrivals p))
 
--- whatever the captures are read as
+-- whatever the captures are read as, each file has so many bytes more, the first of its port's output
 abbrev pub HaveMore : {F : Type 0} → (F → Option (List ℕ)) → Content → List Text → List ℕ → List F → List F → Type 0
 HaveMore contents t texts taken start now = (read : List Capture) → AreCaptures texts read → HavePrefixes contents t (merged read) taken start now
 

@@ -22,13 +22,14 @@ pub record IsLaneOf {Z : Type 0} (l : Lane Z) (s : Stream) : Type 0 where
   pub ended : s.closed ≡ l.ended
   pub read : HasRead l s.records
 
+-- the lanes agree with the records that were read of their captures, port by port
 abbrev pub AreLanesOf : {Z : Type 0} → List (Lane Z) → List Stream → Type 0
 AreLanesOf [] [] = Unit {0}
 AreLanesOf [] (s ∷ streams) = ⊥
 AreLanesOf (l ∷ lanes) [] = ⊥
 AreLanesOf (l ∷ lanes) (s ∷ streams) = IsLaneOf l s × AreLanesOf lanes streams
 
--- there is one for each port of a table, by rising number
+-- there is one lane for each port of a table, by rising number
 pub record AreOfTable {Z : Type 0} (t : Content) (lanes : List (Lane Z)) : Type 0 where
   pub formed : IsWellFormed t
   pub ports : map (λ (l : Lane Z). l.port) lanes ≡ map (λ (p : PortRow). p.id) t.ports
@@ -48,11 +49,11 @@ pub record IsOutAt (t : Content) (given : List Arrival) (h : ℕ) (s : State) (p
   pub taken : n ≤ length (text_up_to t given h p)
   pub left : out ≡ drop n (text_up_to t given h p)
 
--- and its lane has of that text what was not taken
+-- the port at a place handed out what it sends up to an instant, and its lane has of that text what was not taken
 abbrev pub IsOut : {Z : Type 0} → Content → List Arrival → ℕ → State → PortRow → ℕ → Lane Z → Type 0
 IsOut t given h s p place l = IsOutAt t given h s p place l.taken l.out.items
 
--- so did the ports at these places
+-- the ports at these places handed out what they send up to an instant
 abbrev pub AreOut : {Z : Type 0} → Content → List Arrival → ℕ → State → List (Lane Z) → (ℕ → Type 0) → Type 0
 AreOut {Z} t given h s lanes In = (place : ℕ) (p : PortRow) (l : Lane Z) → In place → slice_get t.ports place ≡ Some p → slice_get lanes place ≡ Some l → IsOut t given h s p place l
 
@@ -100,6 +101,7 @@ pub record IsTouched {Z : Type 0} (old new : Lane Z) : Type 0 where
   pub more : List ℕ
   pub out : new.out.items ≡ old.out.items ++ more
 
+-- each lane is as it was in the course of a call, but for what waits, for its last stamp and for its output
 abbrev pub AreTouched : {Z : Type 0} → List (Lane Z) → List (Lane Z) → Type 0
 AreTouched [] [] = Unit {0}
 AreTouched [] (n ∷ new) = ⊥
@@ -112,6 +114,7 @@ pub record IsGrown {Z : Type 0} (old new : Lane Z) : Type 0 where
   pub last : new.last ≡ old.last
   pub waiting : new.waiting ≡ old.waiting
 
+-- each port was drained to its lane, and nothing else has changed
 abbrev pub AreGrown : {Z : Type 0} → List (Lane Z) → List (Lane Z) → Type 0
 AreGrown [] [] = Unit {0}
 AreGrown [] (n ∷ new) = ⊥
@@ -127,6 +130,7 @@ pub record IsAlike {Z : Type 0} (old new : Lane Z) : Type 0 where
   pub closed : new.closed ≡ old.closed
   pub ready : new.ready ≡ old.ready
 
+-- each lane is as it was, but for what waits, for its last stamp, for its output and for how much of that was taken
 abbrev pub AreAlike : {Z : Type 0} → List (Lane Z) → List (Lane Z) → Type 0
 AreAlike [] [] = Unit {0}
 AreAlike [] (n ∷ new) = ⊥
@@ -139,6 +143,7 @@ pub record IsDrawnOff {Z : Type 0} (old new : Lane Z) : Type 0 where
   pub last : new.last ≡ old.last
   pub waiting : new.waiting ≡ old.waiting
 
+-- each lane is as it was, but for its output and for how much of that was taken
 abbrev pub AreDrawnOff : {Z : Type 0} → List (Lane Z) → List (Lane Z) → Type 0
 AreDrawnOff [] [] = Unit {0}
 AreDrawnOff [] (n ∷ new) = ⊥

@@ -12,11 +12,11 @@ use Rattle.afdx_session.specs.declared.plan.RunFault.TheVariants as run
 use Rattle.afdx_session.specs.Session.{Intake}
 use Rattle.afdx_session.specs.Inner.Settled.{first_place, IsWithin}
 
--- as contracts see it: the bytes of a call that did not answer Ok do not count
+-- a lane as contracts see it: the bytes of a call that did not answer Ok do not count
 abbrev pub intake_of : {Z : Type 0} → Lane Z → Intake
 intake_of l = record { port = l.port; bytes = take (length l.reader.bytes - l.undone) l.reader.bytes; closed = l.closed; taken = l.taken }
 
--- what waits there
+-- the records that wait in a lane, as a capture
 abbrev pub waiting_of : {Z : Type 0} → Lane Z → Capture
 waiting_of l = record { port = l.port; records = l.waiting.items }
 
@@ -26,7 +26,7 @@ pub record HasRead {Z : Type 0} (l : Lane Z) (records : List Record) : Type 0 wh
   pub taken : HasTaken (record { bytes = l.reader.bytes; given = l.reader.given }) records
   pub last : l.last ≡ last_stamp 0 records
 
--- nothing else is there, and nothing is wrong; the lane has ended exactly if the input has
+-- all records that are there were read, and nothing is wrong; the lane has ended exactly if the input has
 pub record HasReadAll {Z : Type 0} (l : Lane Z) : Type 0 where
   pub none_left : NoNext l.reader.bytes l.reader.given
   pub sound : IsSound l.reader.bytes l.reader.given l.reader.closed
@@ -44,12 +44,12 @@ pub record IsReadOn {Z : Type 0} (old new : Lane Z) : Type 0 where
   pub ready : new.ready ≡ old.ready
   pub taken : new.taken ≡ old.taken
 
--- and these records are what it added
+-- a lane was read on, and these records are what it added
 pub record Adds {Z : Type 0} (old new : Lane Z) (more : List Record) : Type 0 where
   pub queue : new.waiting.items ≡ old.waiting.items ++ more
   pub read : (records : List Record) → HasRead old records → HasRead new (records ++ more)
 
--- one more record was read
+-- one more record of a lane was read
 pub record DrawsOne {Z : Type 0} (old new : Lane Z) : Type 0 where
   pub frame : Record
   pub adds : Adds old new (frame ∷ [])
@@ -58,12 +58,13 @@ pub record DrawsOne {Z : Type 0} (old new : Lane Z) : Type 0 where
   pub no_fault : new.reader.fault ≡ None
   pub fewer : length new.reader.bytes - new.reader.given < length old.reader.bytes - old.reader.given
 
--- none is left
+-- no record of a lane is left to be read
 pub record DrawsNone {Z : Type 0} (old new : Lane Z) : Type 0 where
   pub adds : Adds old new []
   pub no_fault : new.reader.fault ≡ None
   pub read : HasReadAll new
 
+-- a record was drawn from the lane's reader (true), or none is left
 abbrev pub HasDrawn : {Z : Type 0} → Bool → Lane Z → Lane Z → Type 0
 HasDrawn true old new = DrawsOne old new
 HasDrawn false old new = DrawsNone old new
@@ -91,7 +92,7 @@ abbrev pub head_of : List Record → Option ℕ
 head_of [] = None
 head_of (r ∷ rs) = Some r.stamp
 
--- those of what waits in each lane
+-- the stamps of the first records that wait, lane by lane
 abbrev pub heads_of : {Z : Type 0} → List (Lane Z) → List (Option ℕ)
 heads_of lanes = map (λ l. head_of l.waiting.items) lanes
 
@@ -123,7 +124,7 @@ pub record Goes {Z : Type 0} (limit : Option (ℕ × ℕ)) (old new : List (Lane
   pub within : IsWithin limit frame.stamp port
   pub lanes : new ≡ set old place (with_waiting rest lane)
 
--- it went from the lane at this place
+-- the first record that waits went from the lane at this place
 pub record GoesAt {Z : Type 0} (limit : Option (ℕ × ℕ)) (old new : List (Lane Z)) (place : ℕ) (frame : Record) : Type 0 where
   pub port : ℕ
   pub goes : Goes limit old new port frame

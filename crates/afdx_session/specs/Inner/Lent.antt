@@ -31,6 +31,7 @@ taken_by lanes = map (λ l. l.taken) lanes
 abbrev pub left_of : {Z : Type 0} → Lane Z → ℕ
 left_of l = if l.ended then 0 else length l.reader.bytes - l.reader.given + 1
 
+-- how many records are still to be read in all lanes, at most
 abbrev pub left_in : {Z : Type 0} → List (Lane Z) → ℕ
 left_in [] = 0
 left_in (l ∷ lanes) = left_of l + left_in lanes

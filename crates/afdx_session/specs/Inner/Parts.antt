@@ -49,7 +49,7 @@ pub record HasPut {F Z : Type 0} (contents : F → Option (List ℕ)) (t : Conte
   pub first : bytes ++ new.out.items ≡ drop old.taken (text_up_to t given h p)
   pub appended : Appends (contents f) (contents g) bytes
 
--- so did each, of the port at its place
+-- each port put so the first bytes that were not taken into the file at its place
 pub record HavePut {F Z : Type 0} (contents : F → Option (List ℕ)) (t : Content) (given : List Arrival) (h : ℕ) (old new : List (Lane Z)) (files now : List F) : Type 0 where
   pub long : length now ≡ length files
   pub each : (place : ℕ) (p : PortRow) (l n : Lane Z) (f g : F) → slice_get t.ports place ≡ Some p → slice_get old place ≡ Some l → slice_get new place ≡ Some n
@@ -72,19 +72,19 @@ pub record GoesOnInto {F Z : Type 0} (contents : F → Option (List ℕ)) (old :
   pub same : HaveSameBytes intakes (intakes_of m.lanes.items)
   pub put : HavePut contents m.switch.run.table ready.running.going.given ready.running.going.since old.lanes.items m.lanes.items files now
 
--- a piece came at a place
+-- a piece came at a place, and the first of what has gone out is in the files
 pub record IsFedInto {F Z : Type 0} (contents : F → Option (List ℕ)) (old : Machine Z) (files : List F) (m : Machine Z) (now : List F) (place : ℕ) (piece : List ℕ) : Type 0 where
   pub lane : Lane Z
   pub at : slice_get old.lanes.items place ≡ Some lane
   pub on : GoesOnInto contents old files m now (set (intakes_of old.lanes.items) place (fed piece (intake_of lane)))
 
--- the capture there ended
+-- the capture at a place ended, and the first of what has gone out is in the files
 pub record IsEndedInto {F Z : Type 0} (contents : F → Option (List ℕ)) (old : Machine Z) (files : List F) (m : Machine Z) (now : List F) (place : ℕ) : Type 0 where
   pub lane : Lane Z
   pub at : slice_get old.lanes.items place ≡ Some lane
   pub on : GoesOnInto contents old files m now (set (intakes_of old.lanes.items) place (closed_intake (intake_of lane)))
 
--- it failed: for memory, or for the bytes at a place, and then no other lane has changed
+-- a call failed: for memory, or for the bytes at a place, and then no other lane has changed
 abbrev pub StopsAt : {Z : Type 0} → List (Lane Z) → List (Lane Z) → ℕ → RunFault → Type 0 → Type 0
 StopsAt old new place run.Memory Why = Unit {0}
 StopsAt {Z} old new place (run.Capture port why) Why = Why × ((lane : Lane Z) × (new ≡ set old place lane))

@@ -10,13 +10,13 @@ use Rattle.afdx_session.specs.Finish.{IsFinished}
 
 -- ---- how a session goes on
 
--- it has the same table, and each capture went on; if a call had brought something, that is still so
+-- a session went on: it has the same table, and each capture went on; if a call had brought something, that is still so
 pub record GoesOnTo (v later : Seen) : Type 0 where
   pub table : later.table ≡ v.table
   pub fed : AreFedOn v.intakes later.intakes
   pub begun : v.begun ≡ true → later.begun ≡ true
 
--- so it does by each call, and by calls one after the other
+-- a session goes on by each call, and by calls one after the other
 pub record CallsGoOn : Type 0 where
   pub feed : (v : Seen) (port : ℕ) (piece : List ℕ) → refusal v port ≡ None → GoesOnTo v (after_feed v port piece)
   pub close : (v : Seen) (port : ℕ) → GoesOnTo v (after_close v port)
@@ -42,7 +42,7 @@ pub record WasTaken (v : Seen) (port : ℕ) (taken : List ℕ) : Type 0 where
 abbrev pub NothingWasTaken : Type 0
 NothingWasTaken = (accepted : Bool) (t : Content) (port : ℕ) (p : PortRow) → port_row t port ≡ Some p → WasTaken (fresh_session accepted t) port []
 
--- while a session goes on, and nothing is taken of the port, it stays so
+-- what was taken of a port stays so while a session goes on and nothing is taken of the port
 abbrev pub TakenStays : Type 0
 TakenStays = (v later : Seen) (port : ℕ) (p : PortRow) (taken text : List ℕ) → GoesOnTo v later → taken_of later port ≡ taken_of v port → port_row v.table port ≡ Some p → HasGoneOut later p text
     → WasTaken v port taken → WasTaken later port taken
@@ -61,6 +61,7 @@ pub record IsContinued (i : Intake) (text : Text) : Type 0 where
   pub bytes : text.1 ≡ i.bytes ++ more
   pub ended : i.closed ≡ true → more ≡ []
 
+-- the bytes of a text, if there is one
 abbrev pub bytes_in : Option Text → List ℕ
 bytes_in None = []
 bytes_in (Some text) = text.1

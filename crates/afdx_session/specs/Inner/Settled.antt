@@ -16,6 +16,7 @@ abbrev pub Ascend : List ℕ → Type 0
 Ascend [] = Unit {0}
 Ascend (n ∷ ns) = AllByRecursion (λ m. n < m) ns × Ascend ns
 
+-- the ports of captures
 abbrev pub ports_of : List Capture → List ℕ
 ports_of captures = map (λ c. c.port) captures
 
@@ -24,7 +25,7 @@ ports_of captures = map (λ c. c.port) captures
 abbrev pub ComesBefore : Arrival → Stream → Type 0
 ComesBefore a s = s.closed ≡ false → (a.frame.stamp < last_of s) ⊎ ((a.frame.stamp ≡ last_of s) × (a.port ≤ s.port))
 
--- it comes before whatever any capture may still bring
+-- an arrival comes before whatever any capture may still bring
 abbrev pub IsSettled : List Stream → Arrival → Type 0
 IsSettled streams a = AllByRecursion (ComesBefore a) streams
 
@@ -34,6 +35,7 @@ pub record IsQueued (s : Stream) (waiting : Capture) : Type 0 where
   pub gone : List Record
   pub records : s.records ≡ gone ++ waiting.records
 
+-- the last records of each capture wait
 abbrev pub AreQueued : List Stream → List Capture → Type 0
 AreQueued [] [] = Unit {0}
 AreQueued [] (w ∷ waiting) = ⊥
@@ -53,6 +55,7 @@ pub record Waits (s later : Stream) (waiting more : Capture) : Type 0 where
   pub port : more.port ≡ s.port
   pub queue : more.records ≡ waiting.records ++ on.more
 
+-- each capture goes on, and what it brings waits after what waits
 abbrev pub AllWait : List Stream → List Stream → List Capture → List Capture → Type 0
 AllWait [] [] [] [] = Unit {0}
 AllWait [] [] [] (v ∷ more) = ⊥
@@ -134,7 +137,7 @@ pub record IsGiven (t : Content) (given : List Arrival) (s : State) : Type 0 whe
   pub still_open : s.run.finished ≡ false
   pub frames : HasBytesOf given s
 
--- and it came to the instant
+-- these arrivals were given to a switch, which has come to an instant
 pub record IsAt (t : Content) (given : List Arrival) (h : ℕ) (s : State) : Type 0 where
   pub is_given : IsGiven t given s
   pub latest : s.run.latest ≡ h

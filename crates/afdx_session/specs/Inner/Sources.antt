@@ -20,7 +20,7 @@ IsOfBytes run.WrongPorts = ⊥
 IsOfBytes run.Closed = ⊥
 IsOfBytes run.Failed = ⊥
 
--- the same fault, of a run over readers
+-- the fault of a run over captures, as that of a run over readers
 abbrev pub source_fault : RunFault → SourceFault
 source_fault (run.Capture port why) = fault.Capture port why
 source_fault _ = fault.Memory
@@ -32,7 +32,7 @@ pub record IsReadUpTo {R : Type 0} (remaining : R → Option (List ℕ)) (i : In
   pub bytes : Consumes (remaining first) (remaining now) i.bytes
   pub ended : i.closed ≡ true → IsAtEnd (remaining now)
 
--- so did each, of the port at its place
+-- each reader gave the bytes that came of the capture of the port at its place
 pub record AreReadUpTo {R : Type 0} (remaining : R → Option (List ℕ)) (v : Seen) (first now : List R) : Type 0 where
   pub many : length now ≡ length first
   pub each : (place : ℕ) (i : Intake) (r s : R) → slice_get v.intakes place ≡ Some i → slice_get first place ≡ Some r → slice_get now place ≡ Some s → IsReadUpTo remaining i r s
@@ -48,7 +48,7 @@ pub record IsNextAt (v : Seen) (numbers : List ℕ) (place port : ℕ) : Type 0 
   pub place_is : position (λ n. n == port) numbers ≡ Some place
   pub may : refusal v port ≡ None
 
--- it is of this table, and none of its calls has failed
+-- a session is of this table, and none of its calls has failed
 pub record IsOfTable (t : Content) (v : Seen) : Type 0 where
   pub table : v.table ≡ t
   pub rises : Rises t.ports
@@ -61,6 +61,7 @@ pub record HasSameBytes (old new : Intake) : Type 0 where
   pub bytes : new.bytes ≡ old.bytes
   pub closed : new.closed ≡ old.closed
 
+-- each port has what it had, but for what was taken
 abbrev pub HaveSameBytes : List Intake → List Intake → Type 0
 HaveSameBytes old new = (length new ≡ length old) × ((place : ℕ) (i j : Intake) → slice_get old place ≡ Some i → slice_get new place ≡ Some j → HasSameBytes i j)
 
@@ -82,7 +83,7 @@ pub record GoesOnReading {R F : Type 0} (remaining : R → Option (List ℕ)) (c
   pub taken : (start : List F) → HaveTaken contents v start files → HaveTaken contents later start written
   pub accepted : later.accepted ≡ v.accepted
 
--- so it did by one more read; if none is to be made any more, all readers are at their ends
+-- a run went on by one more read; if none is to be made any more, all readers are at their ends
 pub record ReadsOn {R F : Type 0} (remaining : R → Option (List ℕ)) (contents : F → Option (List ℕ)) (v : Seen) (readers : List R) (files : List F) (more : Bool) (later : Seen) (now : List R)
     (written : List F) : Type 0 where
   pub on : GoesOnReading remaining contents v readers files later now written

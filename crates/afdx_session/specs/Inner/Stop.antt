@@ -30,13 +30,13 @@ pub record MayReadOn {Z : Type 0} (l : Lane Z) : Type 0 where
   pub done : l.undone ≡ 0
   pub all : HasReadAll l
 
--- it has read what came of its capture
+-- a lane has read what came of its capture
 pub record IsLeftAt {Z : Type 0} (i : Intake) (l : Lane Z) : Type 0 where
   pub may : MayReadOn l
   pub bytes : l.reader.bytes ≡ i.bytes
   pub closed : l.reader.closed ≡ i.closed
 
--- so have all but that of this port
+-- all lanes but that of this port have read what came of their captures
 pub record AreLeft {Z : Type 0} (v : Seen) (port : ℕ) (lanes : List (Lane Z)) : Type 0 where
   pub ports : map (λ (l : Lane Z). l.port) lanes ≡ map (λ (i : Intake). i.port) v.intakes
   pub others : (place : ℕ) (i : Intake) (l : Lane Z) → slice_get v.intakes place ≡ Some i → slice_get lanes place ≡ Some l → (i.port ≡ port → ⊥) → IsLeftAt i l
@@ -60,7 +60,7 @@ pub record IsOn {Z : Type 0} (remaining : Option (List ℕ)) (l : Lane Z) : Type
   pub may : MayReadOn l
   pub ended : l.reader.closed ≡ true → IsAtEnd remaining
 
--- so may the lanes before this place
+-- the lanes before this place may read on what their readers give
 abbrev pub AreOn : {R Z : Type 0} → (R → Option (List ℕ)) → ℕ → List R → List (Lane Z) → Type 0
 AreOn {R} {Z} remaining place readers lanes = (k : ℕ) (r : R) (l : Lane Z) → k < place → slice_get readers k ≡ Some r → slice_get lanes k ≡ Some l → IsOn (remaining r) l
 
@@ -88,7 +88,7 @@ abbrev pub stop_of : {Z : Type 0} → ℕ → RunFault → Vec (Lane Z) Z → St
 stop_of place (run.Capture port why) lanes = stop.Capture place why lanes
 stop_of place _ lanes = stop.Memory
 
--- whatever the readers gave before
+-- where a run stopped, whatever the readers gave before
 abbrev pub IsStopSince : {R Z : Type 0} → (R → Option (List ℕ)) → Seen → List R → List R → Stop Z → Type 0
 IsStopSince {R} remaining v readers now why = (first : List R) → AreReadUpTo remaining v first readers → IsStop remaining v.table first now why
 
@@ -104,7 +104,7 @@ abbrev pub IsEndOf : List ℕ → Option PcapFault → Type 0
 IsEndOf bytes None = (records : List Record) × IsCapture bytes records
 IsEndOf bytes (Some why) = IsFault bytes why
 
--- this more came of each, which is all that its reader still had to give
+-- this more came of each capture, which is all that its reader still had to give
 abbrev pub AreReadOut : {R Z : Type 0} → (R → Option (List ℕ)) → List (Lane Z) → List R → List Text → Type 0
 AreReadOut remaining [] [] [] = Unit {0}
 AreReadOut remaining (l ∷ lanes) (r ∷ readers) (text ∷ texts) =

@@ -22,9 +22,11 @@ use Rattle.afdx_session.specs.Lanes.{IsPieceFault}
 use Rattle.afdx_session.specs.Inner.Lanes.{intake_of, waiting_of, with_waiting, limit_at, HasReadAll, NoneGoes}
 use Rattle.afdx_session.specs.Inner.Kept.{AreOfTable, IsGoing, IsRunning, IsMarked, IsOfSameTable}
 
+-- the lanes of all ports as contracts see them
 abbrev pub intakes_of : {Z : Type 0} → List (Lane Z) → List Intake
 intakes_of lanes = map intake_of lanes
 
+-- what contracts see of a session
 abbrev pub seen_of : {Z : Type 0} → Machine Z → Bool → Bool → Seen
 seen_of m begun failed = record { table = m.switch.run.table; accepted = m.switch.accepted; intakes = intakes_of m.lanes.items; begun = begun; failed = failed }
 
@@ -39,6 +41,7 @@ pub record IsShownAt {Z : Type 0} (text : List ℕ) (l : Lane Z) : Type 0 where
   pub ready : l.ready ≤ length l.out.items
   pub bound : l.taken + l.ready < 2 ^ 128
 
+-- what counts of each lane's output is what has gone out and was not taken, by the records that are there
 pub record IsShown {Z : Type 0} (t : Content) (begun : Bool) (lanes : List (Lane Z)) : Type 0 where
   pub streams : List Stream
   pub are : AreStreams (intakes_of lanes) streams
@@ -67,6 +70,7 @@ pub record IsHalfDone {Z : Type 0} (old new : Lane Z) : Type 0 where
   pub more : List ℕ
   pub out : new.out.items ≡ old.out.items ++ more
 
+-- what contracts see of each lane is as it was, though its output may have grown
 abbrev pub AreHalfDone : {Z : Type 0} → List (Lane Z) → List (Lane Z) → Type 0
 AreHalfDone [] [] = Unit {0}
 AreHalfDone [] (n ∷ new) = ⊥
@@ -93,6 +97,7 @@ pub record IsSettledLane {Z : Type 0} (old new : Lane Z) : Type 0 where
   pub closed : new.closed ≡ old.reader.closed
   pub ready : new.ready ≡ length old.out.items
 
+-- a call has answered Ok: all that was read of each lane counts
 abbrev pub AreSettledLanes : {Z : Type 0} → List (Lane Z) → List (Lane Z) → Type 0
 AreSettledLanes [] [] = Unit {0}
 AreSettledLanes [] (n ∷ new) = ⊥
@@ -112,13 +117,14 @@ pub record IsTaken {Z : Type 0} (old new : Lane Z) : Type 0 where
   pub ready : new.ready ≡ 0
   pub left : new.out.items ≡ (if old.ready == 0 then old.out.items else [])
 
--- a piece came at a place, or the capture there ended
+-- a piece of the capture came at a place
 pub record IsFed {Z : Type 0} (old new : List (Lane Z)) (place : ℕ) (piece : List ℕ) : Type 0 where
   pub lane : Lane Z
   pub at : slice_get old place ≡ Some lane
   pub intakes : intakes_of new ≡ set (intakes_of old) place (fed piece (intake_of lane))
   pub sound : IsSoundSoFar ((intake_of lane).bytes ++ piece)
 
+-- the capture at a place ended, and its bytes are those of a whole capture
 pub record IsEnded {Z : Type 0} (old new : List (Lane Z)) (place : ℕ) : Type 0 where
   pub lane : Lane Z
   pub at : slice_get old place ≡ Some lane
@@ -126,20 +132,21 @@ pub record IsEnded {Z : Type 0} (old new : List (Lane Z)) (place : ℕ) : Type 0
   pub records : List Record
   pub capture : IsCapture (intake_of lane).bytes records
 
--- the piece did not come, or the capture did not end, for this fault
+-- the piece did not come, for this fault
 pub record IsNotFed {Z : Type 0} (old new : List (Lane Z)) (place : ℕ) (piece : List ℕ) (fault : RunFault) : Type 0 where
   pub lane : Lane Z
   pub at : slice_get old place ≡ Some lane
   pub half : AreHalfDone old new
   pub why : IsPieceFault ((intake_of lane).bytes ++ piece) lane.port fault
 
+-- the capture did not end, for this fault
 pub record IsNotEnded {Z : Type 0} (old new : List (Lane Z)) (place : ℕ) (fault : RunFault) : Type 0 where
   pub lane : Lane Z
   pub at : slice_get old place ≡ Some lane
   pub half : AreHalfDone old new
   pub why : IsFaultAt (intake_of lane).bytes lane.port fault
 
--- and if its capture has a fault, no other lane has changed
+-- if the capture at a place has a fault, no other lane has changed
 abbrev pub OthersStay : {Z : Type 0} → List (Lane Z) → List (Lane Z) → ℕ → RunFault → Type 0
 OthersStay {Z} old new place (run.Capture port why) = (lane : Lane Z) × (new ≡ set old place lane)
 OthersStay old new place _ = Unit {0}
@@ -164,6 +171,7 @@ pub record IsRound {Z : Type 0} (went : Option ℕ) (old new : Machine Z) : Type
 
 -- ---- a session that was fed nothing
 
+-- the lane of a port to which nothing came
 pub record IsFreshLane {Z : Type 0} (port : ℕ) (l : Lane Z) : Type 0 where
   pub port_is : l.port ≡ port
   pub reader : l.reader ≡ record { bytes = []; given = 0; closed = false; fault = None; lent = false }
@@ -176,6 +184,7 @@ pub record IsFreshLane {Z : Type 0} (port : ℕ) (l : Lane Z) : Type 0 where
   pub ready : l.ready ≡ 0
   pub taken : l.taken ≡ 0
 
+-- nothing came to the lane of any port
 abbrev pub AreFreshLanes : {Z : Type 0} → List PortRow → List (Lane Z) → Type 0
 AreFreshLanes [] [] = Unit {0}
 AreFreshLanes [] (l ∷ lanes) = ⊥
@@ -201,6 +210,7 @@ pub record IsLent {Z : Type 0} (text : Text) (l : Lane Z) : Type 0 where
   pub sound : IsSound text
   pub taken : l.taken ≡ 0
 
+-- each lane has read a whole capture, one for each text, and nothing was taken of it
 abbrev pub AreLent : {Z : Type 0} → List Text → List (Lane Z) → Type 0
 AreLent [] [] = Unit {0}
 AreLent [] (l ∷ lanes) = ⊥
@@ -209,12 +219,14 @@ AreLent (text ∷ texts) (l ∷ lanes) = IsLent text l × AreLent texts lanes
 
 -- ---- all captures end
 
+-- the capture of a lane ended, and all records of it were read
 pub record IsEndedLane {Z : Type 0} (old new : Lane Z) : Type 0 where
   pub half : IsHalfDone old new
   pub bytes : new.reader.bytes ≡ old.reader.bytes
   pub closed : new.reader.closed ≡ true
   pub read : HasReadAll new
 
+-- the captures of all lanes ended, and all records of them were read
 abbrev pub AreEndedLanes : {Z : Type 0} → List (Lane Z) → List (Lane Z) → Type 0
 AreEndedLanes [] [] = Unit {0}
 AreEndedLanes [] (n ∷ new) = ⊥

@@ -21,18 +21,19 @@ AreSpells gap [] = Unit {0}
 AreSpells gap ([] ∷ parts) = ⊥
 AreSpells gap ((x ∷ frames) ∷ parts) = AreClose gap x.at frames × BeginsLater gap (last_at x.at frames) parts × AreSpells gap parts
 
--- the parts of some policed frames are such, and have all of them in their order
+-- the parts of some policed frames are spells, and have all of them in their order
 pub record HaveAll (gap : ℕ) (frames : List Excess) (parts : List (List Excess)) : Type 0 where
   pub all : flat_map (λ (part : List Excess). part) parts ≡ frames
   pub spells : AreSpells gap parts
 
+-- however frames were policed, the parts that are made of them are spells
 abbrev pub PartsAreSpells : Type 0
 PartsAreSpells = (gap : ℕ) (frames : List Excess) → HaveAll gap frames (parted gap frames)
 
--- and no other parts are
+-- no other parts of policed frames are spells
 abbrev pub SpellsAreUnique : Type 0
 SpellsAreUnique = (gap : ℕ) (frames : List Excess) (parts : List (List Excess)) → HaveAll gap frames parts → parts ≡ parted gap frames
 
--- what is reported of them counts each frame once
+-- what is reported of spells counts each policed frame once
 abbrev pub SpellsHaveAll : Type 0
 SpellsHaveAll = (gap : ℕ) (frames : List Excess) → sum_by (λ (s : Spell). s.count) (spells_of gap frames) ≡ length frames

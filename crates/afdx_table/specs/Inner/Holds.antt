@@ -22,15 +22,19 @@ use Rattle.afdx_table.specs.Text.{tree_of, table_of}
 
 -- ---- what is under a key
 
+-- the key has this value
 abbrev pub Has : Members → Key → Data → Type 0
 Has ms k d = get_member (key_text k) ms ≡ Some d
 
+-- the key is missing
 abbrev pub HasNone : Members → Key → Type 0
 HasNone ms k = get_member (key_text k) ms ≡ None
 
+-- the key has this whole number
 abbrev pub HasNumber : Members → Key → ℕ → Type 0
 HasNumber ms k n = Has ms k (integer (pos n))
 
+-- the key has this text
 abbrev pub HasText : Members → Key → List ℕ → Type 0
 HasText ms k text = Has ms k (string text)
 
@@ -39,6 +43,7 @@ abbrev pub number_items : List ℕ → Items
 number_items [] = no_items
 number_items (n ∷ ns) = item (integer (pos n)) (number_items ns)
 
+-- the key has an array of these numbers
 abbrev pub HasNumbers : Members → Key → List ℕ → Type 0
 HasNumbers ms k ns = Has ms k (array (number_items ns))
 
@@ -47,7 +52,7 @@ abbrev pub table_items : List Members → Items
 table_items [] = no_items
 table_items (m ∷ ms) = item (table m) (table_items ms)
 
--- these TOML tables, which are none if the key is missing
+-- the key has an array of these TOML tables, which are none if it is missing
 abbrev pub HasTables : Members → Key → List Members → Type 0
 HasTables ms k tables = (HasNone ms k × (tables ≡ [])) ⊎ Has ms k (array (table_items tables))
 
@@ -111,6 +116,7 @@ HasLatency ms latency = (HasNone ms key.Latency × (latency ≡ 0)) ⊎ ((us : �
 abbrev pub AreSamePorts : List PortRow → List PortRow → Type 0
 AreSamePorts ps qs = (test : PortRow → Bool) → count_by test ps ≡ count_by test qs
 
+-- a table of the file holds what the text's tree says of it
 pub record Holds (ms : Members) (c : Content) : Type 0 where
   pub version : ℕ
   pub has_version : HasVersion ms version

@@ -45,7 +45,7 @@ pub record AreTold (shown : Shown) (port : ℕ) (s : Settings) (all : List Event
   pub many_aged : aged ≤ length (aged_of all)
   pub text : event_lines shown port s 0 all ≡ lines ++ event_lines shown port s sent left
 
--- so a port has told of what it has carried out
+-- a port has told so of what it has carried out
 pub record IsTelling {Z : Type 0} (shown : Shown) (o : TracedPort Z) (left : List Event) : Type 0 where
   pub told : AreTold shown o.row.id o.settings (done o.flow.content) o.sent o.aged (whole_of o.lines) left
   pub sent_first : o.flow.sent_first ≤ o.sent
@@ -56,11 +56,11 @@ pub record IsTelling {Z : Type 0} (shown : Shown) (o : TracedPort Z) (left : Lis
 abbrev pub IsFirstOf : Option Sent → Option Aged → Option (Result Sent Aged) → Type 0
 IsFirstOf sent aged next = (left : List Event) → AreInOrder left → slice_get (sent_of left) 0 ≡ sent → slice_get (aged_of left) 0 ≡ aged → option_map event_of next ≡ slice_get left 0
 
--- it was told of all events that the port has carried out
+-- a port has told of all events that it has carried out
 abbrev pub HasToldAll : {Z : Type 0} → Shown → TracedPort Z → Type 0
 HasToldAll shown o = IsTelling shown o []
 
--- it was told of the first that was left, if there was one
+-- a port told of the first event that was left, if there was one
 abbrev pub TellsMore : {Z : Type 0} → Shown → Bool → List Event → TracedPort Z → Type 0
 TellsMore shown false left o = (left ≡ []) × IsTelling shown o []
 TellsMore shown true left o = (first : Event) × (later : List Event) × (left ≡ first ∷ later) × IsTelling shown o later
@@ -77,7 +77,7 @@ pub record IsFreshPort {Z : Type 0} (latency : ℕ) (p : PortRow) (o : TracedPor
   pub lines : whole_of o.lines ≡ []
   pub gone : o.lines.gone.items ≡ []
 
--- nothing but what was told has changed
+-- nothing of a port but what was told has changed
 pub record IsSamePort {Z : Type 0} (old new : TracedPort Z) : Type 0 where
   pub row : new.row ≡ old.row
   pub settings : new.settings ≡ old.settings
@@ -96,14 +96,14 @@ pub record TellsOf {Z : Type 0} (shown : Shown) (t : Content) (rows : List Row) 
   pub still_open : o.flow.content.finished ≡ false
   pub told : HasToldAll shown o
 
--- so does each
+-- each port admits from its feed of these arrivals, and has told of all that it has carried out
 pub record AllTell {Z : Type 0} (shown : Shown) (t : Content) (rows : List Row) (latest : ℕ) (ports : List (TracedPort Z)) : Type 0 where
   pub many : length ports ≡ length t.ports
   pub each : (k : ℕ) (p : PortRow) (o : TracedPort Z) → slice_get t.ports k ≡ Some p → slice_get ports k ≡ Some o → TellsOf shown t rows latest p o
 
 -- ---- the switch
 
--- it tells of this run
+-- a switch tells of this run
 pub record Tells {Z : Type 0} (s : Selection) (r : Run) (t : Tracing Z) : Type 0 where
   pub table : t.table ≡ r.table
   pub selected : t.selection ≡ s
@@ -125,21 +125,21 @@ pub record HaveGone {F Z : Type 0} (contents : F → Option (List ℕ)) (start n
 
 -- ---- a copy is offered
 
--- it may be offered to a port
+-- an item may be offered to a port
 pub record CanBeOffered {Z : Type 0} (shown : Shown) (x : Item) (o : TracedPort Z) : Type 0 where
   pub told : HasToldAll shown o
   pub still_open : o.flow.content.finished ≡ false
   pub in_order : o.flow.content.horizon ≤ x.stamp
   pub numbered : All (λ other. other.number < x.number) o.flow.content.admitted
 
--- it was offered to a port, if that is among these
+-- an item was offered to a port, if that is among these
 pub record IsOfferedTo {Z : Type 0} (shown : Shown) (x : Item) (to : List ℕ) (old new : TracedPort Z) : Type 0 where
   pub row : new.row ≡ old.row
   pub settings : new.settings ≡ old.settings
   pub content : new.flow.content ≡ (if names_port old.row.id to then offered x old.flow.content else old.flow.content)
   pub told : HasToldAll shown new
 
--- so it was of several ports to those that are among these
+-- an item was offered to those of several ports that are among these
 pub record AreOffered {Z : Type 0} (shown : Shown) (x : Item) (to : List ℕ) (old new : List (TracedPort Z)) : Type 0 where
   pub many : length new ≡ length old
   pub each : (k : ℕ) (o n : TracedPort Z) → slice_get old k ≡ Some o → slice_get new k ≡ Some n → IsOfferedTo shown x to o n
@@ -149,6 +149,7 @@ abbrev pub answer_by : {Z : Type 0} → Item → Option (TracedPort Z) → Offer
 answer_by x None = Full
 answer_by x (Some o) = answer x o.flow.content
 
+-- the answer of that of these ports which has this number
 abbrev pub answer_among : {Z : Type 0} → Item → List (TracedPort Z) → ℕ → Offer
 answer_among x ports port = answer_by x (find (λ o. o.row.id == port) ports)
 
@@ -162,11 +163,11 @@ PlacesAre places ports = (port : ℕ) → slice_index_or places port None ≡ po
 
 -- ---- an arrival is taken
 
--- the fields that say what became of it
+-- the fields that say what became of an arrival
 abbrev pub fields_of : TracedFate → List (List ℕ)
 fields_of fate = fate.word.now ∷ optional fate.early ∷ joined_by (codes ";") (map decimal fate.full.items) ∷ []
 
--- it may take an arrival after those of this run
+-- a switch that tells may take an arrival after those of this run
 pub record MayTake {Z : Type 0} (r : Run) (t : Tracing Z) : Type 0 where
   pub table : t.table ≡ r.table
   pub still_open : r.finished ≡ false
@@ -175,13 +176,13 @@ pub record MayTake {Z : Type 0} (r : Run) (t : Tracing Z) : Type 0 where
   pub places : (port : ℕ) → slice_index_or t.places port None ≡ position (λ p. p.id == port) r.table.ports
   pub ports : AllTell t.shown r.table r.rows r.latest t.ports.items
 
--- its link and its ports took the arrival of this row, and these fields say what became of it
+-- the link and the ports of an arrival took it, and these fields say what became of it
 pub record HasTaken {Z : Type 0} (r : Run) (row : Row) (fields : List (List ℕ)) (old new : Tracing Z) : Type 0 where
   pub accounts : AccountsAgree r.table.links (r.rows ++ row ∷ []) row.stamp new.accounts.items
   pub ports : AllTell old.shown r.table (r.rows ++ row ∷ []) row.stamp new.ports.items
   pub fields_are : fields ≡ told_fields r.table r.rows row
 
--- nothing else of it has changed
+-- nothing else of a switch that tells has changed
 pub record KeepsOthers {Z : Type 0} (old new : Tracing Z) : Type 0 where
   pub selection : new.selection ≡ old.selection
   pub shown : new.shown ≡ old.shown
@@ -193,7 +194,7 @@ pub record KeepsOthers {Z : Type 0} (old new : Tracing Z) : Type 0 where
   pub lines : new.lines ≡ old.lines
   pub many : length new.ports.items ≡ length old.ports.items
 
--- nothing but its lines has changed
+-- nothing of a switch that tells but its lines has changed
 pub record KeepsAllButLines {Z : Type 0} (old new : Tracing Z) : Type 0 where
   pub selection : new.selection ≡ old.selection
   pub shown : new.shown ≡ old.shown
@@ -205,7 +206,7 @@ pub record KeepsAllButLines {Z : Type 0} (old new : Tracing Z) : Type 0 where
   pub rows : new.rows.items ≡ old.rows.items
   pub count : new.count ≡ old.count
 
--- nothing went to a file
+-- nothing that a switch tells went to a file
 pub record IsFresh {Z : Type 0} (t : Tracing Z) : Type 0 where
   pub arrivals : t.lines.gone.items ≡ []
   pub ports : (k : ℕ) (o : TracedPort Z) → slice_get t.ports.items k ≡ Some o → o.lines.gone.items ≡ []
@@ -221,7 +222,7 @@ pub record IsEnded {F Z : Type 0} (shown : Shown) (contents : F → Option (List
   pub all : n.lines.gone.items ≡ whole_of n.lines
   pub gone : (first : F) → HasGone contents first f o.lines → HasGone contents first g n.lines
 
--- so did those before a place, and the others are as they were
+-- the ports before a place ended so, and the others are as they were
 pub record AreEnded {F Z : Type 0} (shown : Shown) (contents : F → Option (List ℕ)) (place : ℕ) (befores nows : List F) (old new : List (TracedPort Z)) : Type 0 where
   pub many : length new ≡ length old
   pub long : length nows ≡ length befores

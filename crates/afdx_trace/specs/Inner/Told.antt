@@ -18,16 +18,16 @@ run_with t rows = record { table = t; rows = rows; latest = 0; handed = []; fini
 abbrev pub full_then : Content → List Row → Row → List ℕ
 full_then t before row = full_ports (offers_of (run_with t before) row)
 
--- the fields that say what becomes of it
+-- the fields that say what becomes of the next arrival
 abbrev pub told_fields : Content → List Row → Row → List (List ℕ)
 told_fields t before row =
     fate_word (fate_of t before row) ∷ optional (early_in (named t row.verdict) before row) ∷ joined_by (codes ";") (map decimal (full_then t before row)) ∷ []
 
--- its line, if it is shown
+-- the line of the next arrival, if it is shown
 abbrev pub told_line : Shown → Content → List Row → Row → List ℕ
 told_line shown t before row = if is_shown shown row.link then frame_fields shown before row ++ flat_map next_field (told_fields t before row) ++ codes "\n" else []
 
--- those of all of these arrivals
+-- the lines of all of these arrivals
 unfoldable pub told_lines : Shown → Content → List Row → List ℕ
 told_lines shown t rows = each_after (told_line shown t) [] rows
 

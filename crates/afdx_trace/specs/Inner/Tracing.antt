@@ -23,18 +23,19 @@ pub record IsPassed (t : Content) (before : List Row) (row : Row) (to : List ℕ
   pub is_passed : passes link before row ≡ true
   pub leads : to ≡ link.to
 
--- so it is by this link
+-- a frame that is passed by this link, after these arrivals
 pub record PassesOn (t : Content) (before : List Row) (row : Row) (l : Link) : Type 0 where
   pub names : named t row.verdict ≡ Some l
   pub is_passed : passes l before row ≡ true
 
--- one that is policed came so early
+-- a frame that is policed came so early
 pub record IsPoliced (t : Content) (before : List Row) (row : Row) (early : ℕ) : Type 0 where
   pub link : Link
   pub names : named t row.verdict ≡ Some link
   pub is_policed : passes link before row ≡ false
   pub is_early : early ≡ early_by (terms_of link) (passed_frames (terms_of link) (account_frames link.id before)) (frame_of_row row)
 
+-- what a tracer keeps agrees with these arrivals: the accounts, how many came in at each port, and what ports took
 pub record Traces {Z : Type 0} (r : Run) (before : List Row) (latest : ℕ) (t : Tracer Z) : Type 0 where
   pub accounts : AccountsAgree r.table.links before latest t.accounts.items
   pub records : AreCounted before t.records

@@ -21,6 +21,7 @@ use Rattle.afdx_session.specs.Output.{rows_of}
 use Rattle.afdx_session.specs.declared.sources.SourceFault.{SourceFault}
 use Rattle.afdx_session.specs.declared.sources.SourceFault.TheVariants as source
 
+-- the clocks of what comes in: the stamps as they are, at each port
 abbrev pub clocks_of : List PortRow → List Clock
 clocks_of ports = map (λ p. same_clock) ports
 
@@ -28,6 +29,7 @@ clocks_of ports = map (λ p. same_clock) ports
 abbrev pub number_at : List PortRow → ℕ → ℕ
 number_at ports place = slice_index_or (map (λ p. p.id) ports) place 0
 
+-- the number of the table's port at a place
 abbrev pub port_at : Content → ℕ → ℕ
 port_at t place = number_at t.ports place
 
@@ -35,6 +37,7 @@ port_at t place = number_at t.ports place
 abbrev pub arrival_of : List PortRow → Came → Arrival
 arrival_of ports a = record { port = number_at ports a.place; frame = a.head.frame }
 
+-- all of these as arrivals, in order
 abbrev pub arrivals_of : List PortRow → List Came → List Arrival
 arrivals_of ports came = map (arrival_of ports) came
 
@@ -56,7 +59,7 @@ pub record HasTold {R F Z : Type 0} (remaining : R → Option (List ℕ)) (conte
   pub has : HasGone contents start file telling.lines
   pub have : HaveGone contents starts files telling.ports.items
 
--- these are all that the readers give
+-- the arrivals that were taken are all that the readers give
 pub record HasTakenAll {R F Z : Type 0} (remaining : R → Option (List ℕ)) (contents : F → Option (List ℕ)) (t : Content) (s : Selection) (first : List R)
     (start file : F) (starts files : List F) (telling : Tracing Z) : Type 0 where
   pub came : List Came
@@ -67,7 +70,7 @@ pub record HasTakenAll {R F Z : Type 0} (remaining : R → Option (List ℕ)) (c
   pub has : HasGone contents start file telling.lines
   pub have : HaveGone contents starts files telling.ports.items
 
--- the same fault, said of one of these ports
+-- the fault of captures that are merged, said of one of these ports
 abbrev pub source_fault : List PortRow → MergeFault → SourceFault
 source_fault ports merge.Memory = source.Memory
 source_fault ports (merge.Read place) = source.Read place
