@@ -36,6 +36,7 @@ pub record Site : Type 0 where
   pub gone : List (List ℕ)
   pub next : Option ℕ
 
+-- the port of this number at the switch at a place
 abbrev pub end_at : ℕ → ℕ → End
 end_at switch port = record { switch = switch; port = port }
 

@@ -58,11 +58,6 @@ pub record Proceeds {F Z : Type 0} (contents : F → Option (List ℕ)) (old : M
   pub more : (start : List F) → HaveMore contents old.switch.run.table (texts_over old.lanes.items) (taken_by old.lanes.items) start files
       → HaveMore contents old.switch.run.table (texts_over old.lanes.items) (taken_by new.lanes.items) start now
 
--- all records of these captures have gone to the switch, and what was taken of the outputs is in the files
-pub record HasWritten {F Z : Type 0} (contents : F → Option (List ℕ)) (texts : List Text) (m : Machine Z) (files now : List F) : Type 0 where
-  pub gone : HaveGone texts m
-  pub more : HaveMore contents m.switch.run.table texts (taken_by m.lanes.items) files now
-
 -- all captures of lanes have ended with these texts, all their records have gone to the switch, and more of what left is in the files
 pub record HasEndedInto {F Z : Type 0} (contents : F → Option (List ℕ)) (texts : List Text) (old : List (Lane Z)) (files : List F) (m : Machine Z) (now : List F) : Type 0 where
   pub gone : HaveGone texts m

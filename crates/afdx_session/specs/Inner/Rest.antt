@@ -7,13 +7,11 @@ use Rattle.afdx_table.specs.declared.rows.PortRow.{PortRow}
 use Rattle.afdx_table.specs.Content.{Content}
 use Rattle.afdx_table.specs.WellFormed.{IsWellFormed}
 use Rattle.afdx_core.specs.State.{State}
-use Rattle.afdx_core.specs.Merge.{Arrival, Capture, merged}
+use Rattle.afdx_core.specs.Merge.{Arrival}
 use Rattle.afdx_count.specs.Tally.{Tally}
 use Rattle.afdx_count.specs.Run.{counts_of}
 use Rattle.afdx_session.specs.Texts.{Text, AreOfPorts}
 use Rattle.afdx_session.specs.Output.{rows_of, written, output_text}
-use Rattle.afdx_session.specs.Reading.{AreCaptures}
-use Rattle.afdx_session.specs.Inner.Files.{HavePrefixes}
 use Rattle.afdx_session.specs.Inner.Replay.{HasBytesOf, left_at}
 
 -- a finished switch, the counts of the run, and by rising port how many bytes of its output went before, and which bytes are there
@@ -43,14 +41,6 @@ pub record HaveRests {F : Type 0} (contents : F → Option (List ℕ)) (t : Cont
   pub rests : (place k : ℕ) (p : PortRow) (f g : F) → place < n → slice_get t.ports place ≡ Some p → slice_get taken place ≡ Some k → slice_get files place ≡ Some f → slice_get now place ≡ Some g
       → (bytes : List ℕ) × Appends (contents f) (contents g) bytes × (take k (output_text t arrivals p) ++ bytes ≡ output_text t arrivals p)
   pub others : (place : ℕ) → n ≤ place → slice_get now place ≡ slice_get files place
-
--- the texts are captures of the table's ports, and this is left of the program's merge of their records, beside what went to the files
-pub record HasRest {F : Type 0} (contents : F → Option (List ℕ)) (t : Content) (texts : List Text) (r : Rest) (files now : List F) : Type 0 where
-  pub ports : AreOfPorts t texts
-  pub read : List Capture
-  pub are_read : AreCaptures texts read
-  pub left : IsLeft t (merged read) 0 r
-  pub prefixes : HavePrefixes contents t (merged read) r.taken files now
 
 -- but for what was handed out the switch is as it was
 pub record IsAsBefore (old new : State) : Type 0 where
