@@ -86,9 +86,9 @@ def numbered(records: list[model.Record]) -> list[tuple[int, model.Record]]:
     return list(enumerate(records, 1))
 
 
-def number_of(record: model.Record) -> int:
-    """The link that a record names; none of a record without an address."""
-    return record.data[4] * 256 + record.data[5] if len(record.data) >= 6 else -1
+def number_of(constant: bytes, record: model.Record) -> int:
+    """The link that a record names; none of a record without an address, or of one with another constant field."""
+    return record.data[4] * 256 + record.data[5] if len(record.data) >= 6 and record.data[:4] == constant else -1
 
 
 class Comparison:
@@ -116,7 +116,7 @@ class Comparison:
         return [pair for pair in numbered(self.left[port]) if self.watch.has_record(pair[1].stamp)]
 
     def leads(self, link: model.Link, port: int, record: model.Record) -> bool:
-        return port in link.to and number_of(record) == link.id
+        return port in link.to and number_of(self.table.constant, record) == link.id
 
     def line_of(self, link: model.Link, port: model.Port) -> compare_model.Line:
         loose = next(other for other in self.loose.ports if other.id == port.id)

@@ -2,8 +2,8 @@
 """Recordings of a switch with a fault of each kind, and what was worked out of them by hand: the lines, and the rows of differences.csv.
 
 Links 9 and 7 lead from ports 3 and 1 to port 2, with a frame of 64 bytes in each millisecond and no jitter. Such a frame takes 6720 ns on
-the line, and both at once take 13,440, which is the bound. A letter fills a frame. The last recording has a table of its own. Run as a
-script with a program or the model, it says what of their answers differs.
+the line, and both at once take 13,440, which is the bound. A letter fills a frame; a small one also gives it another constant field. The
+last recording has a table of its own. Run as a script with a program or the model, it says what of their answers differs.
 """
 import argparse
 import subprocess
@@ -49,7 +49,12 @@ class Scene:
 
 
 def capture(sights: list[Sight]) -> bytes:
-    return HEADER + b"".join(record(stamp, frame(link, 64, fill=letter.encode())) for stamp, link, letter in sights)
+    return HEADER + b"".join(record(stamp, frame(link, 64, constant_of(letter), fill=letter.encode())) for stamp, link, letter in sights)
+
+
+def constant_of(letter: str) -> str:
+    """The constant field of a frame, or the first bytes of the address to which LLDP sends."""
+    return "0180c200" if letter.islower() else "03000000"
 
 
 # The recorder at port 2 is 1000 ns ahead. C leaves 13,441 ns after it came. P comes half a millisecond after B and is policed. At 4,000,000
@@ -111,6 +116,21 @@ PAST = Scene(
     ["2,7,extra,,,1,1013440,,13440",
      "2,7,missing,2,2030000,,,,13440"])
 
+# The same as CUT, but what left first has another constant field: it is of no link, whatever its number.
+STRANGE = Scene(
+    "a record of another constant field",
+    {1: [(1_030_000, 7, "A"), (2_030_000, 7, "B")]},
+    {2: [(1_013_439, 7, "w"), (1_036_720, 7, "A")]},
+    ["--stamps", "free", "--from", "1000000", "--until", "2043439"],
+    ["span 1000000 to 2043439",
+     "link 9 out 2 passed 0 seen 0 missing 0 extra 0 early 0 late 0 before 0 after 0 unsure 0 least - greatest - bound 13440",
+     "link 7 out 2 passed 2 seen 1 missing 0 extra 0 early 0 late 0 before 0 after 1 unsure 1 least 6720 greatest 6720 bound 13440",
+     "out 1 seen 0 foreign 0",
+     "out 2 seen 2 foreign 1",
+     "out 3 seen 0 foreign 0",
+     "differs"],
+    ["2,,foreign,,,1,1013439,,"])
+
 # X was recorded at 500, which the offset takes before the first stamp: it counts as at that one, and is that one without the offset.
 FIRST = Scene(
     "an offset that takes a stamp past the first one",
@@ -143,7 +163,7 @@ SLOWER = Scene(
     [],
     LINES)
 
-SCENES = [FAULTY, CUT, PAST, FIRST, SLOWER]
+SCENES = [FAULTY, CUT, PAST, STRANGE, FIRST, SLOWER]
 
 
 def answer_of(command: list[str], scene: Scene, folder: Path) -> tuple[list[str], list[str], int]:

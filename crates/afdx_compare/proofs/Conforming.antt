@@ -3,12 +3,13 @@ use Rattle.std.proofs.Common.{◌≡◌, ℕ, zero, suc, ◌-◌, ◌≤◌, min
 use Rattle.std.specs.Prelude.{◌==◌, ◌&&◌, nat_le, if◌then◌else◌, option_map, slice_get, All, Contains}
 use Rattle.std.specs.List.{AllByRecursion, list_all, position}
 use Rattle.std.specs.Option.{option_map_or}
+use Rattle.std.specs.Str.{bytes_eq}
 use Rattle.std.proofs.lemmas.Bool.{eqb-true, eqb-false, eq-eqb, ne_eqb}
 use Rattle.std.proofs.lemmas.List.Elements.{All-nil, All-cons}
 use Rattle.std.proofs.lemmas.Option.{same_Some, slice_get-map, slice_get-get_or, slice_get_within}
 use Rattle.afdx_units.specs.Time.{last_instant}
 use Rattle.afdx_pcap.specs.Record.{Record}
-use Rattle.afdx_frame.specs.Address.{link_of}
+use Rattle.afdx_frame.specs.Address.{constant_of, link_of}
 use Rattle.afdx_account.specs.declared.account.Account.{Account}
 use Rattle.afdx_account.specs.declared.frame.Frame.{Frame}
 use Rattle.afdx_account.specs.Account.{account_terms}
@@ -152,7 +153,7 @@ pub led_by : (t : Content) (links : List Watched) (port : ℕ) (bytes : List ℕ
 led_by t links port bytes link output is =
     let by = among_links port link output links (place_of_named t bytes) is in
     record {
-      named = named_if (nat_le 6 (length bytes)) (link_place t (link_of bytes)) link (same (place_of_named t bytes) is);
+      named = named_if (nat_le 6 (length bytes) && bytes_eq (constant_of bytes) t.constant) (link_place t (link_of bytes)) link (same (place_of_named t bytes) is);
       followed = by.0;
       there = by.1;
       place = by.2;

@@ -2,11 +2,12 @@
 use Rattle.std.specs.Prelude.{◌≡◌, ℕ, ◌-◌, ◌==◌, min, nat_le, Bool, ◌&&◌, List, [], ◌∷◌, ◌++◌, map, length, Option, Some, None, slice_get, if◌then◌else◌}
 use Rattle.std.specs.List.{list_all, position}
 use Rattle.std.specs.Option.{option_map_or}
+use Rattle.std.specs.Str.{bytes_eq}
 use Rattle.afdx_units.specs.declared.line.Priority.{Priority}
 use Rattle.afdx_account.specs.declared.account.Account.{Account}
 use Rattle.afdx_account.specs.Account.{account_terms}
 use Rattle.afdx_pcap.specs.Record.{Record}
-use Rattle.afdx_frame.specs.Address.{link_of}
+use Rattle.afdx_frame.specs.Address.{constant_of, link_of}
 use Rattle.afdx_table.specs.declared.rows.PortRow.{PortRow}
 use Rattle.afdx_table.specs.Link.{Link}
 use Rattle.afdx_table.specs.Content.{Content, port_row, link_place}
@@ -125,9 +126,9 @@ with_came port n c = if has_frame c.watch n.frame.stamp then own_came (place_of_
 
 -- ---- what left
 
--- the place of the link that a record names, if it has the six bytes of an address
+-- ARINC 664 Part 7: the place of the link that a record names by an address of six bytes, the first four of which are the table's constant field
 abbrev pub place_of_named : Content → List ℕ → Option ℕ
-place_of_named t bytes = if nat_le 6 (length bytes) then link_place t (link_of bytes) else None
+place_of_named t bytes = if nat_le 6 (length bytes) && bytes_eq (constant_of bytes) t.constant then link_place t (link_of bytes) else None
 
 -- the link at a place with the place of the port among those of the link's ports that were recorded
 abbrev pub led_to : ℕ → Option ℕ → Option (ℕ × ℕ)

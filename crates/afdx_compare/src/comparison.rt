@@ -260,14 +260,15 @@ fn ports_of<A: Allocator + Copy>(alloc: A, table: &Table) -> Result<Vec<Port<A>,
     Ok(ports)
 }
 
-/// Returns the place of the link that a record names; none if it has no address, or one of no link of the table.
+/// Returns the place of the link that a record names; none if it has no address, one of another constant field, or one of no link of the table.
 fn place_of_named(table: &Table, bytes: &[u8]) -> Option<usize>
     ensures { result ≡ place_of_named table.now bytes.now }
 {
-    match view(bytes) {
-        Some(view) => table.link_place(view.link()),
-        None => None,
+    let address = view(bytes)?;
+    if address.constant() != table.constant() {
+        return None;
     }
+    table.link_place(address.link())
 }
 
 /// Returns the place of a link with that of the port of a number among the link's; none if there is no such link or no such port.

@@ -1,12 +1,14 @@
 -- What recordings keep to has no record that is foreign.
-use Rattle.std.proofs.Common.{◌≡◌, ℕ, zero, suc, ◌+◌, ◌≤◌, Bool, true, false, List, [], ◌∷◌, ◌++◌, map, filter, length, Option, Some, None, refl, sym, ap, subst, ◌∙◌, arith, inl, inr}
+use Rattle.std.proofs.Common.{◌≡◌, ℕ, zero, suc, ◌+◌, Bool, true, false, List, [], ◌∷◌, ◌++◌, map, filter, length, Option, Some, None, refl, sym, ap, subst, ◌∙◌, arith, inl, inr}
 use Rattle.std.specs.Prelude.{◌==◌, ◌&&◌, if◌then◌else◌, slice_get, Contains}
 use Rattle.std.specs.List.{AllByRecursion, position}
+use Rattle.std.specs.Str.{bytes_eq}
 use Rattle.std.proofs.lemmas.Bool.{cases_Bool, le-leb, eq-eqb}
 use Rattle.std.proofs.lemmas.List.Elements.{recursion_from_All}
 use Rattle.std.proofs.lemmas.Option.{slice_get_within}
+use Rattle.std.proofs.lemmas.Slice.Eq.{bytes_eq-Decides}
 use Rattle.afdx_pcap.specs.Record.{Record}
-use Rattle.afdx_frame.specs.Address.{link_of}
+use Rattle.afdx_frame.specs.Address.{constant_of, link_of}
 use Rattle.afdx_table.specs.declared.rows.PortRow.{PortRow}
 use Rattle.afdx_table.specs.Link.{Link, leads_to}
 use Rattle.afdx_table.specs.Content.{Content, link_place}
@@ -36,7 +38,7 @@ use Rattle.afdx_compare.proofs.Owning.{IsPlaced, placed}
 use Rattle.afdx_compare.proofs.Places.{get_there, all_at, item_contained}
 use Rattle.afdx_compare.proofs.Ported.{output_place}
 use Rattle.afdx_compare.proofs.Strangers.{none_foreign, IsLed}
-use Rattle.afdx_compare_laws.specs.Comparing.{HaveAddresses, KeptIsNotForeign}
+use Rattle.afdx_compare_laws.specs.Comparing.{HasAddress, HaveAddresses, KeptIsNotForeign}
 use Rattle.afdx_compare_laws.proofs.Comparing.{filter_there, all_from_each}
 use Rattle.afdx_compare_laws.proofs.Narrowing.{all_first, all_both}
 
@@ -158,7 +160,7 @@ leads_there w t ports read out kept p among k x at l there same = elim (cases_Bo
 
 module _ (found : LinksAreFound) (places : LinksAreAtTheirPlaces) (ports : PortsAreFound) (t : Content) (r : Recordings) (from until : ℕ) (keeping : Bool) (captures : List (List Record))
     (arrivals : List Arrival) (first : Comparison) (formed : IsWellFormed t) (begun : IsBegun t r from keeping first) (merge : IsMergeOf (sources_of t r).clocks captures arrivals)
-    (named : HaveAddresses (watch_within t r from until) (recorded_ports t r) (left_out t r captures))
+    (named : HaveAddresses (watch_within t r from until) t (recorded_ports t r) (left_out t r captures))
     (kept : IsKeptWithin (watch_within t r from until) t (recorded_ports t r) (came_in t.ports captures) (left_out t r captures)) where
   abbrev w : Watch
   w = watch_within t r from until
@@ -203,12 +205,14 @@ module _ (found : LinksAreFound) (places : LinksAreAtTheirPlaces) (ports : Ports
           let is = output_place (watch_of t r from) t r.outputs keeping l.priority p.id p l.to is_there (ports t formed p in_table) led in
           (is.0, ap (λ (x : Watched). position (λ o. o.port == p.id) x.outputs) one.first ∙ is.1)
 
-      led_at : (x : Record) → 6 ≤ length x.bytes → link_of x.bytes ≡ l.id → IsLed c p.id x
-      led_at x six same = record {
+      led_at : (x : Record) → HasAddress t x → link_of x.bytes ≡ l.id → IsLed c p.id x
+      led_at x has same = record {
         link = place;
         output = output.0;
         is = ap (λ (y : Content). link_among p.id first.links (place_of_named y x.bytes)) begun.table
-            ∙ ap (λ (b : Bool). link_among p.id first.links (if b then link_place t (link_of x.bytes) else None)) (le-leb 6 (length x.bytes) six)
+            ∙ ap (λ (b : Bool). link_among p.id first.links (if b && bytes_eq (constant_of x.bytes) t.constant then link_place t (link_of x.bytes) else None))
+            (le-leb 6 (length x.bytes) has.0)
+            ∙ ap (λ (b : Bool). link_among p.id first.links (if b then link_place t (link_of x.bytes) else None)) ((bytes_eq-Decides (constant_of x.bytes) t.constant).1 has.1)
             ∙ ap (λ (n : ℕ). link_among p.id first.links (link_place t n)) same
             ∙ ap (λ (o : Option ℕ). link_among p.id first.links o) at.named
             ∙ ap (λ (o : Option Watched). output_among p.id place o) f.1
@@ -218,9 +222,9 @@ module _ (found : LinksAreFound) (places : LinksAreAtTheirPlaces) (ports : Ports
     all_led_there : Contains t.ports p → AllByRecursion (IsLed c p.id) (out p)
     all_led_there in_table = all_from_each (IsLed c p.id) (out p) (λ k x at.
         let of : IsOfLink x = all_at IsOfLink (out p) k x at (recursion_from_All IsOfLink (out p) (kept.of_links p contained)) in
-        let six = all_at (λ (y : Record). 6 ≤ length y.bytes) (out p) k x at (named p contained) in
+        let has = all_at (HasAddress t) (out p) k x at (named p contained) in
         let is = placed found places t of.0 (found.found t formed of.0 of.1) in
-        led_at in_table of.0 is.0 is.1 (leads_there w t (recorded_ports t r) (came_in t.ports captures) (left_out t r captures) kept p contained k x at of.0 of.1 of.2) x six of.2)
+        led_at in_table of.0 is.0 is.1 (leads_there w t (recorded_ports t r) (came_in t.ports captures) (left_out t r captures) kept p contained k x at of.0 of.1 of.2) x has of.2)
 
   may : AllByRecursion (λ x. x.leaves ≡ true → IsOfPort r.outputs t.ports x.port) (sources_of t r).captures
   may = all_both (λ x. x.leaves ≡ true → IsOfPort r.outputs t.ports x.port) (inputs_from 0 t.ports) (outputs_from r.outputs 0 t.ports) (inputs_may r.outputs t.ports 0 t.ports)

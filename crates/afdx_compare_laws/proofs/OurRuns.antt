@@ -13,12 +13,13 @@ use Rattle.afdx_units.specs.declared.line.Speed.TheVariants.{Ten, Hundred, Thous
 use Rattle.afdx_units.specs.Line.{least_size, size_of, cost_of}
 use Rattle.afdx_units.specs.Time.{last_instant}
 use Rattle.afdx_pcap.specs.Record.{Record}
-use Rattle.afdx_frame.specs.Address.{link_of}
+use Rattle.afdx_frame.specs.Address.{constant_of, link_of}
 use Rattle.afdx_table.specs.declared.rows.PortRow.{PortRow}
 use Rattle.afdx_table.specs.Link.{Link, names_port, leads_to}
 use Rattle.afdx_table.specs.Content.{Content, port_row}
 use Rattle.afdx_table.specs.WellFormed.{IsWellFormed}
 use Rattle.afdx_filter.specs.Inner.Clean.{CleanFramesHaveALink}
+use Rattle.afdx_filter.specs.Inner.Exactly.{CleanExactly}
 use Rattle.afdx_filter.specs.Verdict.{verdict_of}
 use Rattle.afdx_filter.specs.Frame.{frame_of}
 use Rattle.afdx_load.specs.Load.{load_of, terms_of}
@@ -73,7 +74,7 @@ use Rattle.afdx_compare_laws.proofs.Instants.{captures_by}
 use Rattle.afdx_compare_laws.specs.Fates.{AllDiffer}
 use Rattle.afdx_compare_laws.specs.Fine.{LeavesLater}
 use Rattle.afdx_compare_laws.specs.Spans.{cut, BeginsInTime, IsSpanOf, DifferWithinBounds}
-use Rattle.afdx_compare_laws.specs.Comparing.{HaveAddresses, AreClear, KeptIsNotForeign, KeptIsConforms}
+use Rattle.afdx_compare_laws.specs.Comparing.{HasAddress, HaveAddresses, AreClear, KeptIsNotForeign, KeptIsConforms}
 use Rattle.afdx_compare_laws.specs.Runs.{AreOurs, AreBy, AreApart, AreWhole, AreOfSpan, captures_of, OurAnswersAreKept, OurRunsConform}
 use Rattle.afdx_compare_laws.proofs.Comparing.{filter_there, filter_of, find_in, all_from_each}
 use Rattle.afdx_compare_laws.proofs.Fine.{first_is, rest_is}
@@ -185,16 +186,24 @@ some_kept w t ports some read out others among same kept = record {
 
 -- ---- addresses
 
-abbrev HasAddress : Record → Type 0
-HasAddress x = 6 ≤ length x.bytes
-
-by_bytes : (xs ys : List Record) → bytes_of xs ≡ bytes_of ys → AllByRecursion HasAddress ys → AllByRecursion HasAddress xs
-by_bytes [] ys same all = tt
-by_bytes (x ∷ xs) [] same all = absurd (let never = same in cc)
-by_bytes (x ∷ xs) (y ∷ ys) same all = (
-  subst (λ (b : List ℕ). 6 ≤ length b) (sym (first_is x.bytes y.bytes (bytes_of xs) (bytes_of ys) same)) all.0,
-  by_bytes xs ys (rest_is x.bytes y.bytes (bytes_of xs) (bytes_of ys) same) all.1,
+by_bytes : (t : Content) (xs ys : List Record) → bytes_of xs ≡ bytes_of ys → AllByRecursion (HasAddress t) ys → AllByRecursion (HasAddress t) xs
+by_bytes t [] ys same all = tt
+by_bytes t (x ∷ xs) [] same all = absurd (let never = same in cc)
+by_bytes t (x ∷ xs) (y ∷ ys) same all = (
+  subst (λ (b : List ℕ). (6 ≤ length b) × (constant_of b ≡ t.constant)) (sym (first_is x.bytes y.bytes (bytes_of xs) (bytes_of ys) same)) all.0,
+  by_bytes t xs ys (rest_is x.bytes y.bytes (bytes_of xs) (bytes_of ys) same) all.1,
 )
+
+-- a clean frame has an address
+clean_addressed : CleanExactly → (t : Content) (l : Link) (rs : List Record) → AllByRecursion (HasAddress t) (filter (λ x. says_clean l.id (verdict_of t l.from x)) rs)
+clean_addressed clean t l [] = tt
+clean_addressed clean t l (r ∷ rs) = elim (cases_Bool (says_clean l.id (verdict_of t l.from r))) [
+  | inl says ↦ rw says (
+      let of = ((clean t l.from r l.id).0 (is_clean l.id (verdict_of t l.from r) says)).2 in
+      let least = of.size_least in
+      ((omega (arith, least), of.constant), clean_addressed clean t l rs))
+  | inr not ↦ rw not (clean_addressed clean t l rs)
+]
 
 -- a frame that counts has the least size
 abbrev IsLong : Record → Type 0
@@ -210,22 +219,23 @@ clean_long clean t l (r ∷ rs) = elim (cases_Bool (says_clean l.id (verdict_of 
 own_long : CleanFramesHaveALink → (w : Watch) (t : Content) (l : Link) (read : List Capture) → AllByRecursion IsLong (own_within w t l read)
 own_long clean w t l read = all_filtered IsLong (λ r. has_frame w r.stamp) (own_records t l read) (clean_long clean t l (records_of read l.from))
 
-kept_addresses : CleanFramesHaveALink → (t : Content) (ports : List PortRow) (read : List Capture) (out : PortRow → List Record) → IsKeptWithin (exactly t) t ports read out
-    → HaveAddresses (exactly t) ports out
-kept_addresses clean t ports read out kept p among = all_from_each HasAddress (recorded (exactly t) (out p)) (λ k x at.
+kept_addresses : CleanExactly → (t : Content) (ports : List PortRow) (read : List Capture) (out : PortRow → List Record) → IsKeptWithin (exactly t) t ports read out
+    → HaveAddresses (exactly t) t ports out
+kept_addresses clean t ports read out kept p among = all_from_each (HasAddress t) (recorded (exactly t) (out p)) (λ k x at.
     let of = all_at (λ r. (l : Link) × Contains t.links l × (link_of r.bytes ≡ l.id)) (recorded (exactly t) (out p)) k x at
     (recursion_from_All (λ r. (l : Link) × Contains t.links l × (link_of r.bytes ≡ l.id)) (recorded (exactly t) (out p)) (kept.of_links p among)) in
     let l = of.0 in
     let leads = leads_there (exactly t) t ports read out kept p among k x at l of.1 of.2 in
     let is = (kept.kept p among l of.1 leads).2 in
     let own = own_within (exactly t) t l read in
-    let own_have = all_map IsLong HasAddress (λ x least. omega (arith, least)) own (own_long clean (exactly t) t l read) in
-    let gone = all_first HasAddress is.gone is.after (subst (λ (rs : List Record). AllByRecursion HasAddress rs) is.passed_is (all_chosen HasAddress (kept.fates l) own own_have)) in
+    let own_have = all_filtered (HasAddress t) (λ y. has_frame (exactly t) y.stamp) (own_records t l read) (clean_addressed clean t l (records_of read l.from)) in
+    let gone = all_first (HasAddress t) is.gone is.after
+    (subst (λ (rs : List Record). AllByRecursion (HasAddress t) rs) is.passed_is (all_chosen (HasAddress t) (kept.fates l) own own_have)) in
     let here = filter_there (λ (y : Record). link_of y.bytes == l.id) (recorded (exactly t) (out p)) k x at (eq-eqb (link_of x.bytes) l.id of.2) in
-    all_at HasAddress (records_for l (recorded (exactly t) (out p))) here.0 x here.1
-    (subst (λ (rs : List Record). AllByRecursion HasAddress rs) (sym is.out_is)
-    (all_both HasAddress is.before is.seen (none_before HasAddress (limits_of (exactly t) (kept.kept p among l of.1 leads).0 p.speed) is.before refl is.from_before)
-    (by_bytes is.seen is.gone is.same_bytes gone))))
+    all_at (HasAddress t) (records_for l (recorded (exactly t) (out p))) here.0 x here.1
+    (subst (λ (rs : List Record). AllByRecursion (HasAddress t) rs) (sym is.out_is)
+    (all_both (HasAddress t) is.before is.seen (none_before (HasAddress t) (limits_of (exactly t) (kept.kept p among l of.1 leads).0 p.speed) is.before refl is.from_before)
+    (by_bytes t is.seen is.gone is.same_bytes gone))))
 
 -- ---- frames of the same bytes
 
@@ -305,6 +315,7 @@ mapped_option f (Some x) y is = (x, refl, same_Some (f x) y is)
 
 pub record Needed : Type 0 where
   pub clean : CleanFramesHaveALink
+  pub clean_exactly : CleanExactly
   pub verdicts : VerdictsNameLinks
   pub ordered : ByStampIsOrdered
   pub soon : EndsWithinASecond
@@ -421,21 +432,21 @@ module _ (needed : Needed) (t : Content) (texts : List Text) (results : Results)
         (needed.answers t texts results r.least r.tolerance (start_of r.rest from) (Some until) formed within run ours.least (span_of span) (differ span.apart))
   ]
 
-  addresses : HaveAddresses spanned (recorded_ports t r) (left_out t r captures)
+  addresses : HaveAddresses spanned t (recorded_ports t r) (left_out t r captures)
   addresses p among =
-      all_filtered HasAddress (λ x. has_record spanned x.stamp) (left_out t r captures p)
-      (subst (λ (rs : List Record). AllByRecursion HasAddress rs) (left_is p among)
-      (subst (λ (rs : List Record). AllByRecursion HasAddress rs)
+      all_filtered (HasAddress t) (λ x. has_record spanned x.stamp) (left_out t r captures p)
+      (subst (λ (rs : List Record). AllByRecursion (HasAddress t) rs) (left_is p among)
+      (subst (λ (rs : List Record). AllByRecursion (HasAddress t) rs)
       (filter_stays (λ x. has_record (exactly t) x.stamp) (out p) (always (λ x. has_record (exactly t) x.stamp ≡ true) (out p) (λ x. refl)))
-      (kept_addresses needed.clean t t.ports read out exactly_kept p (in_table p among))))
+      (kept_addresses needed.clean_exactly t t.ports read out exactly_kept p (in_table p among))))
 
   kept_there_all : IsKeptWithin w t (recorded_ports t r) (came_in t.ports captures) (left_out t r captures)
   kept_there_all =
       subst (λ (x : Watch). IsKeptWithin x t (recorded_ports t r) (came_in t.ports captures) (left_out t r captures)) (sym watch_is)
       (subst (λ (cs : List Capture). IsKeptWithin spanned t (recorded_ports t r) cs (left_out t r captures)) (sym (came_is t.ports texts read left run.ports run.are_read)) span_kept)
 
-  named : HaveAddresses w (recorded_ports t r) (left_out t r captures)
-  named = subst (λ (x : Watch). HaveAddresses x (recorded_ports t r) (left_out t r captures)) (sym watch_is) addresses
+  named : HaveAddresses w t (recorded_ports t r) (left_out t r captures)
+  named = subst (λ (x : Watch). HaveAddresses x t (recorded_ports t r) (left_out t r captures)) (sym watch_is) addresses
 
   abbrev c : Comparison
   c = with_until until first

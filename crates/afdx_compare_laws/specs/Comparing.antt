@@ -3,6 +3,7 @@ use Rattle.std.specs.Prelude.{◌≡◌, ◌⊎◌, ℕ, ◌-◌, ◌≤◌, ◌
 use Rattle.std.specs.List.{AllByRecursion, list_all}
 use Rattle.afdx_units.specs.Time.{last_instant}
 use Rattle.afdx_pcap.specs.Record.{Record}
+use Rattle.afdx_frame.specs.Address.{constant_of}
 use Rattle.afdx_table.specs.declared.rows.PortRow.{PortRow}
 use Rattle.afdx_table.specs.Link.{Link}
 use Rattle.afdx_table.specs.Content.{Content}
@@ -38,15 +39,19 @@ abbrev pub AreClear : Watch → Content → List (List Record) → Comparison �
 AreClear w t captures all = (place : ℕ) (l : Link) (f : Watched) → slice_get t.links place ≡ Some l → slice_get all.links place ≡ Some f
     → IsClear w (own_within w t l (came_in t.ports captures)) f
 
--- each record that counts has the six bytes of an address
-abbrev pub HaveAddresses : Watch → List PortRow → (PortRow → List Record) → Type 0
-HaveAddresses w ports out = (p : PortRow) → Contains ports p → AllByRecursion (λ x. 6 ≤ length x.bytes) (recorded w (out p))
+-- ARINC 664 Part 7: an address has six bytes, the first four of which are the constant field of all links
+abbrev pub HasAddress : Content → Record → Type 0
+HasAddress t x = (6 ≤ length x.bytes) × (constant_of x.bytes ≡ t.constant)
+
+-- each record that counts has one
+abbrev pub HaveAddresses : Watch → Content → List PortRow → (PortRow → List Record) → Type 0
+HaveAddresses w t ports out = (p : PortRow) → Contains ports p → AllByRecursion (HasAddress t) (recorded w (out p))
 
 -- if recordings keep to what is proved of our switch, and each record that counts has an address, no record is foreign
 abbrev pub KeptIsNotForeign : Type 0
 KeptIsNotForeign = (t : Content) (r : Recordings) (from until : ℕ) (keeping : Bool) (captures : List (List Record)) (arrivals : List Arrival) (first : Comparison)
     → IsWellFormed t → IsBegun t r from keeping first → IsMergeOf (sources_of t r).clocks captures arrivals
-    → HaveAddresses (watch_within t r from until) (recorded_ports t r) (left_out t r captures)
+    → HaveAddresses (watch_within t r from until) t (recorded_ports t r) (left_out t r captures)
     → IsKeptWithin (watch_within t r from until) t (recorded_ports t r) (came_in t.ports captures) (left_out t r captures)
     → list_all (λ p. p.foreign == 0) (with_arrivals (sources_of t r).captures arrivals (with_until until first)).ports ≡ true
 

@@ -14,7 +14,7 @@ ghost use Rattle.afdx_compare_laws.specs.Surplus.{NoSurplusHides};
 
 use afdx_compare::laws::exactly_is_isolated;
 use afdx_core::laws::{by_stamp_is_ordered, verdicts_name_links};
-use afdx_filter::laws::clean_frames_have_a_link;
+use afdx_filter::laws::{clean_exactly, clean_frames_have_a_link};
 use afdx_grouping::laws::{less_scatter_is_accepted, nothing_is_scattered};
 use afdx_levels::laws::{
     at_rest_is_the_account, noise_is_allowed, surplus_is_jitter, told_is_allowed,
@@ -127,7 +127,8 @@ pub fn kept_link_conforms()
     at_rest_is_the_account();
 }
 
-/// Proves that no record is foreign of recordings that keep to what is proved of our switch, if each record has the six bytes of an address.
+/// Proves that no record is foreign of recordings that keep to what is proved of our switch, if each record has an address of the table's constant
+/// field.
 pub fn kept_is_not_foreign()
     ensures { KeptIsNotForeign }
 {
@@ -155,6 +156,7 @@ pub fn our_runs_conform()
     ensures { OurRunsConform }
 {
     clean_frames_have_a_link();
+    clean_exactly();
     verdicts_name_links();
     by_stamp_is_ordered();
     ends_within_a_second();

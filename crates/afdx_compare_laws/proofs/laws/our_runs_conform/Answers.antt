@@ -4,6 +4,7 @@ use Rattle.afdx_compare_laws.proofs.laws.our_runs_conform.Goals as goal
 pub returns : goal.returns
 returns c = our_runs_conform (record {
   clean = c.clean_frames_have_a_link.ensures;
+  clean_exactly = c.clean_exactly.ensures;
   verdicts = c.verdicts_name_links.ensures;
   ordered = c.by_stamp_is_ordered.ensures;
   soon = c.ends_within_a_second.ensures;
