@@ -285,13 +285,15 @@ Remedy: the same `mbit` in both
         "G5",
         "G5 NoRow: the first switch sends the link over the wire, but the second one's
 table has no such link
-Remedy: a `[[link]]` with this `id` there, or another `to` at the first
+Remedy: a `[[link]]` with this `id` there, or another `to` at the first; or the
+wire names another port than its cable has: mend the `[[wire]]`, not the tables
 ",
     ),
     (
         "G6",
         "G6 From: in the second table the link comes in at another port
-Remedy: its `from` must be the wire's end
+Remedy: its `from` must be the wire's end; or the wire names another port than
+its cable has: mend the `[[wire]]`, not the tables
 ",
     ),
     (
@@ -314,8 +316,11 @@ here
     ),
     (
         "G9",
-        "G9 TwiceSource: the ports of two end systems feed the same number
-Remedy: another number for one of the two
+        "G9 TwiceSource: the ports of two end systems feed the same number; a port to
+which no wire goes counts as an end system's
+Remedy: another number for one of the two; or a wire is missing (a cable is two
+wires, one for each direction), or names another port: mend the `[[wire]]`, not
+the tables
 ",
     ),
     (
