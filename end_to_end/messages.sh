@@ -95,6 +95,7 @@ says 2 "afdx: argument A1 Latency, --least-latency 90, limit 80" compare changed
 says 2 "afdx: argument A2 NoSuchPort, --ports 3" compare table.toml in out --ports 1,3
 says 2 "afdx: argument A2 NoSuchPort, --offset 3" compare table.toml in out --offset 3=100
 says 2 "afdx: argument A3 LeftOut, --offset 1" compare table.toml in out --ports 2 --offset 1=100
+says 2 "afdx: argument A4 Span, --from 2000000000, --until 1000000000" compare table.toml in out --from 2000000000 --until 1000000000
 
 refuses_table "C2 Toml" 's/"low"/"low/'
 refuses_table "C3 UnknownKey, link 1" 's/bag_ms/bag/'

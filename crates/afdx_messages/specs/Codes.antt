@@ -24,6 +24,7 @@ argument_code (argument.Latency least limit) = codes "A1"
 argument_code (argument.Ports port) = codes "A2"
 argument_code (argument.Offset port) = codes "A2"
 argument_code (argument.LeftOut port) = codes "A3"
+argument_code (argument.Span from until) = codes "A4"
 
 -- the code of a table's refusal
 abbrev pub table_code : TableFault → List ℕ

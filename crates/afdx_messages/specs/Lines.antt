@@ -27,12 +27,14 @@ memory_text = codes "afdx: memory"
 
 -- ---- of an option that does not fit the table
 
--- the refusal, and the option with its value: of a latency the microseconds, beside the most that it may have; else the port
+-- the refusal, and the option with its value: of a latency the microseconds, beside the most that it may have; of a span both instants, in
+-- nanoseconds; else the port
 abbrev pub argument_text : ArgumentFault → List ℕ
 argument_text (argument.Latency least limit) = codes "afdx: argument A1 Latency, --least-latency " ++ decimal least ++ codes ", limit " ++ decimal limit
 argument_text (argument.Ports port) = codes "afdx: argument A2 NoSuchPort, --ports " ++ decimal port
 argument_text (argument.Offset port) = codes "afdx: argument A2 NoSuchPort, --offset " ++ decimal port
 argument_text (argument.LeftOut port) = codes "afdx: argument A3 LeftOut, --offset " ++ decimal port
+argument_text (argument.Span from until) = codes "afdx: argument A4 Span, --from " ++ decimal from ++ codes ", --until " ++ decimal until
 
 -- the line of an option that does not fit the table
 abbrev pub argument_line : ArgumentFault → List ℕ

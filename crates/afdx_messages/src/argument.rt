@@ -17,6 +17,8 @@ pub enum ArgumentFault {
     Offset(u8),
     /// A3: `--offset` names this port, which `--ports` leaves out.
     LeftOut(u8),
+    /// A4: the first, of `--from`, is after the second, of `--until`; both in nanoseconds.
+    Span(u64, u64),
 }
 
 /// Returns the text of a least latency that is above the table's latency.
@@ -40,6 +42,17 @@ fn port_text(alloc: Global, refusal: &str, port: u8) -> Result<String, AllocErro
     Ok(text)
 }
 
+/// Returns the text of recordings that are to begin after they end.
+fn span_text(alloc: Global, from: u64, until: u64) -> Result<String, AllocError>
+    ensures { IfOk result (λ text. string_bytes text
+        ≡ codes "afdx: argument A4 Span, --from " ++ decimal from ++ codes ", --until " ++ decimal until) }
+{
+    let mut text = String::from_str(alloc, "afdx: argument A4 Span, --from ")?;
+    write!(text, "{from}")?;
+    write!(text, ", --until {until}")?;
+    Ok(text)
+}
+
 /// Returns what is reported of an option that does not fit, without its line feed.
 fn argument_text(alloc: Global, fault: ArgumentFault) -> Result<String, AllocError>
     ensures { IfOk result (λ text. string_bytes text ≡ argument_text fault) }
@@ -49,6 +62,7 @@ fn argument_text(alloc: Global, fault: ArgumentFault) -> Result<String, AllocErr
         ArgumentFault::Ports(port) => port_text(alloc, "A2 NoSuchPort, --ports", port),
         ArgumentFault::Offset(port) => port_text(alloc, "A2 NoSuchPort, --offset", port),
         ArgumentFault::LeftOut(port) => port_text(alloc, "A3 LeftOut, --offset", port),
+        ArgumentFault::Span(from, until) => span_text(alloc, from, until),
     }
 }
 

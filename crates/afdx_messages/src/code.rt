@@ -20,6 +20,7 @@ fn argument_code(fault: ArgumentFault) -> &'static str
         ArgumentFault::Latency(_, _) => "A1",
         ArgumentFault::Ports(_) | ArgumentFault::Offset(_) => "A2",
         ArgumentFault::LeftOut(_) => "A3",
+        ArgumentFault::Span(_, _) => "A4",
     }
 }
 

@@ -1,7 +1,7 @@
 //! What MESSAGES says of each code. `docs/develop/remedies.py` writes this file; change docs/use/MESSAGES.md instead.
 
 /// The codes in the order of the page, each with its entry.
-pub(crate) const ENTRIES: [(&str, &str); 48] = [
+pub(crate) const ENTRIES: [(&str, &str); 49] = [
     (
         "usage",
         "usage: the arguments are not what the command takes, which `afdx COMMAND --help`
@@ -32,6 +32,13 @@ Remedy: mend the number
         "A3 LeftOut: (`compare`) `--ports` leaves out the port that `--offset` names:
 nothing is read there
 Remedy: name the port in `--ports` too, or leave out its offset
+",
+    ),
+    (
+        "A4",
+        "A4 Span: (`compare`) `--from` is after `--until`, so that nothing would be
+judged
+Remedy: mend one of the two; both are stamps in ns, of 19 digits today
 ",
     ),
     (

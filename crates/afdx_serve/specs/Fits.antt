@@ -8,7 +8,7 @@ use Rattle.afdx_table.specs.Content.{Content, port_row}
 use Rattle.afdx_recordings.specs.declared.recordings.Recordings.{Recordings}
 use Rattle.afdx_recordings.specs.Recordings.{is_recorded, offset_at}
 use Rattle.afdx_messages.specs.declared.argument.ArgumentFault.{ArgumentFault}
-use Rattle.afdx_messages.specs.declared.argument.ArgumentFault.TheVariants.{Latency, Ports, Offset, LeftOut}
+use Rattle.afdx_messages.specs.declared.argument.ArgumentFault.TheVariants.{Latency, Ports, Offset, LeftOut, Span}
 
 -- the numbers that ports can have
 unfoldable pub port_numbers : List ℕ
@@ -34,11 +34,13 @@ is_missing t r port = is_named r port && lacks t port
 abbrev pub is_stray : Content → Recordings → ℕ → Bool
 is_stray t r port = is_moved r port && (lacks t port || not (is_recorded r.outputs port))
 
--- the least latency is not above the table's, the table has the ports that are named, and offsets are of ports that were recorded
+-- the least latency is not above the table's, the table has the ports that are named, offsets are of ports that were recorded, and what begins and ends
+-- at instants that are given ends no sooner than it begins
 pub record Fits (t : Content) (r : Recordings) : Type 0 where
   pub least : r.least ≤ t.latency
   pub ports : list_any (is_missing t r) port_numbers ≡ false
   pub offsets : list_any (is_stray t r) port_numbers ≡ false
+  pub span : (from until : ℕ) → r.from ≡ Some from → r.until ≡ Some until → from ≤ until
 
 -- ---- why they do not
 
@@ -58,6 +60,12 @@ offset_fault t port = if lacks t port then Offset port else LeftOut port
 abbrev pub offsets_fault : Content → Recordings → Option ArgumentFault
 offsets_fault t r = option_map (offset_fault t) (find (is_stray t r) port_numbers)
 
--- profile: the first fault of the options: of the latency, then of the ports, then of the offsets
+-- A4: the recordings' span ends before it begins, both in nanoseconds
+abbrev pub span_fault : Option ℕ → Option ℕ → Option ArgumentFault
+span_fault None until = None
+span_fault (Some from) None = None
+span_fault (Some from) (Some until) = if nat_lt until from then Some (Span from until) else None
+
+-- profile: the first fault of the options: of the latency, then of the ports, then of the offsets, then of the span
 abbrev pub first_argument_fault : Content → Recordings → Option ArgumentFault
-first_argument_fault t r = option_or (latency_fault t r) (option_or (ports_fault t r) (offsets_fault t r))
+first_argument_fault t r = option_or (latency_fault t r) (option_or (ports_fault t r) (option_or (offsets_fault t r) (span_fault r.from r.until)))

@@ -1,12 +1,12 @@
 //! Whether the options of `compare` fit the table.
 
 ghost use Rattle.std.specs.Prelude.{◌≡◌, find, option_copied};
-ghost use Rattle.afdx_serve.specs.Fits.{lacks, is_named, is_moved, is_missing, is_stray, port_numbers, ports_fault, offset_fault, offsets_fault, first_argument_fault};
+ghost use Rattle.afdx_serve.specs.Fits.{lacks, is_named, is_moved, is_missing, is_stray, port_numbers, ports_fault, offset_fault, offsets_fault, span_fault, first_argument_fault};
 
 use afdx_messages::ArgumentFault;
 use afdx_recordings::Recordings;
 use afdx_table::Table;
-use afdx_units::MICROSECOND;
+use afdx_units::{MICROSECOND, Stamp};
 
 /// The numbers that ports can have, rising.
 const PORT_NUMBERS: [u8; 24] = [
@@ -105,7 +105,20 @@ fn offsets_fault(table: &Table, recordings: &Recordings) -> Option<ArgumentFault
     }
 }
 
-/// Returns the first option that does not fit the table, if there is one: the least latency, then the lowest port of `--ports`, then that of `--offset`.
+/// Returns the fault of recordings that are to begin after they end, if both instants are given and they are.
+fn span_fault(from: Option<Stamp>, until: Option<Stamp>) -> Option<ArgumentFault>
+    ensures { result ≡ span_fault from until }
+{
+    let from = from?;
+    let until = until?;
+    if until < from {
+        return Some(ArgumentFault::Span(from.ns(), until.ns()));
+    }
+    None
+}
+
+/// Returns the first option that does not fit, if there is one: the least latency, then the lowest port of `--ports`, then that of `--offset`, and then
+/// the span.
 pub(crate) fn first_argument_fault(table: &Table, recordings: &Recordings) -> Option<ArgumentFault>
     ensures { result ≡ first_argument_fault table.now recordings.now }
 {
@@ -116,6 +129,9 @@ pub(crate) fn first_argument_fault(table: &Table, recordings: &Recordings) -> Op
     }
     match ports_fault(table, recordings) {
         Some(fault) => Some(fault),
-        None => offsets_fault(table, recordings),
+        None => match offsets_fault(table, recordings) {
+            Some(fault) => Some(fault),
+            None => span_fault(recordings.from, recordings.until),
+        },
     }
 }
