@@ -120,10 +120,20 @@ fails() {
     [ $? -eq "$status" ] && [ "$(cat said.txt)" = "$line" ] && [ ! -s lines.txt ]
 }
 
+# ends_before_all / begins_after_all: the first or the last of all stamps stands for the instant that is not given.
+ends_before_all() {
+    fails 2 "afdx: argument A4 Span, --from $(sed -n 's/^span \([0-9]*\) .*/\1/p' whole.txt), --until 1768471200" "$table" "$network/in" out --stamps free --until 1768471200
+}
+
+begins_after_all() {
+    fails 2 "afdx: argument A4 Span, --from 2000000000000000000, --until $(sed -n 's/^span .* to //p' whole.txt)" "$table" "$network/in" out --stamps free \
+        --from 2000000000000000000
+}
+
 export HERE=$top/end_to_end
 mkdir out faster traced
 "$afdx" run "$table" "$network/in" out >/dev/null && "$afdx" run "$network/faster.toml" "$network/in" faster >/dev/null &&
-    "$afdx" trace "$table" "$network/in" traced
+    "$afdx" trace "$table" "$network/in" traced && "$afdx" compare "$table" "$network/in" out --stamps free >whole.txt
 
 check "the model finds what was worked out by hand" python3 "$top/end_to_end/compare_rows.py"
 check "its lines and rows are those that were worked out by hand" \
@@ -146,6 +156,8 @@ head -c 30 out/port-2.pcap >cut.pcap && mkdir broken && cp out/*.pcap broken && 
 check "an output that is no capture" fails 3 "afdx: capture P6 CutHeader, output 2, record 1" "$table" "$network/in" broken
 check "a port that the table lacks, before an output is looked for" fails 2 "afdx: argument A2 NoSuchPort, --ports 9" "$table" "$network/in" nowhere --ports 1,9
 check "an offset of a port that is left out" fails 2 "afdx: argument A3 LeftOut, --offset 1" "$table" "$network/in" out --ports 3 --offset 1=5
+check "an end in seconds, before all stamps" ends_before_all
+check "a beginning after all stamps" begins_after_all
 check "a least latency above the table's" fails 2 "afdx: argument A1 Latency, --least-latency 17, limit 16" "$network/faster.toml" "$network/in" faster \
     --stamps free --least-latency 17
 check "no output" fails 5 "afdx: device get nowhere/port-1.pcap" "$table" "$network/in" nowhere

@@ -35,6 +35,20 @@ pub struct Findings<'t, A: Allocator> {
 }
 
 impl<'t, A: Allocator + Copy> Findings<'t, A> {
+    /// Returns the instant from which on the recordings count: the one that is given, or the first stamp of all. O(1).
+    pub fn from(&self) -> Stamp
+        ensures { result ≡ self.now.from }
+    {
+        self.from
+    }
+
+    /// Returns the instant up to which they count: the one that is given, or the last stamp of all. O(1).
+    pub fn until(&self) -> Stamp
+        ensures { result ≡ self.now.until }
+    {
+        self.until
+    }
+
     /// Returns whether nothing speaks against the switch. O(ports of links).
     pub fn conforms(&self) -> bool
         ensures { result ≡ conform self.now.comparison }

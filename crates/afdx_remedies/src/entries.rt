@@ -37,7 +37,8 @@ Remedy: name the port in `--ports` too, or leave out its offset
     (
         "A4",
         "A4 Span: (`compare`) `--from` is after `--until`, so that nothing would be
-judged
+judged; if one of them is not given, the first or the last of all stamps stands
+in its place
 Remedy: mend one of the two; both are stamps in ns, of 19 digits today
 ",
     ),

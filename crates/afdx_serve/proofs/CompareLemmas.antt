@@ -1,7 +1,7 @@
 -- What is found out of recordings, and why nothing is.
-use Rattle.std.proofs.Common.{◌≡◌, ℕ, zero, suc, ◌+◌, ◌<◌, Bool, true, false, List, [], ◌∷◌, ◌++◌, map, length, take, slice_get, Option, Some, None, get_or, refl, sym, ap, subst}
+use Rattle.std.proofs.Common.{◌≡◌, ℕ, zero, suc, ◌+◌, ◌<◌, ◌≤◌, Bool, true, false, List, [], ◌∷◌, ◌++◌, map, length, take, slice_get, Option, Some, None, get_or, refl, sym, ap, subst}
 use Rattle.std.proofs.Common.{◌∙◌, inl, inr, String, Global, string_bytes, arith, append_assoc, append-nil, length-append}
-use Rattle.std.specs.Prelude.{◌⊎◌, IfSome, is_some, option_map, if◌then◌else◌}
+use Rattle.std.specs.Prelude.{◌⊎◌, Result, Ok, Err, MatchResult, IfSome, is_some, option_map, if◌then◌else◌}
 use Rattle.std.proofs.lemmas.List.{length-map, take_more}
 use Rattle.std.proofs.lemmas.Option.{same_Some, slice_get-map, slice_get-get_or}
 use Rattle.std.proofs.lemmas.Grind.{flat_map-append}
@@ -22,12 +22,14 @@ use Rattle.afdx_folder.specs.Files.{Files, ShowsAll, IsOpened, KeepsFiles, PutsF
 use Rattle.afdx_folder.specs.Input.{AreGiven}
 use Rattle.afdx_arguments.specs.declared.request.Compare.{Compare}
 use Rattle.afdx_messages.specs.declared.argument.ArgumentFault.{ArgumentFault}
+use Rattle.afdx_messages.specs.declared.argument.ArgumentFault.TheVariants.{Span}
+use Rattle.afdx_compare.specs.declared.findings.Findings.{Findings}
 use Rattle.afdx_messages.specs.declared.failure.Failure.{Failure}
 use Rattle.afdx_messages.specs.declared.failure.Failure.TheVariants as failure
 use Rattle.afdx_serve.specs.Runs.{capture_name, HasTable, GetsNamed, FailsToGet, FailsToRead, FailsToPut}
 use Rattle.afdx_serve.specs.Fits.{first_argument_fault}
 use Rattle.afdx_serve.specs.Compares.{scatter_of, HasFittingTable, HasVaryingTable, HasFaultyTable, HasUnfitTable, output_names, recording_names, IsFoundUnder, IsFoundIn, rows_names, rows_texts, PutsRows}
-use Rattle.afdx_serve.specs.Compares.{FailsToGetFitting, FailsToGetVarying, IsFaultyUnder, FailsUnder, FailsToFind, StopsRows, EndsRows}
+use Rattle.afdx_serve.specs.Compares.{FailsToGetFitting, FailsToGetVarying, IsOver, IsFaultyUnder, FailsUnder, FailsToFind, StopsRows, EndsRows}
 use Rattle.afdx_serve.specs.Inner.Leading.{AreOpened}
 use Rattle.afdx_serve.specs.Inner.NotGot.{FailsToGetNamed}
 use Rattle.afdx_csv.specs.declared.form.Form.{Form}
@@ -159,6 +161,19 @@ faulty_under remaining files names readers t r leaves port why opened is =
       };
     }
 
+-- what was found out is answered if it does not end before it begins, and else why not
+pub answered_in_span : (first : Findings Global) (names : List (List ℕ)) (t : Content) (r : Recordings) (keeping : Bool) (files : Option Files) (before after : DeviceLog)
+    (result : Result (Findings Global) Failure) → first.recordings ≡ r → IsFoundUnder names t r keeping files first.from first.until first.comparison → after ≡ before
+    → MatchResult result (λ f. (f ≡ first) × (f.from ≤ f.until)) (λ f. (f ≡ failure.Argument (Span first.from first.until)) × (first.until < first.from))
+    → MatchResult result (λ f. ((f.recordings ≡ r) × IsFoundUnder names t r keeping files f.from f.until f.comparison × (f.from ≤ f.until)) × (after ≡ before))
+    (λ f. FailsUnder f names t r files before after)
+answered_in_span first names t r keeping files before after (Ok f) of_these found same h =
+    let le : first.from ≤ first.until = subst (λ (x : Findings Global). x.from ≤ x.until) h.0 h.1 in
+    subst (λ (x : Findings Global). ((x.recordings ≡ r) × IsFoundUnder names t r keeping files x.from x.until x.comparison × (x.from ≤ x.until)) × (after ≡ before)) (sym h.0)
+    ((of_these, found, le), same)
+answered_in_span first names t r keeping files before after (Err f) of_these found same h =
+    subst (λ (x : Failure). FailsUnder x names t r files before after) (sym h.0) ((first.from, first.until, keeping, first.comparison, found, h.1, refl), same)
+
 -- ---- why nothing is found out
 
 -- names were not all got
@@ -193,11 +208,17 @@ faulty_before : (a b : Option Files) (names : List (List ℕ)) (t : Content) (r 
     → IsFaultyUnder names t r a leaves port why
 faulty_before a b names t r leaves port why keeps is = record { texts = is.texts; shown = ShowsAll-before a b _ _ keeps is.shown; first = is.first }
 
+over_before : (fault : ArgumentFault) (a b : Option Files) (names : List (List ℕ)) (t : Content) (r : Recordings) → KeepsFiles a b → IsOver fault names t r b → IsOver fault names t r a
+over_before fault a b names t r keeps is =
+    let under = is.4 in
+    (is.0, is.1, is.2, is.3, record { texts = under.texts; shown = ShowsAll-before a b _ _ keeps under.shown; is_found = under.is_found }, is.5, is.6)
+
 -- nothing was put before
 under_before : (f : Failure) (names : List (List ℕ)) (t : Content) (r : Recordings) (a b : Option Files) (first before after : DeviceLog) → KeepsFiles a b → before ≡ first
     → FailsUnder f names t r b before after → FailsUnder f names t r a first after
 under_before (failure.PortCapture p e) names t r a b first before after keeps same h = (faulty_before a b names t r false p e keeps h.0, h.1 ∙ same)
 under_before (failure.OutputCapture p e) names t r a b first before after keeps same h = (faulty_before a b names t r true p e keeps h.0, h.1 ∙ same)
+under_before (failure.Argument e) names t r a b first before after keeps same h = (over_before e a b names t r keeps h.0, h.1 ∙ same)
 under_before (failure.Get s) names t r a b first before after keeps same h = (GetsNamed-before (string_bytes s) a b names keeps h.0, h.1 ∙ ap (one_more (string_bytes s)) same)
 under_before failure.Memory names t r a b first before after keeps same h = tt
 under_before f names t r a b first before after keeps same h = absurd h
@@ -294,9 +315,9 @@ not_found_under form f c r t a b d first before after w v has keeps same more no
 
 -- over a table that was got
 pub found_in : (c : Compare) (r : Recordings) (t : Content) (a b : Option Files) (from until : ℕ) (found : Comparison) → HasVaryingTable a c.table.now r t → KeepsFiles a b
-    → IsFoundUnder (recording_names c r t) t r (is_some c.rows) b from until found → IsFoundIn c r a from until found
-found_in c r t a b from until found has keeps is =
-    (t, has, record { texts = is.texts; shown = ShowsAll-before a b _ _ keeps is.shown; is_found = is.is_found })
+    → IsFoundUnder (recording_names c r t) t r (is_some c.rows) b from until found → from ≤ until → IsFoundIn c r a from until found
+found_in c r t a b from until found has keeps is le =
+    (t, has, record { texts = is.texts; shown = ShowsAll-before a b _ _ keeps is.shown; is_found = is.is_found }, le)
 
 module _ (c : Compare) (r : Recordings) (a b d : Option Files) (first before after : DeviceLog) (from until : ℕ) (found : Comparison) (is : IsFoundIn c r a from until found)
     (keeps : KeepsFiles a b) (same : before ≡ first) where

@@ -1,5 +1,5 @@
 -- What is found out from recordings in folders, and what is put of it (profile).
-use Rattle.std.specs.Prelude.{◌≡◌, ◌⊎◌, ℕ, ◌-◌, Bool, true, false, codes, List, [], ◌∷◌, ◌++◌, map, flat_map, length, Option, Some, is_some, option_to_list, string_bytes}
+use Rattle.std.specs.Prelude.{◌≡◌, ◌⊎◌, ℕ, ◌-◌, ◌<◌, ◌≤◌, Bool, true, false, codes, List, [], ◌∷◌, ◌++◌, map, flat_map, length, Option, Some, is_some, option_to_list, string_bytes}
 use Rattle.std.specs.Prelude.{if◌then◌else◌}
 use Rattle.afdx_pcap.specs.declared.fault.PcapFault.{PcapFault}
 use Rattle.afdx_table.specs.declared.rows.PortRow.{PortRow}
@@ -15,6 +15,7 @@ use Rattle.afdx_compare.specs.Found.{IsFound, IsFirstAt}
 use Rattle.afdx_compare.specs.Differences.{differences_of}
 use Rattle.afdx_arguments.specs.declared.request.Compare.{Compare}
 use Rattle.afdx_messages.specs.declared.argument.ArgumentFault.{ArgumentFault}
+use Rattle.afdx_messages.specs.declared.argument.ArgumentFault.TheVariants.{Span}
 use Rattle.afdx_messages.specs.declared.failure.Failure.{Failure}
 use Rattle.afdx_messages.specs.declared.failure.Failure.TheVariants as failure
 use Rattle.afdx_folder.specs.Files.{Files, ShowsAll, KeepsFiles, PutsFiles, DeviceLog, one_more, settled_after}
@@ -63,10 +64,10 @@ pub record IsFoundUnder (names : List (List ℕ)) (t : Content) (r : Recordings)
   pub shown : ShowsAll files names texts
   pub is_found : IsFound (λ (text : List ℕ). Some text) t r keeping texts from until found
 
--- what is found out from the files: differences are kept if a folder is named for them
+-- what is found out from the files: differences are kept if a folder is named for them; what was recorded ends no sooner than it begins
 abbrev pub IsFoundIn : Compare → Recordings → Option Files → ℕ → ℕ → Comparison → Type 0
 IsFoundIn c r files from until found =
-    (t : Content) × HasVaryingTable files c.table.now r t × IsFoundUnder (recording_names c r t) t r (is_some c.rows) files from until found
+    (t : Content) × HasVaryingTable files c.table.now r t × IsFoundUnder (recording_names c r t) t r (is_some c.rows) files from until found × (from ≤ until)
 
 -- ---- what is put
 
@@ -105,11 +106,18 @@ pub record IsFaultyUnder (names : List (List ℕ)) (t : Content) (r : Recordings
   pub shown : ShowsAll files names texts
   pub first : IsFirstAt (λ (text : List ℕ). Some text) (sources_of t r).captures texts leaves port why
 
--- the captures under these names were not got, or one is faulty
+-- what is found out from the files under these names is of no time: it begins after it ends, at an instant that is given or at the first or the last
+-- stamp of all
+abbrev pub IsOver : ArgumentFault → List (List ℕ) → Content → Recordings → Option Files → Type 0
+IsOver fault names t r files =
+    (from until : ℕ) × (keeping : Bool) × (found : Comparison) × IsFoundUnder names t r keeping files from until found × (until < from) × (fault ≡ Span from until)
+
+-- the captures under these names were not got, or one is faulty, or what is found out from them is of no time
 abbrev pub FailsUnder : Failure → List (List ℕ) → Content → Recordings → Option Files → DeviceLog → DeviceLog → Type 0
 FailsUnder (failure.Get name) names t r files before after = GetsNamed (string_bytes name) files names × (after ≡ one_more (string_bytes name) before)
 FailsUnder (failure.PortCapture port why) names t r files before after = IsFaultyUnder names t r files false port why × (after ≡ before)
 FailsUnder (failure.OutputCapture port why) names t r files before after = IsFaultyUnder names t r files true port why × (after ≡ before)
+FailsUnder (failure.Argument fault) names t r files before after = IsOver fault names t r files × (after ≡ before)
 FailsUnder failure.Memory names t r files before after = Unit {0}
 FailsUnder _ names t r files before after = ⊥
 

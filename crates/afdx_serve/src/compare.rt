@@ -1,10 +1,12 @@
 //! The command `compare`.
 
-ghost use Rattle.std.specs.Prelude.{◌≡◌, ◌≤◌, ◌∷◌, ◌++◌, [], List, length, map, string_bytes, Option, is_some, IfOk, OnOk, MatchResult};
+ghost use Rattle.std.specs.Prelude.{◌≡◌, ◌<◌, ◌≤◌, ◌∷◌, ◌++◌, [], List, length, map, string_bytes, Option, is_some, IfOk, OnOk, MatchResult};
 ghost use Rattle.afdx_table.specs.Content.{Content};
 ghost use Rattle.afdx_recordings.specs.declared.recordings.Recordings.{Recordings as Known};
 ghost use Rattle.afdx_compare.specs.Sources.{sources_of};
 ghost use Rattle.afdx_compare.specs.Found.{IsCompareFault};
+ghost use Rattle.afdx_messages.specs.declared.argument.ArgumentFault.TheVariants.{Span};
+ghost use Rattle.afdx_messages.specs.declared.failure.Failure.TheVariants.{Argument};
 ghost use Rattle.afdx_folder.specs.Files.{Files, KeepsFiles, PutsFiles, settled_after};
 ghost use Rattle.afdx_serve.specs.Runs.{FailsToPut};
 ghost use Rattle.afdx_serve.specs.Compares.{HasFittingTable, FailsToGetFitting, HasVaryingTable, FailsToGetVarying, scatter_of};
@@ -22,7 +24,7 @@ use afdx_csv::Form;
 use afdx_folder::{Folder, write_bytes};
 use afdx_grouping::first_scattered_fault;
 use afdx_grouping::laws::accepted_has_no_scattered_fault;
-use afdx_messages::Failure;
+use afdx_messages::{ArgumentFault, Failure};
 use afdx_recordings::{Outputs, Recordings};
 use afdx_table::{PortRow, Table};
 use std::alloc::{AllocError, Global};
@@ -130,6 +132,21 @@ fn compare_failure<F: Folder>(
     }
 }
 
+/// Returns what was found out, if it does not end before it begins.
+fn in_span(findings: Findings<'_, Global>) -> Result<Findings<'_, Global>, Failure>
+    ensures { MatchResult result
+        (λ f. (f ≡ findings.entry) × (f.from ≤ f.until))
+        (λ f. (f ≡ Argument (Span findings.entry.from findings.entry.until)) × (findings.entry.until < findings.entry.from)) }
+{
+    let from = findings.from();
+    let until = findings.until();
+    if until < from {
+        let fault = ArgumentFault::Span(from.ns(), until.ns());
+        return Err(Failure::Argument(fault));
+    }
+    Ok(findings)
+}
+
 /// Returns what is found out of the captures, each of which is opened and read once.
 fn find<'t, F: Folder>(
     alloc: Global,
@@ -140,7 +157,7 @@ fn find<'t, F: Folder>(
 ) -> Result<Findings<'t, Global>, Failure>
     ensures found { MatchResult result
         (λ f. ((f.recordings ≡ recordings.now) × IsFoundUnder (recording_names compare.now recordings.now table.now) table.now recordings.now (is_some compare.now.rows)
-        (F.files folder.old) f.from f.until f.comparison) × (F.failed folder.new ≡ F.failed folder.old))
+        (F.files folder.old) f.from f.until f.comparison × (f.from ≤ f.until)) × (F.failed folder.new ≡ F.failed folder.old))
         (λ f. FailsUnder f (recording_names compare.now recordings.now table.now) table.now recordings.now
         (F.files folder.old) (F.failed folder.old) (F.failed folder.new)) }
     ensures same { KeepsFiles (F.files folder.old) (F.files folder.new) }
@@ -149,7 +166,7 @@ fn find<'t, F: Folder>(
     let mut opened = open_all(alloc, folder, &names)?;
     let keeps = compare.rows.is_some();
     match afdx_compare::compare(alloc, table, recordings, keeps, &mut opened) {
-        Ok(findings) => Ok(findings),
+        Ok(findings) => in_span(findings),
         Err(fault) => Err(compare_failure(alloc, folder, &names, fault)),
     }
 }
@@ -221,7 +238,8 @@ fn put_rows<F: Folder>(
 ///
 /// # Errors
 ///
-/// What is met first: `Get` of the table, `Table`, `Argument`, `Load`, `Get` of a capture, `PortCapture`, `OutputCapture`, `Put`, `Write`;
+/// What is met first: `Get` of the table, `Table`, `Argument`, `Load`, `Get` of a capture, `PortCapture`, `OutputCapture`, `Argument` of a span that
+/// ends before it begins, `Put`, `Write`;
 /// `Found` if something speaks against the switch, and all else was done; `Memory` if memory ran out.
 ///
 /// O(bytes of the captures), with what `compare` of `afdx_compare` does for each record.
