@@ -250,7 +250,11 @@ fn rows_lines(
     let (first, _) = shorts.split_at(MOST_ROW_LINES.min(shorts.len()));
     let mut lines = String::new(alloc);
     push_rows(&mut lines, alloc, rule, names, first)?;
-    push_rest(&mut lines, rule, shorts.len().saturating_sub(MOST_ROW_LINES))?;
+    push_rest(
+        &mut lines,
+        rule,
+        shorts.len().saturating_sub(MOST_ROW_LINES),
+    )?;
     Ok(lines)
 }
 

@@ -46,9 +46,10 @@ impl<'a, A: Allocator> Numbered<'a, A> {
         self.frame.bytes()
     }
 
-    /// Returns the size in bytes that counts of its frame. O(1).
+    /// Returns the size in bytes that counts of its frame, at most 262,148. O(1).
     pub fn size(&self) -> u32
-        ensures { result ≡ size_of (length self.now.frame.bytes) }
+        ensures size { result ≡ size_of (length self.now.frame.bytes) }
+        ensures limit { result ≤ 262148 }
     {
         self.frame.size()
     }

@@ -106,10 +106,11 @@ impl<'a, A: Allocator> Record<'a, A> {
         self.bytes.as_slice()
     }
 
-    /// Returns the size in bytes that counts of the frame, by the bytes that were captured. O(1).
+    /// Returns the size in bytes that counts of the frame, by the bytes that were captured: at most 262,148. O(1).
     #[inline(always)]
     pub fn size(&self) -> u32
-        ensures { result ≡ size_of (length self.now.bytes) }
+        ensures size { result ≡ size_of (length self.now.bytes) }
+        ensures limit { result ≤ 262148 }
     {
         size(self.bytes().len() as u32)
     }

@@ -27,7 +27,7 @@ learn-requires-clause-may_be g c =
     let n = c.in-Some.frame in
     let ns = c.pop_front.new.self.items in
     let us : c.args.self.now.undecided ≡ n ∷ ns = sym (ap (λ (x : Watched). x.undecided) c.self.view_is) ∙ c.in-Some.ensures.items in
-    let size : c.size-size.result ≡ frame_size n = c.size-size.ensures in
+    let size : c.size-size.result ≡ frame_size n = c.size-size.ensures.size in
     let may = subst (λ (x : Watched). IsTrue (may_be (account_terms x.account) x.tolerance (frame_size n) (levels_at x n) c.args.passes)) (sym c.self.view_is) (c.requires.may_be n ns us) in
     subst (λ (k : ℕ). IsTrue (may_be (account_terms f.account) f.tolerance k (credited (account_terms f.account) f.levels c.stamp.result) c.args.passes)) (sym size)
     (subst (λ (at : ℕ). IsTrue (may_be (account_terms f.account) f.tolerance (frame_size n) (credited (account_terms f.account) f.levels at) c.args.passes)) (sym c.stamp.ensures) may)
@@ -65,7 +65,7 @@ returns-in_ok-hand_all g c = λ n ns us.
     let m = c.in-Some.frame in
     let passes = c.args.passes in
     let t = account_terms i.account in
-    let size : c.size-size.result ≡ frame_size m = c.size-size.ensures in
+    let size : c.size-size.result ≡ frame_size m = c.size-size.ensures.size in
     let levels : c.learn.new.self ≡ after t f.tolerance (frame_size m) passes (levels_at f m) =
     c.learn.ensures ∙ ap (λ (k : ℕ). after t f.tolerance k passes (credited t f.levels c.stamp.result)) size
     ∙ ap (λ (at : ℕ). after t f.tolerance (frame_size m) passes (credited t f.levels at)) c.stamp.ensures in

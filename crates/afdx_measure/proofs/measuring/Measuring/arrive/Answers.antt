@@ -11,7 +11,7 @@ invariant_of-self g c =
     let h = c.self.invariant in
     let row = row_of old.run.table c.args.in_port c.args.arrived in
     let has = arrived_now c.calls_make_runs.ensures.arrivals old c.arrive.new.self c.args.in_port c.stamp-at.result c.size-size.result c.args.arrived c.in-Ok.step c.in-Ok.ensures.ok.0
-    c.in-Ok.ensures.ok.1 h.2 h.3 c.stamp-at.ensures c.size-size.ensures in (
+    c.in-Ok.ensures.ok.1 h.2 h.3 c.stamp-at.ensures c.size-size.ensures.size in (
       c.note_arrival.ensures old.run row c.size-size.result h.0 has,
       c.note_policing.ensures old.run row h.1 has,
       ap (λ (r : Run). r.finished) has.now_is ∙ h.2,
