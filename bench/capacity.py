@@ -94,7 +94,7 @@ def surveyed(afdx: str, room: Path, runs: int) -> dict[str, Row]:
 
 
 def survey_rows(afdx: str, megabytes: int, runs: int) -> float:
-    """Prints the table of a recording's commands; answers the lesser rate of `survey`."""
+    """Prints the table of a recording's commands; returns the lesser rate of `survey`."""
     print("| | Processor | In a second of the processor | Memory at most |\n|---|---|---|---|", flush=True)
     rates, grown = [], []
     for what, number in RECORDINGS.items():
@@ -143,7 +143,7 @@ def by_slurm(room: Room) -> Driven:
 
 
 def campaign_rows(recordings: int) -> float:
-    """Prints the table of the engines; answers the tasks that Dask's driver can give out in a second."""
+    """Prints the table of the engines; returns the tasks that Dask's driver can give out in a second."""
     engines: dict[str, Callable[[Room], Driven]] = {"local threads": by_local, "Dask, 4 workers over loopback": by_dask}
     if which("slurmctld"):
         engines["Slurm, 4 jobs at once"] = by_slurm

@@ -48,7 +48,7 @@ class Link:
 
 
 def way(start: int, end: int, port: int) -> list[Port]:
-    """The output ports from a switch to an end system of another: along the edges, bit by bit."""
+    """Returns the output ports from a switch to an end system of another: along the edges, bit by bit."""
     ports: list[Port] = []
     at = start
     for cable in range(CABLES):
@@ -59,7 +59,7 @@ def way(start: int, end: int, port: int) -> list[Port]:
 
 
 def draw_links(count: int) -> list[Link]:
-    """Of so many links each goes from one end system to one or more others."""
+    """Draws so many links, each of which goes from one end system to one or more others."""
     chance, links = Random(1), []
     lines = [(switch, CABLES + 1 + number) for switch in range(SWITCHES) for number in range(END_SYSTEMS)]
     for number in range(count):
@@ -72,12 +72,12 @@ def draw_links(count: int) -> list[Link]:
 
 
 def rows_of(link: Link) -> dict[int, list[Port]]:
-    """For each switch that the link crosses the output ports before it."""
+    """Returns, for each switch that the link crosses, the output ports before it."""
     return {port[0]: ports[:place] for ports in link.ways for place, port in enumerate(ports)}
 
 
 def source_at(link: Link, before: list[Port]) -> int:
-    """The ingress port at the switch behind these output ports: the cable's number is the same at both its ends."""
+    """Returns the ingress port at the switch behind these output ports: the cable's number is the same at both its ends."""
     return before[-1][1] if before else link.source
 
 
@@ -98,7 +98,7 @@ class Analysis:
         self.bounds: dict[Port, int] = {}
 
     def reckon(self) -> None:
-        """The bounds of all ports, by the jitters that there are."""
+        """Sets the bounds of all ports, by the jitters that there are."""
         for switch, table in enumerate(self.tables):
             known = ((port.id, self.lined(port)) for port in table.ports)
             lines = {number: rounding for number, rounding in known if rounding is not None}
@@ -108,7 +108,7 @@ class Analysis:
                     self.bounds[switch, port.id] = low
 
     def solve(self) -> None:
-        """The least jitters that are enough, from the senders' own on."""
+        """Finds the least jitters that are enough, from the senders' own on."""
         changed = True
         while changed:
             self.reckon()
@@ -118,7 +118,7 @@ class Analysis:
                 changed, row.jitter = changed or need != row.jitter, need
 
     def sums(self) -> list[int]:
-        """The bound of each way from end to end, in ns."""
+        """Returns the bound of each way from end to end, in ns."""
         return [sum(self.bounds[port] for port in ports) for link in self.links for ports in link.ways]
 
 
@@ -145,13 +145,13 @@ def nowhere(port: model.Port) -> int | None:
 
 
 def ratio(ours: list[int], theirs: list[int]) -> str:
-    """The mean and the greatest of ours over theirs."""
+    """Returns the mean and the greatest of ours over theirs."""
     ratios = [one / other for one, other in zip(ours, theirs)]
     return f"{mean(ratios):.2f} ({max(ratios):.2f})"
 
 
 def said_of(links: list[Link]) -> str:
-    """How large the network is, and how busy its busiest line."""
+    """Says how large the network is, and how busy its busiest line."""
     ways = [ports for link in links for ports in link.ways]
     taken: dict[Port, float] = {}
     for link in links:

@@ -38,7 +38,8 @@ def write_capture(path: str, count: int, size: int, gap: int) -> None:
 
 
 def measured(arguments: list[str], source: str, target: str, status: int = 0) -> tuple[float, float, float]:
-    """The seconds that this command takes, those of the processor, and the megabytes of memory at its peak."""
+    """Runs a command and returns the seconds that it takes, those of the processor, and the megabytes of memory at its peak. Ends the
+    program if the command ends with another status."""
     with open(source, "rb") as read, open(target, "wb") as written:
         start = time.perf_counter()
         process = subprocess.Popen(arguments, stdin=read, stdout=written, stderr=subprocess.DEVNULL)
@@ -73,12 +74,12 @@ class Seconds:
         return f"{self.clock:.4f} s ({self.processor:.4f} s of the processor)"
 
     def to(self, other: "Seconds") -> str:
-        """The ratio of this to another."""
+        """Returns the ratio of this to another."""
         return f"{self.clock / other.clock:.2f} ({self.processor / other.processor:.2f})"
 
 
 def medians(commands: Commands, source: str, target: str, runs: int) -> tuple[dict[str, Seconds], float]:
-    """What each command took, turn by turn; the megabytes of the last one."""
+    """Returns what each command took, turn by turn, and the megabytes of the last one."""
     took = {name: Seconds() for name in commands}
     for _ in range(runs):
         for name, (arguments, status) in commands.items():
@@ -102,12 +103,12 @@ def compare(what: str, arguments: list[str], room: str, runs: int, count: int, s
 
 
 def make_network(room: str, count: int) -> None:
-    """By a process of its own, since the memory of this one would count as that of the commands it starts."""
+    """Makes the network by a process of its own, since the memory of this one would count as that of the commands it starts."""
     subprocess.run([sys.executable, f"{TOP}/bench/network.py", room, str(count)], check=True)
 
 
 def compare_run(room: str, runs: int, count: int) -> None:
-    """`afdx run` on the network beside `cat` and `mergecap` of its captures."""
+    """Prints what `afdx run` on the network takes beside `cat` and `mergecap` of its captures."""
     make_network(room, count)
     os.makedirs(f"{room}/out", exist_ok=True)
     table, captures = f"{room}/table.toml", sorted(glob.glob(f"{room}/in/*"))
@@ -124,7 +125,7 @@ def compare_run(room: str, runs: int, count: int) -> None:
 
 
 def compare_check(room: str, runs: int) -> None:
-    """`afdx check` of the network's table beside a run that reads the table and ends at the first missing capture."""
+    """Prints what `afdx check` of the network's table takes beside a run that reads the table and ends at the first missing capture."""
     table, nowhere = f"{room}/table.toml", f"{room}/nowhere"
     make_network(room, 0)
     took, memory = medians({

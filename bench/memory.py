@@ -72,7 +72,7 @@ priority = "low"
 
 
 def wide_table() -> str:
-    """The table of a switch with one port in, of 1000 Mbit/s, whose 128 links all lead to its 23 other ports."""
+    """Returns the table of a switch with one port in, of 1000 Mbit/s, whose 128 links all lead to its 23 other ports."""
     ports = [
         f"[[port]]\nid = {port}\nmbit = {1000 if port == 1 else 100}\nbuffer = 16777216\nmax_delay_us = 500000\n"
         for port in range(1, 25)

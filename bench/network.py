@@ -31,7 +31,7 @@ def source(link: int) -> int:
 
 
 def targets(link: int) -> list[int]:
-    """One to three ports, none of them the link's own."""
+    """Returns one to three ports, none of them the link's own."""
     return [(link + step) % PORTS + 1 for step in (1, 5, 11)[:link // 7 % 3 + 1]]
 
 
@@ -45,7 +45,7 @@ def write_table(path: str) -> None:
 
 
 def captures_of(count: int) -> list[bytearray]:
-    """The captures of so many frames, by port from 1. Link L sends in each of its gaps at the same microsecond."""
+    """Returns the captures of so many frames, by port from 1. Link L sends in each of its gaps at the same microsecond."""
     captures = [bytearray(HEADER) for _ in range(PORTS + 1)]
     slots: list[list[tuple[bytearray, int, bytes]]] = [[] for _ in range(ROUND)]
     for link in range(LINKS):

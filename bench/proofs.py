@@ -18,7 +18,7 @@ PARTS = "Answers|Code|Contract|Given|Goals|Invariants|Key|Kinds|Layout|Lts|Met|N
 
 
 def written(folder: str) -> list[tuple[float, str]]:
-    """The modules of a folder with the times at which they were written, the first one first."""
+    """Returns the modules of a folder with the times at which they were written, the first one first."""
     modules: list[tuple[float, str]] = []
     for place, _, names in os.walk(folder):
         modules += [(os.stat(f"{place}/{name}").st_mtime, name) for name in names if name.endswith(".oantt")]
@@ -26,7 +26,7 @@ def written(folder: str) -> list[tuple[float, str]]:
 
 
 def subject(module: str) -> str:
-    """The function, or the file of definitions or lemmas, that a module is of."""
+    """Returns the function, or the file of definitions or lemmas, that a module is of."""
     name = re.sub(r"^Rattle-\w+[-.]((proofs|specs)\.)?(contracts\.)?|(\.decls)?\.oantt$", "", module)
     return re.sub(rf"\.({PARTS})(\..*)?$", "", name)
 

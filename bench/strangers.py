@@ -45,7 +45,7 @@ def arguments() -> argparse.Namespace:
 
 
 def write(path: Path, first: int, count: int, step: int, begin: int = BEGIN) -> None:
-    """A capture of frames of 64 bytes that end with their numbers, from a number and an instant on."""
+    """Writes a capture of so many frames of 64 bytes that end with their numbers, from a number and an instant on."""
     with path.open("wb") as file:
         file.write(HEADER)
         for number in range(first, first + count):

@@ -42,7 +42,7 @@ def row(afdx: str, room: Path, name: str, runs: int) -> None:
 
 
 def make_recording(folder: Path, number: int, length: int) -> None:
-    """By a process of its own, since the memory of this one would count as that of the commands it starts."""
+    """Makes a recording by a process of its own, since the memory of this one would count as that of the commands it starts."""
     process = Process(target=write_recording, args=(folder, number, len(RECORDINGS) + number, length))
     process.start()
     process.join()

@@ -38,7 +38,7 @@ def output_ports_of(table: model.Table, arrivals: list[model.Arrival]) -> list[O
 
 
 def peak(output_port: OutputPort) -> tuple[int, int | str]:
-    """The most bytes that the buffer held when a frame had been admitted, and the stamp of the first frame that did it."""
+    """Returns the most bytes that the buffer held when a frame had been admitted, and the stamp of the first frame that did it."""
     most = 0
     at: int | str = "-"
     for place, frame in enumerate(output_port.admitted):
@@ -73,11 +73,11 @@ class Selection:
     relative: bool = False
 
     def shows(self, link: str) -> bool:
-        """Whether the lines of a frame with this in the field of its link are written."""
+        """Returns whether the lines of a frame with this in the field of its link are written."""
         return not self.links or (link != "" and int(link) in self.links)
 
     def origin(self, arrivals: list[model.Arrival]) -> int:
-        """The stamp that counts as 0."""
+        """Returns the stamp that counts as 0."""
         return arrivals[0].stamp if self.relative and arrivals else 0
 
 
@@ -85,8 +85,8 @@ EVERYTHING = Selection()
 
 
 def early(passed: list[model.Arrival], frame: model.Arrival) -> int:
-    """The least number of ns by which the frame, had it come later, would have kept to its link's allowance: each window
-    that ends with it and begins with a frame passed before it has to be long enough for what it holds."""
+    """Returns the least number of ns by which the frame, had it come later, would have kept to its link's allowance: each window that ends
+    with it and begins with a frame passed before it has to be long enough for what it holds."""
     link, least = frame.link, 0
     cost: Callable[[model.Arrival], int] = (lambda sent: sent.size) if link.police == "byte" else (lambda sent: 1)
     each_gap = link.max_size if link.police == "byte" else 1
@@ -99,7 +99,7 @@ def early(passed: list[model.Arrival], frame: model.Arrival) -> int:
 
 
 def claimed(table: model.Table, frame: model.Arrival) -> str:
-    """The number of the link that a clean, a wrong-port or a too-big frame names."""
+    """Returns the number of the link that a clean, a wrong-port or a too-big frame names; nothing of another one."""
     if frame.verdict in ("clean", "wrong-port", "too-big"):
         return str(int.from_bytes(frame.record.data[4:6], "big"))
     return ""
@@ -148,7 +148,7 @@ def departures_text(arrivals: list[model.Arrival], output_ports: list[OutputPort
 
 
 def policed(arrivals: list[model.Arrival], link: model.Link) -> list[tuple[model.Arrival, int]]:
-    """The frames of a link that its policing did not pass, each with the ns by which it came too early."""
+    """Returns the frames of a link that its policing did not pass, each with the ns by which it came too early."""
     passed: list[model.Arrival] = []
     others: list[tuple[model.Arrival, int]] = []
     for frame in arrivals:
@@ -161,7 +161,7 @@ def policed(arrivals: list[model.Arrival], link: model.Link) -> list[tuple[model
 
 
 def spells(link: model.Link, frames: list[tuple[model.Arrival, int]]) -> list[list[tuple[model.Arrival, int]]]:
-    """These policed frames, parted wherever two of them lie further apart than the link's gap."""
+    """Returns these policed frames, parted wherever two of them lie further apart than the link's gap."""
     parts: list[list[tuple[model.Arrival, int]]] = []
     for frame, soon in frames:
         if not parts or frame.stamp - parts[-1][-1][0].stamp > link.bag:
@@ -187,7 +187,7 @@ def survey(table: model.Table, captures: dict[int, bytes], unchecked: bool) -> s
 
 
 def trace(table: model.Table, captures: dict[int, bytes], selection: Selection = EVERYTHING) -> tuple[str, str]:
-    """The texts of arrivals.csv and departures.csv."""
+    """Returns the texts of arrivals.csv and departures.csv."""
     arrivals = model.arrivals_of(table, captures)
     output_ports = output_ports_of(table, arrivals)
     return arrivals_text(table, arrivals, output_ports, selection), departures_text(arrivals, output_ports, selection)

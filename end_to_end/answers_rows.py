@@ -12,7 +12,7 @@ from model_rows import DOUBLE, LINK, MIXED, PORT, SINGLE, capture, later, same, 
 
 
 def answered(text: str, *captures: bytes) -> list[list[str]]:
-    """The lines of `measure --unchecked` and of the two files of `trace`, their headings left away."""
+    """Returns the lines of `measure --unchecked` and of the two files of `trace`, their headings left away."""
     table = model.table_of(text)
     data = {port.id: capture for port, capture in zip(table.ports, captures)}
     arrivals, departures = answers.trace(table, data)
@@ -74,7 +74,7 @@ def latency() -> None:
 
 
 def spells() -> None:
-    """A gap of 1 ms, no jitter: the next frame of 1,518 bytes conforms a whole gap after the one that was passed."""
+    """Checks spells at a gap of 1 ms and no jitter: the next frame of 1,518 bytes conforms a whole gap after the one that was passed."""
     table = model.table_of(SINGLE)
 
     def lines(*stamps: int) -> list[str]:
@@ -126,7 +126,7 @@ def sizes() -> None:
 
 
 def early_is_the_least() -> None:
-    """What `early` adds up is the least shift with which the model's windows pass the frame."""
+    """Checks that what `early` adds up is the least shift with which the model's windows pass the frame."""
     chance = random.Random(1)
     for _ in range(300):
         bag, jitter = 1_000_000 << chance.randint(0, 7), 1000 * chance.choice([0, 40, 10_000])

@@ -22,7 +22,7 @@ Frame = tuple[int, int, bytes]  # stamp, how many of its bytes were not captured
 
 
 def capture(frames: Iterable[Frame]) -> bytes:
-    """The capture of (stamp, lacking, data): so many bytes of the frame were not captured."""
+    """Returns the capture of (stamp, lacking, data): so many bytes of the frame were not captured."""
     text = HEADER
     for number, (stamp, lacking, data) in enumerate(sorted(frames, key=lambda frame: frame[0])):
         if len(data) >= 18:  # so that no two frames are the same
@@ -49,7 +49,7 @@ def draw_network(chance: Random) -> model.Table:
 
 
 def accepted_network(chance: Random) -> model.Table:
-    """A network whose lines are not asked for too much, with the least buffers and delays."""
+    """Returns a network whose lines are not asked for too much, with the least buffers and delays."""
     while True:
         table = draw_network(chance)
         try:
@@ -80,7 +80,7 @@ def text_of(table: model.Table) -> str:
 
 
 def traffic(chance: Random, table: model.Table, port: int) -> list[Frame]:
-    """Frames of a port's links: mostly in time, some too soon, many at round instants."""
+    """Returns frames of a port's links: mostly in time, some too soon, many at round instants."""
     frames = []
     for link in table.links:
         at = chance.choice([0, chance.randint(0, link.bag)])
@@ -91,7 +91,8 @@ def traffic(chance: Random, table: model.Table, port: int) -> list[Frame]:
 
 
 def babble(chance: Random, table: model.Table, port: int, least: int = 200) -> list[Frame]:
-    """Whatever it likes, so many frames at least: bursts of its own, foreign ones, other ports' links, oversized and cut ones."""
+    """Returns what a babbler likes to send, so many frames at least: bursts of its own, foreign ones, other ports' links, oversized and cut
+    ones."""
     numbers = [link.id for link in table.links]
     own = [link for link in table.links if link.source == port]
     frames: list[Frame] = []
@@ -131,7 +132,7 @@ def write(path: str, data: bytes) -> None:
 
 
 def left_of(world: str, table: model.Table) -> dict[tuple[int, int], list[bytes]]:
-    """The frames that left each port for each link, in order."""
+    """Returns the frames that left each port for each link, in order."""
     left: dict[tuple[int, int], list[bytes]] = {}
     for port in table.ports:
         records = bounds.records_of(f"{world}/out", port.id)

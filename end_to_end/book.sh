@@ -35,8 +35,10 @@ turned_by() {
 
 # --- docstrings ---
 
-check "a docstring that begins with no verb" turned_by end_to_end/docstrings.py crates/afdx_past/src/history.rt \
+check "a docstring of Rust that begins with no verb" turned_by end_to_end/docstrings.py crates/afdx_past/src/history.rt \
     '\/\/\/ Returns the item at' '\/\/\/ The item at' "the docstring of a function begins with 'The'"
+check "a docstring of Python that begins with no verb" turned_by end_to_end/docstrings.py end_to_end/pages.py \
+    '"""Returns the sections of' '"""The sections of' "the docstring of a function begins with 'The'"
 
 # --- examples on front pages ---
 

@@ -16,7 +16,7 @@ def records_of(folder: str, port: int) -> list[model.Record]:
 
 
 def passed_of(table: model.Table, link: model.Link, source: str) -> list[model.Arrival]:
-    """The frames of this link that its account passes, from its own capture alone."""
+    """Returns the frames of this link that its account passes, from its own capture alone."""
     passed: list[model.Arrival] = []
     for record in records_of(source, link.source):
         frame = model.Arrival(link.source, record, link=link)
@@ -26,7 +26,7 @@ def passed_of(table: model.Table, link: model.Link, source: str) -> list[model.A
 
 
 def bounds_of(table: model.Table) -> dict[tuple[int, str], str]:
-    """The bounds that are printed of each port: by port and priority."""
+    """Returns the bounds that are printed of each port: by port and priority."""
     lines = [line.split() for line in model.check(table).splitlines()[:-1]]
     return {(int(words[1]), words[at]): words[at + 1] for words in lines for at in (6, 8)}
 
@@ -42,7 +42,7 @@ def longest_delay(port: model.Port, link: model.Link, passed: list[model.Arrival
 
 
 def compare(table: model.Table, source: str, target: str) -> dict[tuple[int, str], tuple[int, str]]:
-    """The longest delay of each port and priority that has a bound, beside it."""
+    """Returns the longest delay of each port and priority that has a bound, beside it, in ns."""
     bounds = bounds_of(table)
     longest: dict[tuple[int, str], int] = {}
     passed = {link.id: passed_of(table, link, source) for link in table.links}

@@ -50,7 +50,7 @@ def frame(link: int, number: int) -> bytes:
 
 
 def arrivals_of(first: int, count: int) -> list[tuple[int, Record]]:
-    """Frames of each link, the links' half a period apart, from a number on."""
+    """Returns frames of each link, the links' half a period apart, from a number on."""
     arrivals = []
     for number in range(first, first + count):
         for place, (link, port) in enumerate(LINKS.items()):
@@ -60,7 +60,7 @@ def arrivals_of(first: int, count: int) -> list[tuple[int, Record]]:
 
 
 def is_done(target: Path, sent: list[tuple[int, Record]], deaf: bool) -> bool:
-    """Whether all that was sent has left at the ports that hear it."""
+    """Returns whether all that was sent has left at the ports that hear it."""
     hearing = [port for port in PORTS if not (deaf and port == 3)]
     return all(is_recorded([record for port, record in sent if port != other], target / "out" / f"port-{other}.pcap") for other in hearing)
 

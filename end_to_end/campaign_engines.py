@@ -83,7 +83,7 @@ class Room:
         return process
 
     def said(self) -> str:
-        """Answers the last lines of what was said by all that was started here."""
+        """Returns the last lines of what was said by all that was started here."""
         lines = (self.folder / "log").read_text(encoding="utf-8", errors="replace").splitlines(keepends=True)
         return "".join(lines[-LAST_LINES:])
 
@@ -259,7 +259,7 @@ class Cluster:
 
 
 def share_of(process: subprocess.Popen[bytes], seconds: int) -> float:
-    """Answers how much of a processor a process takes for some seconds, its system calls included."""
+    """Returns how much of a processor a process takes for some seconds, its system calls included."""
     one = psutil.Process(process.pid)
     before = one.cpu_times()
     time.sleep(seconds)

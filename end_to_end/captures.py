@@ -102,7 +102,7 @@ def interface(order: str = "<", name: str = "", resolution: int = 9, later: int 
 
 
 def packet(one: Record, order: str = "<", units: int | None = None, options: bytes = b"") -> bytes:
-    """Answers a packet's block; the stamp is in the interface's units, else in nanoseconds."""
+    """Returns a packet's block; the stamp is in the interface's units, else in nanoseconds."""
     stamp = one.stamp if units is None else units
     body = struct.pack(f"{order}5I", one.interface, stamp >> 32, stamp & 0xFFFFFFFF, len(one.frame), one.length)
     return block(order, 6, body + one.frame + bytes(-len(one.frame) % 4) + options)
@@ -117,7 +117,7 @@ def pcapng(records: Iterable[Record], names: Iterable[str], order: str = "<", op
 
 
 def read(text: bytes) -> tuple[list[Record], bool]:
-    """Answers the records that lie whole in a recording, and whether it breaks off. Raises Faulty."""
+    """Returns the records that lie whole in a recording, and whether it breaks off. Raises Faulty."""
     magics = {bytes.fromhex(magic) for magic in MAGICS.values()} | {SECTION}
     if len(text) < len(HEADER) and any(magic.startswith(text[:4]) for magic in magics) and text[:4] != SECTION:
         return [], True

@@ -58,7 +58,7 @@ def arguments() -> argparse.Namespace:
 
 
 def captures_in(folder: Path, ports: list[model.Port], name: str) -> dict[int, list[model.Record]]:
-    """The records of each port's capture, whose faults name the port so."""
+    """Returns the records of each port's capture, whose faults name the port so."""
     captures = {}
     for port in ports:
         try:
@@ -69,7 +69,7 @@ def captures_in(folder: Path, ports: list[model.Port], name: str) -> dict[int, l
 
 
 def stamp_at(ns: int) -> int:
-    """The stamp at an instant: the first or the last one, where it would lie outside of these."""
+    """Returns the stamp at an instant: the first or the last one, where it would lie outside of these."""
     return min(max(ns, 0), LAST_STAMP)
 
 
@@ -87,7 +87,7 @@ def numbered(records: list[model.Record]) -> list[tuple[int, model.Record]]:
 
 
 def number_of(constant: bytes, record: model.Record) -> int:
-    """The link that a record names; none of a record without an address, or of one with another constant field."""
+    """Returns the link that a record names; -1 for a record without an address, or with another constant field."""
     return record.data[4] * 256 + record.data[5] if len(record.data) >= 6 and record.data[:4] == constant else -1
 
 
@@ -172,7 +172,7 @@ class Comparison:
         return [Row(instant, place, found, f"{at.link.id},{columns},{at.line.bound}") for instant, found, columns in rows]
 
     def answer(self) -> tuple[str, list[str], bool]:
-        """The lines, the rows of differences.csv, and whether it conforms."""
+        """Returns the lines, the rows of differences.csv, and whether it conforms."""
         links = [self.of_link(link) for link in self.table.links]
         lines = [f"span {self.start} to {self.until}"] + [self.link_line(at) for link in links for at in link]
         rows, conforms = [HEADING], all(compare_model.conforms(at.found) for link in links for at in link)

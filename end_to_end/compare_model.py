@@ -94,7 +94,7 @@ def after(link: Link, watch: Watch, levels: Levels, frame: Record, passes: bool)
 
 
 def allowed(link: Link, watch: Watch, levels: Levels, frames: list[Record]) -> Iterator[list[bool]]:
-    """All lists of fates that these frames may have."""
+    """Yields all lists of fates that these frames may have."""
     if not frames:
         yield []
         return
@@ -135,7 +135,7 @@ def may_come(watch: Watch, line: Line, frame: Record) -> bool:
 
 
 def kept_for(watch: Watch, line: Line, own: list[Record], passed: list[Record], out: list[Record]) -> bool:
-    """Whether these records left a port for a link, of whose own frames these were passed."""
+    """Returns whether these records left a port for a link, of whose own frames these were passed."""
     for split in range(len(out) + 1):
         before, seen = out[:split], out[split:]
         gone, rest = passed[:len(seen)], passed[len(seen):]
@@ -148,13 +148,13 @@ def kept_for(watch: Watch, line: Line, own: list[Record], passed: list[Record], 
 
 
 def within(watch: Watch, came: list[Record], outs: Outs) -> tuple[list[Record], Outs]:
-    """The link's own frames and its records at each port, a list of pairs of a line and its records, within the span."""
+    """Returns the link's own frames and its records at each port, a list of pairs of a line and its records, within the span."""
     own = [frame for frame in came if watch.has_frame(frame.stamp)]
     return own, [(line, [left for left in out if watch.has_record(left.stamp)]) for line, out in outs]
 
 
 def is_kept(link: Link, watch: Watch, came: list[Record], outs: Outs) -> bool:
-    """Whether some fates, the same at all ports, explain all records of a link."""
+    """Returns whether some fates, the same at all ports, explain all records of a link."""
     own, outs = within(watch, came, outs)
     return any(all(kept_for(watch, line, own, [frame for frame, passes in zip(own, fates) if passes], out) for line, out in outs)
                for fates in allowed(link, watch, first_levels(link, watch), own))
@@ -164,7 +164,7 @@ def is_kept(link: Link, watch: Watch, came: list[Record], outs: Outs) -> bool:
 
 
 def fates_of(link: Link, watch: Watch, own: list[Record], outs: Outs) -> tuple[list[bool], int]:
-    """The fates, and how many of them were unsure: an unsure frame was passed where a record within its bounds has its bytes."""
+    """Returns the fates, and how many of them were unsure: an unsure frame was passed where a record within its bounds has its bytes."""
     levels, fates, unsure = first_levels(link, watch), [], 0
     for frame in own:
         levels = credited(link, levels, frame.stamp)
@@ -178,7 +178,8 @@ def fates_of(link: Link, watch: Watch, own: list[Record], outs: Outs) -> tuple[l
 
 
 def answer_at(watch: Watch, line: Line, own: list[Record], fates: list[bool], out: list[Record]) -> Found:
-    """What became of the passed frames of a link, and what each record at a port is: sorted lists of numbers among these, from 1."""
+    """Returns what became of the passed frames of a link, and what each record at a port is: sorted lists of numbers among these, from
+    1."""
     passed = [(number, frame) for number, (frame, passes) in enumerate(zip(own, fates), 1) if passes]
     found: Found = {kind: [] for kind in ("kept", "early", "late", "missing", "after", "extra", "before")}
     begun = False
@@ -205,15 +206,15 @@ def answer_at(watch: Watch, line: Line, own: list[Record], fates: list[bool], ou
 
 
 def answers_of(link: Link, watch: Watch, came: list[Record], outs: Outs) -> tuple[list[Found], int]:
-    """What is found at each port, and how many frames were unsure."""
+    """Returns what is found at each port, and how many frames were unsure."""
     own, outs = within(watch, came, outs)
     fates, unsure = fates_of(link, watch, own, outs)
     return [answer_at(watch, line, own, fates, out) for line, out in outs], unsure
 
 
 def is_clear(watch: Watch, line: Line, own: list[Record]) -> bool:
-    """Whether each record at a port can be of one of these frames only: by the stamps none has left when it comes, whatever these are off
-    by, and frames of the same bytes come a bound apart. Where all is known of the account they may come as they like."""
+    """Returns whether each record at a port can be of one of these frames only: by the stamps none has left when it comes, whatever these
+    are off by, and frames of the same bytes come a bound apart. Where all is known of the account they may come as they like."""
     later = all(watch.tolerance < watch.least + (frame.size + model.LINE_OVERHEAD) * line.tick for frame in own)
     differ = all(one.data != other.data or one.stamp + most(watch, line) <= other.stamp
                  for place, one in enumerate(own) for other in own[place + 1:])

@@ -19,7 +19,7 @@ EARLY_B, C, LATE_D = (1_500_000, "B"), (2_499_999, "C"), (2_500_000, "D")
 
 
 def good(sight: Sight) -> Sight:
-    """The record of a frame that waits for nothing."""
+    """Returns the record of a frame that waits for nothing."""
     return sight[0] + 6720, sight[1]
 
 
@@ -28,7 +28,7 @@ def records(sights: list[Sight], size: int = 60) -> list[Record]:
 
 
 def row(name: str, watch: Watch, came: list[Sight], left: list[Sight], **wanted: object) -> None:
-    """What is found, and that it conforms exactly where some choice of all does."""
+    """Checks what is found, and that it conforms exactly where some choice of all does."""
     frames, out = records(came), records(left)
     (found,), unsure = answers_of(LINK, watch, frames, [(LINE, out)])
     counted: dict[str, object] = {kind: what for kind, what in found.items() if what}
@@ -88,7 +88,7 @@ def noise() -> None:
 
 
 def beyond_what_is_told_apart() -> None:
-    """Records that some choice explains and that differ all the same, since they may be of more frames than one."""
+    """Checks records that some choice explains and that differ all the same, since they may be of more frames than one."""
     one, other = (1_106_169, "A"), (1_106_170, "A")  # at one port a record of either left, at the other only one of the second could
     for name, watch, came, lefts in (
             ("equal frames a nanosecond apart", CUT, [one, other], [[good(other)], [(other[0] + LINE.bound, "A")]]),
@@ -102,7 +102,7 @@ def beyond_what_is_told_apart() -> None:
 
 
 def stamps_by_chance(draw: random.Random) -> list[int]:
-    """Up to five instants, some of them soon after others."""
+    """Returns up to five instants, some of them soon after others."""
     stamps: list[int] = []
     for _ in range(draw.randrange(6)):
         soon = [stamp + draw.choice([0, 1, 5_000, 23_000, 40_000, 100_000]) for stamp in stamps]
@@ -111,7 +111,7 @@ def stamps_by_chance(draw: random.Random) -> list[int]:
 
 
 def out_by_chance(draw: random.Random, watch: Watch, line: Line, came: list[Record]) -> list[Record]:
-    """What left of most of these frames, at the edges of their bounds, and at times a record of none."""
+    """Returns what left of most of these frames, at the edges of their bounds, and at times a record of none."""
     gap, left = watch.gap * line.tick, []
     for frame in came:
         if draw.random() < 0.75:
@@ -125,8 +125,8 @@ def out_by_chance(draw: random.Random, watch: Watch, line: Line, came: list[Reco
 
 
 def by_chance(seed: int) -> tuple[bool, bool]:
-    """Small recordings: what conforms has a witness, and what has one conforms where each record can be of one frame only. Whether it has
-    one, and whether each can."""
+    """Tries a small recording: what conforms has a witness, and what has one conforms where each record can be of one frame only. Returns
+    whether it has one, and whether each can."""
     draw = random.Random(seed)
     link = dataclasses.replace(LINK, jitter=draw.choice([0, 300_000]), police=draw.choice(["byte", "frame"]))
     watch = Watch(least=draw.choice([0, 0, 5_000]), tolerance=draw.choice([0, 0, 25, 3_000, 20_000]), gap=draw.choice([0, 12]),

@@ -53,7 +53,7 @@ def capture(sights: list[Sight]) -> bytes:
 
 
 def constant_of(letter: str) -> str:
-    """The constant field of a frame, or the first bytes of the address to which LLDP sends."""
+    """Returns the constant field of a frame, or the first bytes of the address to which LLDP sends."""
     return "0180c200" if letter.islower() else "03000000"
 
 
@@ -167,7 +167,7 @@ SCENES = [FAULTY, CUT, PAST, STRANGE, FIRST, SLOWER]
 
 
 def answer_of(command: list[str], scene: Scene, folder: Path) -> tuple[list[str], list[str], int]:
-    """The lines that a program prints of a scene, its rows, and its status."""
+    """Returns the lines that a program prints of a scene, its rows, and its status."""
     scene.write(folder)
     done = subprocess.run([*command, *scene.words(folder)], stdout=subprocess.PIPE, text=True)
     rows = folder / "differences.csv"

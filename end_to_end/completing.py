@@ -52,7 +52,7 @@ class Shell:
             self.read()
 
     def made_of(self, typed: str) -> str:
-        """Types a line; answers the words that the command got, or what was shown if it got none."""
+        """Enters a line; returns the words that the command got, or what was shown if it got none."""
         self.wait_for_prompt()
         self.said = ""
         words = Path("words")

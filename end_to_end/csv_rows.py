@@ -40,7 +40,7 @@ def headings() -> dict[str, list[str]]:
 
 
 def pairs(words: list[str]) -> Row:
-    """Answers the numbers of words by these."""
+    """Returns the numbers of words by these."""
     return dict(zip(words[::2], words[1::2]))
 
 

@@ -58,12 +58,12 @@ Lines = dict[tuple[str, int], list[Record]]  # by switch and port
 
 
 def end_system(switch: str, port: int) -> int:
-    """The number of the end system at a port."""
+    """Returns the number of the end system at a port."""
     return 8 * SWITCHES.index(switch) + port
 
 
 def links(chance: Random) -> Iterator[icds.Row]:
-    """Links of each end system in turn, to one, two or three others."""
+    """Yields the links of each end system in turn, to one, two or three others."""
     names = [f"ES{number}" for number in range(1, 25)]
     for at in range(300):
         source = names[at % 24]
@@ -123,7 +123,7 @@ class Switch:
         self.passed += [(one.stamp, port, at, one) for at, one in enumerate(records) if self.accounts[link_of(one)].passes(one)]
 
     def sent(self, port: int) -> Iterator[Record]:
-        """What leaves at a port, stamped when the line is free again: of what waits the first of high priority, if there is one."""
+        """Yields what leaves at a port, stamped when the line is free again: of what waits the first of high priority, if there is one."""
         arrived = sorted(self.passed, key=lambda row: row[:3])
         coming = deque(one for *_, one in arrived if port in self.links[link_of(one)]["to"])
         high, low = deque[Record](), deque[Record]()
@@ -139,7 +139,8 @@ class Switch:
 
 
 def run(switches: dict[str, Switch], sends: Lines) -> tuple[Lines, Lines]:
-    """What comes in and what leaves at each port; between switches first from the outer ones to the inner one, then back."""
+    """Runs the switches; returns what comes in and what leaves at each port: between switches first from the outer ones to the inner one,
+    then back."""
     came: Lines = dict(sends)
     left: Lines = {}
     for (name, port), records in sends.items():
@@ -155,7 +156,7 @@ def run(switches: dict[str, Switch], sends: Lines) -> tuple[Lines, Lines]:
 
 
 def babbling(number: int, rows: list[dict[str, Any]], chance: Random) -> dict[int, range]:
-    """The links that send too much in a run, with the instants of it."""
+    """Draws the links that send too much in a run, with the instants of it."""
     rare = [row["id"] for row in rows if row["bag_ms"] >= 16 and row["from"] in ENDS]
     names = chance.sample(rare, 2 if number == 19 else number % 3 == 1)
     begins = [chance.randrange(50_000_000, 100_000_000) for _ in names]
@@ -163,7 +164,7 @@ def babbling(number: int, rows: list[dict[str, Any]], chance: Random) -> dict[in
 
 
 def wanted(sender: int, rows: list[dict[str, Any]], too_many: dict[int, range], chance: Random) -> list[Send]:
-    """What an end system would send of its links, most times one frame in each gap."""
+    """Draws what an end system would send of its links, most times one frame in each gap."""
     sends: list[Send] = []
     for row in rows:
         gap, babble = row["bag_ms"] * 1_000_000, too_many.get(row["id"], range(0))
@@ -178,18 +179,18 @@ def wanted(sender: int, rows: list[dict[str, Any]], too_many: dict[int, range], 
 
 
 def slower(records: list[Record], chance: Random) -> list[Record]:
-    """As a switch sends them that takes up to 3 us longer than the rules."""
+    """Returns the records as a switch sends them that takes up to 3 us longer than the rules."""
     return in_order([Record(one.stamp + chance.randrange(3000), one.original, one.data) for one in records])
 
 
 def named(port: int, one: Record, what: str) -> str:
-    """How afdx-skew names a frame that SW1 was to send."""
+    """Returns how afdx-skew names a frame that SW1 was to send."""
     at = datetime.fromtimestamp(one.stamp // SECOND, timezone.utc)
     return f"port-{port} link {link_of(one)} {what} at {at:%Y-%m-%dT%H:%M:%S}.{one.stamp % SECOND:09}Z\n"
 
 
 def tap(came: Lines, left: Lines, is_faulty: bool, chance: Random) -> tuple[bytes, str]:
-    """The recording of SW1's lines, and the frames that it shows late or not at all."""
+    """Returns the recording of SW1's lines, and the frames that it shows late or not at all."""
     right, first = left["SW1", RIGHT], left["SW1", 1]
     lost = sorted(chance.sample(range(len(right)), FAULTS if is_faulty else 0))
     late = sorted(chance.sample(range(len(first)), FAULTS if is_faulty else 0))
@@ -204,14 +205,14 @@ def tap(came: Lines, left: Lines, is_faulty: bool, chance: Random) -> tuple[byte
 
 
 def mirrors(networks: list[Lines], chance: Random) -> tuple[bytes, bytes]:
-    """The recordings of SW2 and SW3."""
+    """Returns the recordings of SW2 and SW3."""
     second = [later(came["SW2", port], -GAPS[1000] * (port in (LEFT, RIGHT))) for came in networks for port in (*ENDS, LEFT, RIGHT)]
     third = [came["SW3", port] for came in networks for port in ENDS]
     return capture_of(with_check_sequence(in_order(*second))), capture_of(reordered(by_third_clock(in_order(*third)), chance))
 
 
 def write_truth(folder: Path, switches: dict[str, Switch], came: Lines, left: Lines, policed: set[int]) -> None:
-    """What there is to find on network A."""
+    """Writes what there is to find on network A. Ends the program if other links are policed than were to be."""
     for (name, port), records in left.items():
         write(folder / "out" / name / f"port-{port}.pcap", capture_of(records))
         if port in ENDS:

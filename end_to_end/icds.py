@@ -33,13 +33,13 @@ least_latency_us = 8
 
 
 def ends() -> list[tuple[str, str, int, int]]:
-    """Four end systems at each switch: their names, switches, ports and speeds."""
+    """Returns four end systems at each switch: their names, switches, ports and speeds."""
     return [(f"ES{4 * at + port}", switch, port, 10 if port == 4 else 100)
             for at, switch in enumerate(SWITCHES) for port in range(1, 5)]
 
 
 def links(chance: Random) -> Iterator[Row]:
-    """Links of all kinds to one, two or three end systems each."""
+    """Yields links of all kinds to one, two or three end systems each."""
     names = [end[0] for end in ends()]
     for number in range(1, 121):
         source = names[number % len(names)]
@@ -50,7 +50,7 @@ def links(chance: Random) -> Iterator[Row]:
 
 
 def wires() -> Iterator[Row]:
-    """The cables, at ports from 21 on."""
+    """Yields the cables, at ports from 21 on."""
     used = dict.fromkeys(SWITCHES, 20)
     for at, cable in enumerate(CABLES):
         row: list[str | int] = []
@@ -61,7 +61,7 @@ def wires() -> Iterator[Row]:
 
 
 def switches_between(start: str, end: str) -> int:
-    """How many switches the shortest way has, both ends with it."""
+    """Returns how many switches the shortest way has, both ends with it."""
     reached, count = {start}, 1
     while end not in reached:
         reached |= {there for a, b in CABLES for here, there in ((a, b), (b, a)) if here in reached}
@@ -70,7 +70,7 @@ def switches_between(start: str, end: str) -> int:
 
 
 def ways(rows: list[Row]) -> Iterator[str]:
-    """What `afdx network check` has to say of the ends of each way."""
+    """Yields what `afdx network check` has to say of the ends of each way."""
     places = {name: (switch, port) for name, switch, port, _ in ends()}
     for number, _, source, targets, *_ in rows:
         start = places[source]

@@ -18,7 +18,7 @@ HEADINGS = {"Usage:", "usage:", "Commands:", "Arguments:", "Options:", "options:
 
 
 def said(*words: str | Path) -> str:
-    """Answers what a program prints."""
+    """Returns what a program prints."""
     return subprocess.run(words, capture_output=True, text=True, check=True, env=WIDE).stdout
 
 

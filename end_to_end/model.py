@@ -75,7 +75,7 @@ def table_of(text: str) -> Table:
 
 
 def table_in(tree: dict[str, Any]) -> Table:
-    """The table that the tree of a text says."""
+    """Returns the table that the tree of a text says."""
     latency = tree.get("latency_us", 0) * 1000
     ports = [Port(port["id"], {10: 800, 100: 80, 1000: 8}[port["mbit"]], port["buffer"], port["max_delay_us"] * 1000, latency)
              for port in tree.get("port", [])]
@@ -100,7 +100,7 @@ class Record:
 
 
 def records_of(data: bytes, port: int) -> list[Record]:
-    """The records of a capture, or its first fault."""
+    """Returns the records of a capture, or refuses its first fault."""
 
     def refuse(fault: str, record: int | None = None) -> NoReturn:
         where = f"port {port}" if record is None else f"port {port}, record {record}"
@@ -141,7 +141,7 @@ def records_of(data: bytes, port: int) -> list[Record]:
 
 
 def capture_of(records: list[Record]) -> bytes:
-    """The one text of these records."""
+    """Returns the one text of these records."""
     text = bytes.fromhex("4d3cb2a1 02000400 00000000 00000000 00000400 01000000")
     for record in records:
         length = len(record.data)
@@ -170,7 +170,7 @@ class Arrival:
 
 
 def verdict_of(table: Table, port: int, record: Record) -> tuple[str, Link | None]:
-    """The first case that holds, and the link of a clean frame."""
+    """Returns the first case that holds, and the link of a clean frame."""
     if record.original > len(record.data):
         return "cut", None
     if record.size < 64:
@@ -191,8 +191,8 @@ def verdict_of(table: Table, port: int, record: Record) -> tuple[str, Link | Non
 
 
 def conforms(link: Link, passed: list[Arrival], frame: Arrival) -> bool:
-    """Whether each window that ends with this frame, and begins with a passed one or with itself, keeps to the link's
-    allowance: in bytes, or in frames."""
+    """Returns whether each window that ends with this frame, and begins with a passed one or with itself, keeps to the link's allowance: in
+    bytes, or in frames."""
     sent, each_gap = 0, link.max_size if link.police == "byte" else 1
     for first in [frame] + passed[::-1]:
         sent += first.size if link.police == "byte" else 1
@@ -224,7 +224,7 @@ class Event:
 
 
 def service(port: Port, frames: list[Arrival]) -> list[Event]:
-    """All events of a port that is offered these frames and has room for them."""
+    """Returns all events of a port that is offered these frames and has room for them."""
     events: list[Event] = []
     waiting, free = list(frames), 0
     while waiting:
@@ -242,14 +242,14 @@ def service(port: Port, frames: list[Arrival]) -> list[Event]:
 
 
 def occupied(port: Port, admitted: list[Arrival], stamp: int) -> int:
-    """The bytes that these frames fill at this instant, by a schedule of all of them."""
+    """Returns the bytes that these frames fill at this instant, by a schedule of all of them."""
     gone = sum(event.frame.size for event in service(port, admitted)
                if (event.sent and event.end <= stamp) or (not event.sent and event.begin < stamp))
     return sum(frame.size for frame in admitted) - gone
 
 
 def admission(port: Port, frames: list[Arrival]) -> list[Arrival]:
-    """The frames that find room, each judged against those that were admitted before it."""
+    """Returns the frames that find room, each judged against those that were admitted before it."""
     admitted: list[Arrival] = []
     for frame in frames:
         if occupied(port, admitted, frame.stamp + port.latency) + frame.size <= port.buffer:
@@ -268,7 +268,7 @@ class Outcome:
 
 
 def arrivals_of(table: Table, captures: dict[int, bytes]) -> list[Arrival]:
-    """The arrivals of these captures, bytes by port, in the order of the merge, judged and policed."""
+    """Returns the arrivals of these captures, bytes by port, in the order of the merge, judged and policed."""
     arrivals: list[Arrival] = []
     for port in table.ports:
         arrivals += [Arrival(port.id, record) for record in records_of(captures[port.id], port.id)]
@@ -282,12 +282,13 @@ def arrivals_of(table: Table, captures: dict[int, bytes]) -> list[Arrival]:
 
 
 def number_of(count: int, thing: str) -> str:
-    """So many of a thing."""
+    """Says so many of a thing."""
     return f"{count} {thing}" if count == 1 else f"{count} {thing}s"
 
 
 def verdict_line(arrivals: list[Arrival], lost: int) -> str:
-    """The line of a run's verdict, from what became of each arrival, and the number of copies that were offered and not sent."""
+    """Returns the line of a run's verdict, from what became of each arrival, and from the number of copies that were offered and not
+    sent."""
     policed = [arrival.link.id for arrival in arrivals if arrival.link and not arrival.passed]
     filtered = [arrival for arrival in arrivals if not arrival.link]
     links, frames = number_of(len(set(policed)), "link"), number_of(len(policed), "frame")
@@ -295,7 +296,7 @@ def verdict_line(arrivals: list[Arrival], lost: int) -> str:
 
 
 def run(table: Table, captures: dict[int, bytes]) -> Outcome:
-    """What comes out of the switch for these captures, bytes by port."""
+    """Returns what comes out of the switch for these captures, bytes by port."""
     arrivals = arrivals_of(table, captures)
     outcome, ins, links, outs, lost = Outcome(), [], [], [], 0
     for port in table.ports:
@@ -337,7 +338,7 @@ class Load:
 
 
 def rate_of(port: Port, links: list[Link]) -> int:
-    """Parts of the port's line that these links ask for in each nanosecond."""
+    """Returns parts of the port's line that these links ask for in each nanosecond."""
     def sixteenths(link: Link) -> int:
         return 21 * link.max_size if link.police == "byte" else 16 * (link.max_size + LINE_OVERHEAD)
 
@@ -345,24 +346,24 @@ def rate_of(port: Port, links: list[Link]) -> int:
 
 
 def burst_of(port: Port, links: list[Link]) -> int:
-    """Parts that they ask for at once."""
+    """Returns the parts that they ask for at once."""
     return sum(rate_of(port, [link]) * (link.bag + link.jitter) for link in links)
 
 
 def links_to(table: Table, port: Port) -> tuple[list[Link], list[Link], list[Link]]:
-    """The links that lead to a port: all, the high and the low ones."""
+    """Returns the links that lead to a port: all, the high and the low ones."""
     links = [link for link in table.links if port.id in link.to]
     high, low = ([link for link in links if link.priority == priority] for priority in PRIORITIES)
     return links, high, low
 
 
 def largest_of(port: Port, links: list[Link]) -> int:
-    """The line time of their largest frame."""
+    """Returns the line time of their largest frame, in ns."""
     return max(((link.max_size + LINE_OVERHEAD) * port.tick for link in links), default=0)
 
 
 def bounds_of(table: Table, port: Port, burst: int, high_burst: int) -> tuple[int | None, int | None]:
-    """The bounds of the high and of the low links of a port, where all and the high ones ask for so much at once."""
+    """Returns the bounds of the high and of the low links of a port, where all and the high ones ask for so much at once."""
     _, high, low = links_to(table, port)
     high_bound = low_bound = None
     if high:
@@ -373,7 +374,8 @@ def bounds_of(table: Table, port: Port, burst: int, high_burst: int) -> tuple[in
 
 
 def load_of(table: Table, port: Port, scatter: int = 0) -> Load | None:
-    """The load of a port, where latencies differ by so many ns, as if the jitters were so much larger; None where it has no links."""
+    """Returns the load of a port, where latencies differ by so many ns, as if the jitters were so much larger; None where it has no
+    links."""
     links, high, low = links_to(table, port)
     if not links:
         return None
@@ -389,9 +391,9 @@ def load_of(table: Table, port: Port, scatter: int = 0) -> Load | None:
 
 
 def brought(port: Port, line: Port, rounding: int | None, links: list[Link], spare: int) -> Callable[[int], int]:
-    """What links that come in at one port bring, by the length of a window in ns: no more than they may send and, where frames
-    come one after the other over the line there by stamps that are rounded down by at most so many ns, than its first frame, that,
-    the window's length and these parts beside."""
+    """Returns what links that come in at one port bring, by the length of a window in ns: no more than they may send and, where frames come
+    one after the other over the line there by stamps that are rounded down by at most so many ns, than its first frame, that, the window's
+    length and these parts beside."""
     burst, rate = burst_of(port, links), rate_of(port, links)
     if rounding is None:
         return lambda window: burst + rate * window
@@ -400,7 +402,7 @@ def brought(port: Port, line: Port, rounding: int | None, links: list[Link], spa
 
 
 def least_burst(groups: list[Callable[[int], int]]) -> int:
-    """The most by which groups are above the port's line: what they bring gains on it ever less, so that it is where they gain
+    """Returns the most by which groups are above the port's line: what they bring gains on it ever less, so that it is where they gain
     nothing more."""
     def above(window: int) -> int:
         return sum(group(window) for group in groups) - LOAD_UNIT * window
@@ -413,13 +415,14 @@ def least_burst(groups: list[Callable[[int], int]]) -> int:
 
 
 def later(group: Callable[[int], int], scatter: int) -> Callable[[int], int]:
-    """What comes of a group to the queues in a window came to the switch in a longer one, where latencies differ by so many ns."""
+    """Returns what comes of a group to the queues, by the length of a window in ns: it came to the switch in a longer one, where latencies
+    differ by so many ns."""
     return lambda window: group(window + scatter)
 
 
 def lesser_bursts(table: Table, port: Port, lines: Mapping[int, int], scatter: int = 0) -> tuple[int, int]:
-    """What all links of a port and its high ones ask for at once, where frames come one after the other over the lines of
-    the ports with these numbers, by stamps that are rounded down by at most so many ns there, and latencies differ by so many ns."""
+    """Returns what all links of a port and its high ones ask for at once, where frames come one after the other over the lines of the ports
+    with these numbers, by stamps that are rounded down by at most so many ns there, and latencies differ by so many ns."""
     links, high_links, _ = links_to(table, port)
     groups, high_groups = [], []
     for source in table.ports:
@@ -431,13 +434,13 @@ def lesser_bursts(table: Table, port: Port, lines: Mapping[int, int], scatter: i
 
 
 def loads_of(table: Table, scatter: int = 0) -> list[tuple[Port, Load]]:
-    """The ports that have links, each with its load."""
+    """Returns the ports that have links, each with its load."""
     loads = ((port, load_of(table, port, scatter)) for port in table.ports)
     return [(port, load) for port, load in loads if load]
 
 
 def check(table: Table) -> str:
-    """The lines of an accepted table, or the first rule that fails at the lowest port."""
+    """Returns the lines of an accepted table, or refuses it by the first rule that fails at the lowest port."""
     lines = []
     for port, load in loads_of(table):
         for rule, need, limit in load.rules:
@@ -449,7 +452,7 @@ def check(table: Table) -> str:
 
 
 def size(table: Table) -> str:
-    """The lines of a table, whether it is accepted or not."""
+    """Returns the lines of a table, whether it is accepted or not."""
     lines = []
     for port, load in loads_of(table):
         high = "-" if load.high is None else f"{load.high} of {port.max_delay}"
@@ -461,12 +464,12 @@ def size(table: Table) -> str:
 
 
 def captures_in(folder: str, table: Table) -> dict[int, bytes]:
-    """The bytes of each port's capture."""
+    """Returns the bytes of each port's capture."""
     return {port.id: Path(folder, f"port-{port.id}.pcap").read_bytes() for port in table.ports}
 
 
 def read(path: str | Path) -> Table:
-    """The table of a file."""
+    """Reads the table of a file."""
     return table_of(Path(path).read_bytes().decode())
 
 

@@ -16,7 +16,7 @@ MIXED = (PORT.format(1) + PORT.format(2) + LINK.format(10, 1, 2, "low") + LINK.f
 
 
 def by_frames(text: str, links: int = 1) -> str:
-    """The table in version 2, with its last links policed by frames."""
+    """Returns the table in version 2, with its last links policed by frames."""
     places = text.split("[[link]]")
     return "version = 2\n" + "[[link]]".join(
         place + 'police = "frame"\n' if place_number > len(places) - 1 - links else place
@@ -24,7 +24,7 @@ def by_frames(text: str, links: int = 1) -> str:
 
 
 def later(text: str, latency_us: int) -> str:
-    """The table in version 3, with this latency."""
+    """Returns the table in version 3, with this latency."""
     return f"version = 3\nlatency_us = {latency_us}\n" + text
 
 
@@ -37,7 +37,7 @@ def same(name: str, got: object, wanted: object) -> None:
 
 
 def with_port(text: str, number: int, **values: int) -> str:
-    """The table with these values at this port."""
+    """Returns the table with these values at this port."""
     places = text.split("[[")
     for key, value in values.items():
         places[number] = re.sub(rf"(?m)^{key} = .*$", f"{key} = {value}", places[number])
@@ -45,7 +45,7 @@ def with_port(text: str, number: int, **values: int) -> str:
 
 
 def capture(*frames: tuple[int, int, int]) -> bytes:
-    """A capture of (link, size, stamp)."""
+    """Returns a capture of (link, size, stamp)."""
     return HEADER + b"".join(record(stamp, frame(link, size)) for link, size, stamp in frames)
 
 
@@ -55,12 +55,12 @@ def run(text: str, *captures: bytes) -> model.Outcome:
 
 
 def leaves(outcome: model.Outcome, port: int) -> list[int]:
-    """The stamps of a port's output in the order of the capture."""
+    """Returns the stamps of a port's output in the order of the capture."""
     return [record.stamp for record in model.records_of(outcome.captures[port], port)]
 
 
 def sees(name: str, outcome: model.Outcome, *lines: str) -> None:
-    """The report has these lines."""
+    """Checks that the report has these lines."""
     for line in lines:
         same(name, line in outcome.report.splitlines(), True)
 
@@ -272,7 +272,7 @@ def load() -> None:
 
 
 def lesser_bursts() -> None:
-    """The rows of crates/afdx_rule_tests/src/bursts.rt: port 2 at 100 Mbit/s, links of 1518 bytes each millisecond."""
+    """Checks the rows of crates/afdx_rule_tests/src/bursts.rt: port 2 at 100 Mbit/s, links of 1518 bytes each millisecond."""
     ports = PORT.format(1) + PORT.format(2) + PORT.format(3)
     low, other, third = LINK.format(10, 1, 2, "low"), LINK.format(11, 1, 2, "low"), LINK.format(11, 3, 2, "low")
     high, third_high = LINK.format(12, 1, 2, "high"), LINK.format(12, 3, 2, "high")

@@ -38,19 +38,19 @@ def site_of(table: model.Table, texts: dict[int, bytes]) -> Site:
 
 
 def outcomes_of(net: Network, given: dict[End, bytes], unchecked: bool) -> dict[str, model.Outcome]:
-    """What comes out of each switch, where the network is accepted or whatever it is."""
+    """Returns what comes out of each switch, where the network is accepted or whatever it is."""
     return network_model.run_unchecked(net, given) if unchecked else network_model.run(net, given)
 
 
 def sites_of(net: Network, given: dict[End, bytes], outcomes: dict[str, model.Outcome]) -> Sites:
-    """The runs of all switches, each over what came in at its ports."""
+    """Returns the runs of all switches, each over what came in at its ports."""
     coming = network_model.coming_in(net, given)
     return {name: site_of(net.tables[name], network_model.texts_at(net, name, coming, network_model.brought(net, name, outcomes)))
             for name in net.names}
 
 
 def first(net: Network, sites: Sites, name: str, frame: model.Arrival) -> tuple[str, model.Arrival]:
-    """A frame's first switch, and its arrival there."""
+    """Returns a frame's first switch, and its arrival there."""
     wire = network_model.wire_to(net, End(name, frame.port))
     if not wire:
         return name, frame
@@ -106,13 +106,13 @@ def survey(net: Network, sites: Sites, unchecked: bool) -> str:
 
 
 def origin(net: Network, sites: Sites, name: str, frame: model.Arrival) -> str:
-    """The number of a frame among the arrivals at its first switch; nothing where this is that one."""
+    """Returns the number of a frame among the arrivals at its first switch; nothing where this is that one."""
     switch, arrival = first(net, sites, name, frame)
     return "" if arrival is frame else str(sites[switch].arrivals.index(arrival))
 
 
 def trace(net: Network, sites: Sites) -> dict[str, str]:
-    """The texts of all files, by their names."""
+    """Returns the texts of all files, by their names."""
     texts: dict[str, str] = {}
     for name, site in sites.items():
         lines, departures = answers.trace(site.table, site.texts)

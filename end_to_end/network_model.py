@@ -69,7 +69,8 @@ class Layout:
 
 
 def refuse(rule: str, *parts: str) -> NoReturn:
-    """Letters G: texts that make no network; J and R: what a network cannot do."""
+    """Refuses by a rule: with status 3 if its letter is G, of texts that make no network; with 4 if it is J or R, of what a network cannot
+    do."""
     raise Refused(", ".join([f"afdx: network {rule}", *parts]), 3 if rule.startswith("G") else 4)
 
 
@@ -79,7 +80,7 @@ def known(place: str, keys: list[str], members: Members) -> None:
 
 
 def value(place: str, key: str, members: Members, kind: type) -> Any:
-    """A required value of this kind; a truth value is no number."""
+    """Returns a required value of this kind; a truth value is no number."""
     if key not in members:
         refuse("G2 MissingKey", place, key)
     if type(members[key]) is not kind:
@@ -102,13 +103,13 @@ def number(place: str, key: str, members: Members, least: int, most: int) -> int
 
 
 def flag(place: str, key: str, members: Members) -> bool:
-    """An optional truth value."""
+    """Returns an optional truth value."""
     found: bool = value(place, key, members, bool) if key in members else False
     return found
 
 
 def tables(key: str, top: Members) -> list[Members]:
-    """An array of tables; none where it is missing."""
+    """Returns an array of tables; none where it is missing."""
     found = top.get(key, [])
     if type(found) is not list or any(type(members) is not dict for members in found):
         refuse("G2 Kind", "top", key)
@@ -148,7 +149,7 @@ def wire_of(place: str, members: Members, names: list[str], before: list[Wire]) 
 
 
 def layout_of(data: bytes) -> Layout:
-    """The layout of a network file's bytes."""
+    """Returns the layout of a network file's bytes."""
     try:
         top = tomllib.loads(data.decode("utf-8"))
     except ValueError:
@@ -157,7 +158,7 @@ def layout_of(data: bytes) -> Layout:
 
 
 def layout_in(top: Members) -> Layout:
-    """The same of the tree of its text."""
+    """Returns the same of the tree of its text."""
     known("top", ["version", "one_line", "switch", "wire"], top)
     if "version" in top:
         number("top", "version", top, 1, 1)
@@ -204,13 +205,13 @@ def network_of(layout: Layout, tables_of: dict[str, model.Table]) -> Network:
 
 
 def read(path: str | Path) -> Network:
-    """The network of a file, and of the tables beside it."""
+    """Reads the network of a file, and of the tables beside it."""
     layout = layout_of(Path(path).read_bytes())
     return network_of(layout, {switch.name: model.read(Path(path).parent / switch.path) for switch in layout.switches})
 
 
 def port_of(net: Network, end: End) -> model.Port:
-    """The row of a port that the switch has."""
+    """Returns the row of a port that the switch has."""
     return next(port for port in net.tables[end.switch].ports if port.id == end.port)
 
 
@@ -227,12 +228,12 @@ def wire_from(net: Network, start: End) -> Wire | None:
 
 
 def is_up(net: Network, wire: Wire) -> bool:
-    """Whether what leaves at its start comes at its end."""
+    """Returns whether what leaves at its start comes at its end."""
     return not wire.down and not {wire.start.switch, wire.end.switch} & net.down
 
 
 def rows_on(net: Network, wire: Wire) -> list[Row]:
-    """The rows of the first switch that lead to the wire."""
+    """Returns the rows of the first switch that lead to the wire."""
     return [row for row in net.rows if row.switch == wire.start.switch and wire.start.port in row.link.to]
 
 
@@ -247,7 +248,7 @@ def ports_are_there(net: Network) -> None:
 
 
 def scatter_of(net: Network, name: str) -> int:
-    """By how much latencies of the switch may differ."""
+    """Returns by how much latencies of the switch may differ, in ns."""
     return net.tables[name].latency - net.leasts[name]
 
 
@@ -282,7 +283,7 @@ def other_terms(wire: Wire, here: Row, there: Row) -> str | None:
 
 
 def rows_agree(net: Network) -> None:
-    """Rule by rule: by wire, then by the row of the switch that sends."""
+    """Refuses rows that do not agree, rule by rule: by wire, then by the row of the switch that sends."""
     rules: list[Callable[[Wire, Row, Any], str | None]] = [no_row, other_port, other_terms]
     rows = [(wire, row, row_of(net, wire.end.switch, row.link.id)) for wire in net.wires for row in rows_on(net, wire)]
     for rule in rules:
@@ -292,8 +293,8 @@ def rows_agree(net: Network) -> None:
 
 
 def row_before(net: Network, row: Row) -> tuple[Wire, Row | None] | None:
-    """The wire on which a row's link comes and the row that sends it there; nothing for a source, and (wire, None) where
-    the link does not come on it."""
+    """Returns the wire on which a row's link comes and the row that sends it there; nothing for a source, and (wire, None) where the link
+    does not come on it."""
     wire = wire_to(net, End(row.switch, row.link.source))
     if not wire:
         return None
@@ -302,7 +303,7 @@ def row_before(net: Network, row: Row) -> tuple[Wire, Row | None] | None:
 
 
 def way_to(net: Network, row: Row) -> tuple[list[Row], list[Wire]] | None:
-    """The rows from the source to this one, and the wires between them; None where it has no source."""
+    """Returns the rows from the source to this one, and the wires between them; None where it has no source."""
     rows: list[Row] = [row]
     wires: list[Wire] = []
     while step := row_before(net, rows[0]):
@@ -315,7 +316,7 @@ def way_to(net: Network, row: Row) -> tuple[list[Row], list[Wire]] | None:
 
 
 def whole_way(net: Network, row: Row) -> tuple[list[Row], list[Wire]]:
-    """The same where each row has a source."""
+    """Returns the same where each row has a source."""
     way = way_to(net, row)
     assert way
     return way
@@ -345,7 +346,7 @@ def texts_agree(net: Network) -> None:
 
 
 def loads_fit(net: Network, rules: list[str] | None = None) -> None:
-    """The load of each table, by all rules or by these."""
+    """Refuses the first load that does not fit its table, by all rules or by these."""
     for name in net.names:
         loads = model.loads_of(net.tables[name], scatter_of(net, name))
         for port, rule, need, limit in ((port, *asked) for port, load in loads for asked in load.rules):
@@ -367,14 +368,14 @@ class Delays:
 
 
 def lines_of(net: Network, name: str) -> dict[int, int]:
-    """The ports of a switch over whose lines frames come one after the other, and by how much their stamps may be rounded down: what comes
-    over a wire has exact ones; the others are those of end systems, if the network file says so of them."""
+    """Returns the ports of a switch over whose lines frames come one after the other, and by how much their stamps may be rounded down:
+    what comes over a wire has exact ones; the others are those of end systems, if the network file says so of them."""
     wired = {wire.end.port for wire in net.wires if wire.end.switch == name}
     return {port.id: 0 if port.id in wired else ROUNDING for port in net.tables[name].ports if net.one_line or port.id in wired}
 
 
 def bound_of(net: Network, row: Row, number: int) -> int:
-    """The bound of the link's priority at a port of its switch, where frames come one after the other over the lines that are known
+    """Returns the bound of the link's priority at a port of its switch, where frames come one after the other over the lines that are known
     and latencies differ by the switch's scatter."""
     table, port = net.tables[row.switch], port_of(net, End(row.switch, number))
     high, low = model.bounds_of(table, port, *model.lesser_bursts(table, port, lines_of(net, row.switch), scatter_of(net, row.switch)))
@@ -384,14 +385,14 @@ def bound_of(net: Network, row: Row, number: int) -> int:
 
 
 def through(net: Network, row: Row, number: int) -> Delays:
-    """From a frame's arrival at a switch until it has left this port."""
+    """Returns the delays from a frame's arrival at a switch until it has left this port."""
     port = port_of(net, End(row.switch, number))
     least = net.leasts[row.switch] + (LEAST_SIZE + model.LINE_OVERHEAD) * port.tick
     return Delays(least, bound_of(net, row, number))
 
 
 def before(net: Network, row: Row) -> tuple[list[Row], list[Wire], list[Delays]]:
-    """From the arrival at the first switch to that at each switch of the way to a row."""
+    """Returns the way to a row, rows and wires, and the delays from the arrival at the first switch to that at each switch of it."""
     rows, wires = whole_way(net, row)
     sums = [Delays()]
     for there, wire in zip(rows, wires):
@@ -401,12 +402,13 @@ def before(net: Network, row: Row) -> tuple[list[Row], list[Wire], list[Delays]]
 
 
 def need_us(first: Row, delays: Delays) -> int:
-    """Whole microseconds of jitter that are enough after these delays for a link with this jitter at its first switch."""
+    """Returns the whole microseconds of jitter that are enough after these delays for a link with this jitter at its first switch."""
     return max(0, -(-(first.link.jitter + delays.most - delays.least) // MICROSECOND))
 
 
 def rows_refused(rule: str, rows: list[str]) -> Refused:
-    """A line for each row that a rule of jitters refuses; of more than 100 for the first 100, and how many more there are."""
+    """Returns a refusal with a line for each row that a rule of jitters refuses; of more than 100 for the first 100, and how many more
+    there are."""
     lines = [f"afdx: network {rule}, {row}" for row in rows[:MOST_LINES]]
     if len(rows) > MOST_LINES:
         lines.append(f"afdx: network {rule}, and {len(rows) - MOST_LINES} more")
@@ -437,7 +439,7 @@ def accept(net: Network) -> None:
 
 
 def ends_of(net: Network) -> list[tuple[Row, int]]:
-    """Each row with a port that leads out of the network: by link, then by switch and port."""
+    """Returns each row with a port that leads out of the network: by link, then by switch and port."""
     places = [(row.link.id, net.names.index(row.switch), port, row) for row in net.rows for port in row.link.to
               if not wire_from(net, End(row.switch, port))]
     return [(row, port) for _, _, port, row in sorted(places, key=lambda place: place[:3])]
@@ -454,13 +456,13 @@ def way_line(net: Network, row: Row, port: int) -> tuple[str, int]:
 
 
 def is_lost(net: Network, row: Row) -> bool:
-    """Whether something is down on the way to a row, or its own switch."""
+    """Returns whether something is down on the way to a row, or its own switch."""
     rows, wires = whole_way(net, row)
     return any(there.switch in net.down for there in rows) or not all(is_up(net, wire) for wire in wires)
 
 
 def check(net: Network) -> str:
-    """The lines of an accepted network."""
+    """Returns the lines of an accepted network."""
     accept(net)
     lines = [f"switch {name} accepted" for name in net.names] + ["premise one_line"] * net.one_line
     ends = [(row, port, *way_line(net, row, port)) for row, port in ends_of(net) if not is_lost(net, row)]
@@ -477,7 +479,7 @@ def jitter_lines(net: Network) -> str:
 
 
 def turn(net: Network) -> bool:
-    """The jitters that the rows need where all have those that they have now; says whether one of them changed."""
+    """Sets the jitters that the rows need where all have those that they have now; says whether one of them changed."""
     needs = [(row, need_us(whole_way(net, row)[0][0], before(net, row)[2][-1]) * MICROSECOND) for row in net.rows]
     changed = any(row.link.jitter != need for row, need in needs)
     for row, need in needs:
@@ -499,7 +501,7 @@ def solve(net: Network) -> list[Row]:
 
 
 def jitter(net: Network) -> tuple[str, Refused | None]:
-    """The lines of all rows, and the refusal of those that are past the limit."""
+    """Returns the lines of all rows, and the refusal of those that are past the limit."""
     ports_are_there(net)
     latencies_are_least(net)
     loads_fit(net, ["L1 Rate"])
@@ -515,7 +517,8 @@ def jitter(net: Network) -> tuple[str, Refused | None]:
 
 
 def order_of(net: Network) -> list[str]:
-    """All switches: next is one whose wires all come from those before, where there is one, else the first of the file that is left."""
+    """Returns all switches: next is one whose wires all come from those before, where there is one, else the first of the file that is
+    left."""
     order: list[str] = []
     left = list(net.names)
     while left:
@@ -526,7 +529,7 @@ def order_of(net: Network) -> list[str]:
 
 
 def of_switch(name: str, call: Callable[..., Answer], *arguments: Any) -> Answer:
-    """What the call answers; a refusal names the switch."""
+    """Returns what the call answers; a refusal names the switch."""
     try:
         return call(*arguments)
     except Refused as refused:
@@ -534,7 +537,7 @@ def of_switch(name: str, call: Callable[..., Answer], *arguments: Any) -> Answer
 
 
 def written(text: bytes) -> list[model.Record]:
-    """The records of a text that a switch wrote; the last ones may be too late to be read."""
+    """Returns the records of a text that a switch wrote; the last ones may be too late to be read."""
     records, at = [], 24
     while at < len(text):
         seconds, nanos, captured, original = struct.unpack_from("<4I", text, at)
@@ -544,7 +547,7 @@ def written(text: bytes) -> list[model.Record]:
 
 
 def carried(net: Network, wire: Wire, outcome: model.Outcome) -> bytes:
-    """The text at the end of a wire."""
+    """Returns the text at the end of a wire."""
     if not is_up(net, wire):
         return model.capture_of([])
     return model.capture_of([model.Record(record.stamp + wire.delay, record.original, record.data)
@@ -552,19 +555,19 @@ def carried(net: Network, wire: Wire, outcome: model.Outcome) -> bytes:
 
 
 def texts_at(net: Network, name: str, given: dict[End, bytes], wired: dict[End, bytes]) -> dict[int, bytes]:
-    """The captures of a switch's ports: those that were given, and those that came on wires."""
+    """Returns the captures of a switch's ports: those that were given, and those that came on wires."""
     ends = [End(name, port.id) for port in net.tables[name].ports]
     return {end.port: wired[end] if end in wired else given[end] for end in ends}
 
 
 def brought(net: Network, name: str, outcomes: dict[str, model.Outcome]) -> dict[End, bytes]:
-    """What the wires bring to a switch: nothing from one that has not run."""
+    """Returns what the wires bring to a switch: nothing from one that has not run."""
     return {wire.end: carried(net, wire, outcomes[wire.start.switch]) if wire.start.switch in outcomes else model.capture_of([])
             for wire in net.wires if wire.end.switch == name}
 
 
 def run_in_rounds(net: Network, given: dict[End, bytes], order: list[str]) -> dict[str, model.Outcome]:
-    """The switches in this order over what is there, and again where a wire brings another text, until each brings what came in.
+    """Runs the switches in this order over what is there, and again where a wire brings another text, until each brings what came in.
 
     Another way than the program's, which takes all switches on by time. It ends too: each round settles what comes a line time later.
     """
@@ -580,8 +583,8 @@ def run_in_rounds(net: Network, given: dict[End, bytes], order: list[str]) -> di
 
 
 def breach_of(port: model.Port, records: list[model.Record]) -> int | None:
-    """The number of the first record that did not come over this port's line one frame after the other, whatever of a microsecond the
-    stamps lack: the line times of it and of some just before it are more than the time since the record before them and that."""
+    """Returns the number of the first record that did not come over this port's line one frame after the other, whatever of a microsecond
+    the stamps lack: the line times of it and of some just before it are more than the time since the record before them and that."""
     for last, record in enumerate(records):
         taken = 0
         for first in range(last, 0, -1):
@@ -599,13 +602,13 @@ def lines_are_kept(net: Network, given: dict[End, bytes]) -> None:
 
 
 def run(net: Network, given: dict[End, bytes]) -> dict[str, model.Outcome]:
-    """What comes out of each switch, where these captures come in at the ports without a wire."""
+    """Returns what comes out of each switch, where these captures come in at the ports without a wire."""
     accept(net)
     return run_unchecked(net, given)
 
 
 def run_unchecked(net: Network, given: dict[End, bytes]) -> dict[str, model.Outcome]:
-    """What comes out of each switch, whether the network is accepted or not."""
+    """Returns what comes out of each switch, whether the network is accepted or not."""
     coming = coming_in(net, given)
     for end, text in coming.items():
         of_switch(end.switch, model.records_of, text, end.port)
@@ -615,12 +618,12 @@ def run_unchecked(net: Network, given: dict[End, bytes]) -> dict[str, model.Outc
 
 
 def coming_in(net: Network, given: dict[End, bytes]) -> dict[End, bytes]:
-    """What comes in at the ports without a wire: nothing at a switch that is down."""
+    """Returns what comes in at the ports without a wire: nothing at a switch that is down."""
     return {end: model.capture_of([]) if end.switch in net.down else given[end] for end in open_ends(net)}
 
 
 def open_ends(net: Network) -> list[End]:
-    """The ingress ports without a wire."""
+    """Returns the ingress ports without a wire."""
     ends = [End(name, port.id) for name in net.names for port in net.tables[name].ports]
     return [end for end in ends if not wire_to(net, end)]
 
@@ -650,7 +653,7 @@ def run_files(path: str | Path, source: str | Path, target: str | Path) -> str:
 
 
 def main(given: argparse.Namespace) -> tuple[str, Refused | None]:
-    """What a command prints, and the refusal with which it ends then."""
+    """Returns what a command prints, and the refusal with which it ends then."""
     if given.command == "check":
         return check(read(given.network)), None
     if given.command == "jitter":

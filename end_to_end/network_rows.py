@@ -25,15 +25,15 @@ def link(number: int, source: int, to: list[int], jitter: int = 0, size: int = 6
 
 
 def table(*links: str, ports: int = 4, mbit: int | list[int] = 100, head: str = "") -> str:
-    """Ports 1, 2 and so on, of this speed or of these speeds."""
+    """Returns a table of ports 1, 2 and so on, of this speed or of these speeds."""
     speeds = mbit if isinstance(mbit, list) else [mbit] * ports
     return head + "".join(PORT.format(number, speed) for number, speed in enumerate(speeds, 1)) + "".join(links)
 
 
 def layout(names: Iterable[str], *wires: str, leasts: dict[str, int] | None = None, down: Iterable[str] = (),
            one_line: bool = False) -> str:
-    """The network file: wires are words, `A.3 B.1` or `A.3 B.1 25`; the least latencies are in µs, by name; down are switches, by name, and
-    wires, by their start."""
+    """Returns the network file: wires are words, `A.3 B.1` or `A.3 B.1 25`; the least latencies are in µs, by name; down are switches, by
+    name, and wires, by their start."""
     text = "version = 1\n" + "one_line = true\n" * one_line
     for name in names:
         text += f'[[switch]]\nname = "{name}"\ntable = "{name}.toml"\n'
@@ -56,12 +56,12 @@ def network(tables: dict[str, str], *wires: str, leasts: dict[str, int] | None =
 
 
 def capture(*frames: tuple[int, ...]) -> bytes:
-    """A capture of (link, stamp) or of (link, stamp, size)."""
+    """Returns a capture of (link, stamp) or of (link, stamp, size)."""
     return model.capture_of([model.Record(at, 0, frame(number, size[0] if size else 64)) for number, at, *size in frames])
 
 
 def brought(net: network_model.Network, captures: dict[str, bytes]) -> dict[End, bytes]:
-    """What comes in: A1 is the capture of port 1 of A; at the other ports nothing does."""
+    """Returns what comes in: A1 is the capture of port 1 of A; at the other ports nothing does."""
     return {end: captures.get(f"{end.switch}{end.port}", SILENCE) for end in network_model.open_ends(net)}
 
 
@@ -70,12 +70,12 @@ def run(net: network_model.Network, **captures: bytes) -> dict[str, model.Outcom
 
 
 def left(outcomes: dict[str, model.Outcome], switch: str, port: int) -> list[tuple[int, int]]:
-    """Link and stamp of each frame that left a port."""
+    """Returns link and stamp of each frame that left a port."""
     return [(int.from_bytes(record.data[4:6], "big"), record.stamp) for record in network_model.written(outcomes[switch].captures[port])]
 
 
 def short_lines(switch: str, links: Iterable[int], need: int, has: int) -> str:
-    """The lines of links that need more jitter at the switch than they have."""
+    """Returns the lines of links that need more jitter at the switch than they have."""
     return "\n".join(f"afdx: network J1 Jitter, switch {switch}, link {number}, need {need}, has {has}" for number in links)
 
 
@@ -89,7 +89,7 @@ def says(name: str, net: network_model.Network, *lines: str) -> None:
 
 
 def needs(name: str, net: network_model.Network, *lines: str) -> None:
-    """The lines of `jitter`; the last one may be a refusal."""
+    """Checks the lines of `jitter`; the last one may be a refusal."""
     said, refused = network_model.jitter(net)
     same(name, said.splitlines() + ([refused.line] if refused else []), list(lines))
 
@@ -104,8 +104,8 @@ def two_switches(jitter: int) -> dict[str, str]:
 
 
 def jitter_enough() -> None:
-    """The port of A sends three frames of 6,720 ns, so that 13,440 ns of jitter arise there; over the wire they come to B one after
-    the other, so that each goes on at once."""
+    """Checks jitter that is just enough. The port of A sends three frames of 6,720 ns, so that 13,440 ns of jitter arise there; over the
+    wire they come to B one after the other, so that each goes on at once."""
     name, net = "jitter enough", network(two_switches(14), "A.4 B.1")
     same(name, model.check(net.tables["A"]), "port 4 rate 41287680 buffer 336 high - low 20160\naccepted\n")
     says(name, net, "switch A accepted", "switch B accepted",
@@ -132,7 +132,8 @@ def row_of_three() -> dict[str, str]:
 
 
 def three_in_a_row() -> None:
-    """A link over three switches, at each of which a babbler comes in at port 2: each time a frame waits for one of the babbler's."""
+    """Checks a link over three switches, at each of which a babbler comes in at port 2: each time a frame waits for one of the
+    babbler's."""
     name = "three in a row"
     net = network(row_of_three(), "A.3 B.1", "B.3 C.1")
     says(name, net, "switch A accepted", "switch B accepted", "switch C accepted",
@@ -155,7 +156,7 @@ def three_in_a_row() -> None:
 
 
 def ring_of_three(jitters: tuple[int, int]) -> dict[str, str]:
-    """Each link comes in at port 2, goes on at port 3 of two switches and leaves at port 4 of the next."""
+    """Returns a ring: each link comes in at port 2, goes on at port 3 of two switches and leaves at port 4 of the next."""
     return {name: table(link(own, 2, [3]), link(passing, 1, [3], jitters[0]), link(last, 1, [4], jitters[1]))
             for name, own, passing, last in (("A", 1, 3, 2), ("B", 2, 1, 3), ("C", 3, 2, 1))}
 
@@ -179,7 +180,7 @@ def ring() -> None:
 
 
 def multicast() -> None:
-    """One frame over two cables to three ports; cables add to both ends of the delay and ask for no jitter."""
+    """Checks one frame over two cables to three ports; cables add to both ends of the delay and ask for no jitter."""
     name = "multicast"
     tables = {"A": table(link(5, 1, [2, 3]), ports=3), "B": table(link(5, 1, [2]), ports=2), "C": table(link(5, 2, [1, 3]), ports=3)}
     net = network(tables, "A.2 B.1 25", "A.3 C.2")
@@ -194,8 +195,8 @@ def multicast() -> None:
 
 
 def both_kinds_of_policing() -> None:
-    """A port with a link of 1518 bytes by frames, 123,040 ns, and one by bytes, 159,390 ns. At B there is a frame of 123,040 ns
-    at a time."""
+    """Checks a port with a link of 1518 bytes by frames, 123,040 ns, and one by bytes, 159,390 ns. At B there is a frame of 123,040 ns at a
+    time."""
     name = "both kinds of policing"
     tables = {"A": table(link(1, 1, [3], 0, 1518, police="frame"), link(2, 2, [3], 0, 1518), head="version = 2\n"),
               "B": table(link(1, 1, [2], 276, 1518, police="frame"), link(2, 1, [3], 276, 1518), head="version = 2\n")}
@@ -210,8 +211,8 @@ def both_kinds_of_policing() -> None:
 
 
 def gigabit_with_latency() -> None:
-    """Latencies that do not vary are in both ends of the delay, so the jitter is that of 1,344 - 672 ns. At B there is a frame of
-    672 ns at a time."""
+    """Checks that latencies that do not vary are in both ends of the delay, so the jitter is that of 1,344 - 672 ns. At B there is a frame
+    of 672 ns at a time."""
     name = "gigabit with latency"
     tables = {"A": table(link(1, 1, [3]), link(2, 2, [3]), ports=3, mbit=1000, head="version = 3\nlatency_us = 10\n"),
               "B": table(link(1, 1, [2], 1), link(2, 1, [2], 1), ports=2, mbit=1000, head="version = 3\nlatency_us = 20\n")}
@@ -226,14 +227,14 @@ def gigabit_with_latency() -> None:
 
 
 def slow(*links: str, latency: int = 10, ports: int = 4) -> str:
-    """A table of a switch with this latency, in µs."""
+    """Returns a table of a switch with this latency, in µs."""
     return table(*links, head=f"version = 3\nlatency_us = {latency}\n", ports=ports)
 
 
 def latency_that_varies() -> None:
-    """One link of 64 bytes over two switches of 10 µs. Where these are taken for each frame, a frame takes 16,720 ns through each. Where
-    nothing is known of the least, frames that come 1 ms apart may be queued 990,000 ns apart: the link asks for 6,720 * 1.01 ns, a frame
-    takes from 6,720 to 16,787 ns, and needs 11 µs at the second switch; with these it asks for 6,720 * 1.021 there."""
+    """Checks one link of 64 bytes over two switches of 10 µs. Where these are taken for each frame, a frame takes 16,720 ns through each.
+    Where nothing is known of the least, frames that come 1 ms apart may be queued 990,000 ns apart: the link asks for 6,720 * 1.01 ns, a
+    frame takes from 6,720 to 16,787 ns, and needs 11 µs at the second switch; with these it asks for 6,720 * 1.021 there."""
     name = "latency that varies"
     tables = {"A": slow(link(1, 1, [2]), ports=2), "B": slow(link(1, 1, [2]), ports=2)}
     says(name, network(tables, "A.2 B.1", leasts={"A": 10, "B": 10}), "switch A accepted", "switch B accepted",
@@ -250,7 +251,7 @@ def latency_that_varies() -> None:
 
 
 def overtaken() -> None:
-    """Six links of 1518 bytes, of which each asks for 159,390.06 ns at once, at a switch of 100 µs: 956,340 ns wait where it takes
+    """Checks six links of 1518 bytes, of which each asks for 159,390.06 ns at once, at a switch of 100 µs: 956,340 ns wait where it takes
     them for each frame, a tenth more where latencies may be of any length up to it."""
     name = "overtaken"
     links = [link(number, 1 + number % 2, [3], size=1518) for number in range(1, 7)]
@@ -276,9 +277,10 @@ def overtaken() -> None:
 
 
 def overtaken_by_all() -> None:
-    """At that switch each link sends 23 frames of 64 bytes at once, and the others three more as their accounts allow, the last at
-    96,180 ns. The frames of link 1 take 100,000 ns, and all others are queued just before them: the last one of it has gone when
-    153 frames of 6,720 ns have. So the bound for one latency does not hold, and the one for any up to it does."""
+    """Checks a schedule that breaks the bound for one latency. At that switch each link sends 23 frames of 64 bytes at once, and the others
+    three more as their accounts allow, the last at 96,180 ns. The frames of link 1 take 100,000 ns, and all others are queued just before
+    them: the last one of it has gone when 153 frames of 6,720 ns have. So the bound for one latency does not hold, and the one for any up
+    to it does."""
     name = "overtaken by all"
     links = [link(number, 1 + number % 2, [3], size=1518) for number in range(1, 7)]
     switch = model.table_of(slow(*links, latency=100, ports=3))
@@ -294,8 +296,8 @@ def overtaken_by_all() -> None:
 
 
 def wire_that_varies() -> None:
-    """Two links of 1518 bytes on one wire: it brings 123,040 ns at once, and at the queues 50,000 ns more, where the latency of B may be
-    of any length up to 50 µs."""
+    """Checks two links of 1518 bytes on one wire: it brings 123,040 ns at once, and at the queues 50,000 ns more, where the latency of B
+    may be of any length up to 50 µs."""
     name = "wire that varies"
     tables = {"A": table(link(1, 1, [3], size=1518), link(2, 2, [3], size=1518)),
               "B": slow(link(1, 1, [2], 312, size=1518), link(2, 1, [2], 312, size=1518), latency=50)}
@@ -306,7 +308,7 @@ def wire_that_varies() -> None:
 
 
 def least_latencies() -> None:
-    """What a network file may say of them."""
+    """Checks what a network file may say of least latencies."""
     name = "least latencies"
     tables = {"A": slow(link(1, 1, [2]), ports=2), "B": slow(link(1, 1, [2]), ports=2, latency=9)}
     refuses(name, "afdx: network G3 Latency, switch B", 3, network_model.check, network(tables, "A.2 B.1", leasts={"A": 10, "B": 10}))
@@ -320,7 +322,7 @@ def least_latencies() -> None:
 
 
 def rounded_once() -> None:
-    """Five switches, at each of which another link comes in: the sums are 672, 1,344, 2,016 and 2,688 ns, of which only the whole
+    """Checks five switches, at each of which another link comes in: the sums are 672, 1,344, 2,016 and 2,688 ns, of which only the whole
     way is rounded."""
     name, jitters = "rounded once", (0, 1, 2, 3, 3)
     tables = {switch: table(link(1, 1, [2], jitter), link(11 + place, 4, [2]), *([link(10 + place, 1, [3], 1)] if place else []), mbit=1000,
@@ -335,7 +337,7 @@ def rounded_once() -> None:
 
 
 def bound_of_its_priority() -> None:
-    """A high link of 64 bytes behind a low frame of 1518, 6,720 + 123,040 ns, and the low link behind the high one, 167,233 ns; at B
+    """Checks a high link of 64 bytes behind a low frame of 1518, 6,720 + 123,040 ns, and the low link behind the high one, 167,233 ns; at B
     there is a frame at a time."""
     name = "bound of its priority"
     tables = {"A": table(link(1, 1, [3], priority="high"), link(2, 2, [3], size=1518), ports=3),
@@ -347,7 +349,7 @@ def bound_of_its_priority() -> None:
 
 
 def speed_of_the_port_before() -> None:
-    """The least delay is that of A's port, 67,200 ns, though B sends ten times as fast."""
+    """Checks that the least delay is that of A's port, 67,200 ns, though B sends ten times as fast."""
     name = "speed of the port before"
     tables = {"A": table(link(1, 1, [3]), link(2, 2, [3]), mbit=[10, 10, 10, 100]),
               "B": table(link(1, 1, [2], 68), link(2, 1, [3], 68), mbit=[10, 100, 1000])}
@@ -360,9 +362,9 @@ def speed_of_the_port_before() -> None:
 
 
 def turns() -> None:
-    """Two links over a line of 1000 Mbit/s from A to B: 31,878 ns at A, 31,206 more than the least. At port 3 of B the line gains on
-    the port ten to one until both accounts give less, 318,780 * 1.032 ns and 0.31878 in each; from then on the port gains. So it is
-    late by 314,489 ns, and C needs 31,206 and 307,769 ns more than the least; without the jitter at B it would be 9,483 ns less."""
+    """Checks two links over a line of 1000 Mbit/s from A to B: 31,878 ns at A, 31,206 more than the least. At port 3 of B the line gains on
+    the port ten to one until both accounts give less, 318,780 * 1.032 ns and 0.31878 in each; from then on the port gains. So it is late by
+    314,489 ns, and C needs 31,206 and 307,769 ns more than the least; without the jitter at B it would be 9,483 ns less."""
     speeds = {"A": [100, 100, 1000], "B": [1000, 100, 100], "C": [100, 100, 100]}
     tables = {switch: table(link(1, 1, [3], size=1518), link(2, 2 if switch == "A" else 1, [3], size=1518), mbit=mbit,
                             head="version = 3\n") for switch, mbit in speeds.items()}
@@ -425,7 +427,7 @@ def file_refusals() -> None:
 
 
 def texts_refused() -> None:
-    """What the tables do not agree on, rule by rule."""
+    """Checks what the tables do not agree on, rule by rule."""
     first, second = table(link(1, 1, [3]), link(2, 2, [3])), table(link(1, 1, [2]), link(2, 1, [2]))
     jitters = table(link(1, 1, [2], 7), link(2, 1, [2], 7))
     says("agree", network({"A": first, "B": jitters}, "A.3 B.1"), "switch A accepted", "switch B accepted",
@@ -459,7 +461,7 @@ def texts_refused() -> None:
 
 
 def past_the_limit() -> None:
-    """Nine links of 1518 bytes at 10 Mbit/s: 9 * 1,593,900 - 67,200 ns."""
+    """Checks nine links of 1518 bytes at 10 Mbit/s: 9 * 1,593,900 - 67,200 ns."""
     tables = {"A": table(*(link(number, 1, [2], size=1518, bag=128) for number in range(1, 10)), ports=2, mbit=10),
               "B": table(*(link(number, 1, [2], size=1518, bag=128) for number in range(1, 10)), ports=2, mbit=10)}
     needs("past the limit", network(tables, "A.2 B.1"), *(f"switch A link {number} jitter_us 0" for number in range(1, 10)),
@@ -468,8 +470,8 @@ def past_the_limit() -> None:
 
 
 def short_at_two_switches() -> None:
-    """Two frames of 6,720 ns share a port to B and one to C, so that 6,720 ns of jitter arise at each; a row that has 7 µs is none of
-    those that are refused."""
+    """Checks two frames of 6,720 ns that share a port to B and one to C, so that 6,720 ns of jitter arise at each; a row that has 7 µs is
+    none of those that are refused."""
     first = table(link(1, 1, [3, 4]), link(2, 2, [3, 4]))
     tables = {"A": first, "B": table(link(1, 1, [2], 7), link(2, 1, [2], 6)), "C": table(link(1, 1, [2], 0), link(2, 1, [2], 7))}
     refuses("short at two switches", "afdx: network J1 Jitter, switch B, link 2, need 7, has 6\n"
@@ -477,14 +479,14 @@ def short_at_two_switches() -> None:
 
 
 def many_rows(count: int, size: int, mbit: int) -> network_model.Network:
-    """So many links from one port of A over a wire to B, where they have no jitter."""
+    """Returns a network of so many links from one port of A over a wire to B, where they have no jitter."""
     links = [link(number, 1, [2], size=size, bag=128) for number in range(1, count + 1)]
     return network({"A": table(*links, ports=2, mbit=mbit), "B": table(*links, ports=2, mbit=mbit)}, "A.2 B.1")
 
 
 def a_hundred_lines() -> None:
-    """n - 1 of n frames of 6,720 ns go before the last one. 102 * 200 bytes at 10 Mbit/s, in frames of 64 bytes, take 1,050 ns each,
-    and one such frame 67,200 ns. The line after the hundredth says how many more rows there are."""
+    """Checks that the line after the hundredth says how many more rows there are. n - 1 of n frames of 6,720 ns go before the last one. 102
+    * 200 bytes at 10 Mbit/s, in frames of 64 bytes, take 1,050 ns each, and one such frame 67,200 ns."""
     for count, need, rest in ((100, 666, ""), (101, 672, "\nafdx: network J1 Jitter, and 1 more"),
                               (102, 679, "\nafdx: network J1 Jitter, and 2 more")):
         refuses("a hundred lines", short_lines("B", range(1, 101), need, 0) + rest, 4, network_model.check, many_rows(count, 64, 100))
@@ -494,8 +496,9 @@ def a_hundred_lines() -> None:
 
 
 def outages() -> None:
-    """The three switches in a row: what is left of their ways is as it is with nothing down, and the others bring nothing. A frame of each
-    link comes in at once, so that one of the two of a wire waits for the other, 6,720 ns; with the wire from A down none waits at B."""
+    """Checks the three switches in a row: what is left of their ways is as it is with nothing down, and the others bring nothing. A frame
+    of each link comes in at once, so that one of the two of a wire waits for the other, 6,720 ns; with the wire from A down none waits at
+    B."""
     name = "outages"
     tables, wires = row_of_three(), ["A.3 B.1", "B.3 C.1"]
     accepted = [f"switch {switch} accepted" for switch in "ABC"]
@@ -532,9 +535,9 @@ def outages() -> None:
 
 
 def one_line_each() -> None:
-    """Two links of 1518 bytes and three of 64 bytes at one end system. Over its line a frame comes at a time, and 999 ns of the next one:
-    without it 318,780 and 20,160 ns come at once. A frame whose stamp lacks 999 ns takes just that. What comes over the wire to B has exact
-    stamps."""
+    """Checks two links of 1518 bytes and three of 64 bytes at one end system. Over its line a frame comes at a time, and 999 ns of the next
+    one: without it 318,780 and 20,160 ns come at once. A frame whose stamp lacks 999 ns takes just that. What comes over the wire to B has
+    exact stamps."""
     name, large = "one line each", {"A": table(link(1, 1, [2], size=1518), link(2, 1, [2], size=1518), ports=2)}
     for one_line, most in ((False, 318_780), (True, 124_039)):
         says(name, network(large, one_line=one_line), "switch A accepted", *["premise one_line"] * one_line,
@@ -553,8 +556,9 @@ def one_line_each() -> None:
 
 
 def lines_broken() -> None:
-    """A frame of 64 bytes takes 6,720 ns, one of 1518 bytes 123,040. Stamps may lack 999 of them, but not once more for each frame; frames
-    of no link count too. Faults of captures go first, and what comes to a switch that is down is not looked at."""
+    """Checks that frames that come too soon over a line are refused. A frame of 64 bytes takes 6,720 ns, one of 1518 bytes 123,040. Stamps
+    may lack 999 of them, but not once more for each frame; frames of no link count too. Faults of captures go first, and what comes to a
+    switch that is down is not looked at."""
     name, tables = "lines broken", {"A": table(link(1, 1, [4]), link(2, 2, [4]), link(3, 1, [4]))}
     net = network(tables, one_line=True)
     same(name, left(run(net, A1=capture((1, 0), (3, 5_721))), "A", 4), [(1, 6_720), (3, 13_440)])

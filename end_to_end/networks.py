@@ -73,7 +73,7 @@ class Plan:
         self.wires.append(Wire(place, start, end, self.chance.choice(self.drawn.delays)))
 
     def cable(self, name: str, other: str) -> None:
-        """Both directions, at one speed."""
+        """Lays a cable: both directions, at one speed."""
         tick = self.chance.choice(self.drawn.trunks)
         here, there = self.port(name, tick), self.port(other, tick)
         self.wire(here, there)
@@ -84,13 +84,13 @@ class Plan:
         self.wire(self.port(name, tick), self.port(other, tick))
 
     def end_systems(self, least: int, most: int) -> None:
-        """So many more at each switch."""
+        """Adds so many more at each switch."""
         for name in self.names:
             self.open += [self.port(name, self.chance.choice(self.drawn.lines)) for _ in range(self.chance.randint(least, most))]
 
 
 def draw_plan(chance: Random, drawn: Range) -> Plan:
-    """A tree of cables or a ring, if it is tied always that, in one direction or in both; each switch has a few end systems."""
+    """Draws a tree of cables or a ring, if it is tied always that, in one direction or in both; each switch has a few end systems."""
     plan = Plan(chance, drawn)
     plan.end_systems(0, 1)  # whose ports come before those of wires, where frames come in at one instant
     if drawn is TIED or chance.random() < 0.4:
@@ -105,7 +105,7 @@ def draw_plan(chance: Random, drawn: Range) -> Plan:
 
 
 def reach(plan: Plan, name: str) -> dict[str, Wire | None]:
-    """The wire on which each other switch is reached from this one, by fewest wires."""
+    """Returns the wire on which each other switch is reached from this one, by fewest wires."""
     found: dict[str, Wire | None] = {name: None}
     near = [name]
     while near:
@@ -116,7 +116,7 @@ def reach(plan: Plan, name: str) -> dict[str, Wire | None]:
 
 
 def rows_of(plan: Plan, source: End, ends: list[End]) -> dict[str, tuple[int, set[int]]]:
-    """For each switch on the way: where the link comes in, and the ports at which it leaves."""
+    """Returns, for each switch on the way, where the link comes in, and the ports at which it leaves."""
     by = reach(plan, source.switch)
     rows: dict[str, tuple[int, set[int]]] = {source.switch: (source.port, set())}
     for end in ends:
@@ -142,7 +142,7 @@ def draw_links(chance: Random, plan: Plan, tables: dict[str, model.Table]) -> No
 
 
 def draw_least(chance: Random, latency: int) -> int:
-    """What a switch with this latency takes at least: often the same, or nothing is known."""
+    """Draws what a switch with this latency takes at least: often the same, or nothing is known."""
     return 1000 * chance.choice([latency // 1000, 0, chance.randint(0, latency // 1000)])
 
 
@@ -159,7 +159,7 @@ def draw_network(chance: Random, drawn: Range, one_line: bool) -> Network:
 
 
 def accepted_network(chance: Random, drawn: Range, one_line: bool) -> Network:
-    """A network whose jitters a table can have."""
+    """Returns a network whose jitters a table can have."""
     while True:
         net = draw_network(chance, drawn, one_line)
         try:
@@ -174,7 +174,7 @@ def accepted_network(chance: Random, drawn: Range, one_line: bool) -> Network:
 
 
 def bursts(chance: Random, links: list[model.Link], at: int) -> Iterator[babblers.Frame]:
-    """All that full accounts pay for at one instant and more, then a frame now and again."""
+    """Yields all that full accounts pay for at one instant and more, then a frame now and again."""
     for link in links:
         for _ in range(chance.randint(1, 6)):
             yield at, 0, frame(link.id, link.max_size if chance.random() < 0.7 else 64)
@@ -183,7 +183,7 @@ def bursts(chance: Random, links: list[model.Link], at: int) -> Iterator[babbler
 
 
 def noise(chance: Random, net: Network, at: int) -> Iterator[babblers.Frame]:
-    """Frames of any link, cut, foreign, short and long ones."""
+    """Yields frames of any link, cut, foreign, short and long ones."""
     for _ in range(chance.randint(0, 6)):
         number, size = chance.choice(net.rows).link.id, chance.choice([18, 63, 64, 200, 1518, 1519])
         yield (at + chance.randint(0, MILLISECOND), chance.choice([0, 0, 0, 1]),
@@ -191,7 +191,7 @@ def noise(chance: Random, net: Network, at: int) -> Iterator[babblers.Frame]:
 
 
 def on_the_grid(chance: Random, links: list[model.Link], at: int) -> Iterator[babblers.Frame]:
-    """A few frames of each link, now and again, each at one of nine instants."""
+    """Yields a few frames of each link, now and again, each at one of nine instants."""
     for link in links:
         for number in range(chance.randint(4, 9)):
             for _ in range(chance.randint(1, 3)):
@@ -200,7 +200,8 @@ def on_the_grid(chance: Random, links: list[model.Link], at: int) -> Iterator[ba
 
 
 def over_one_line(port: model.Port, frames: list[babblers.Frame], unit: int) -> Iterator[babblers.Frame]:
-    """The frames as soon as the line can bring each, one after the other; their stamps are rounded down to whole units of so many ns."""
+    """Yields the frames as soon as the line can bring each, one after the other; their stamps are rounded down to whole units of so many
+    ns."""
     came: int | None = None
     for stamp, lacking, data in sorted(frames, key=lambda frame: frame[0]):
         time = (len(data) + model.CHECK_SEQUENCE + model.LINE_OVERHEAD) * port.tick
@@ -209,7 +210,7 @@ def over_one_line(port: model.Port, frames: list[babblers.Frame], unit: int) -> 
 
 
 def captures(chance: Random, net: Network, drawn: Range, one_line: bool) -> dict[End, bytes]:
-    """What comes in at each port; over one line each, if that is so."""
+    """Draws what comes in at each port; over one line each, if that is so."""
     at, unit = chance.choice(BEGINS), chance.choice([1, network_model.MICROSECOND])
     given: dict[End, bytes] = {}
     for end in network_model.open_ends(net):
@@ -221,7 +222,7 @@ def captures(chance: Random, net: Network, drawn: Range, one_line: bool) -> dict
 
 
 def drawn_network(number: int, chance: Random) -> tuple[Network, dict[End, bytes]]:
-    """A network, and what comes in; each third one is tied, and each second one says that end systems have one line each."""
+    """Draws a network, and what comes in; each third one is tied, and each second one says that end systems have one line each."""
     drawn, one_line = FREE if number % 3 else TIED, number % 2 == 0
     net = accepted_network(chance, drawn, one_line)
     return net, captures(chance, net, drawn, one_line)
@@ -231,7 +232,7 @@ def drawn_network(number: int, chance: Random) -> tuple[Network, dict[End, bytes
 
 
 def passed_at(net: Network, row: Row, text: bytes) -> list[model.Record]:
-    """The records of a source's capture that the row's account passes."""
+    """Returns the records of a source's capture that the row's account passes."""
     table, link = net.tables[row.switch], row.link
     passed: list[model.Arrival] = []
     for record in model.records_of(text, link.source):
@@ -242,7 +243,7 @@ def passed_at(net: Network, row: Row, text: bytes) -> list[model.Record]:
 
 
 def least_of(net: Network, row: Row, port: int, size: int) -> int:
-    """What a frame of this size takes at least, to the end of the way."""
+    """Returns what a frame of this size takes at least, to the end of the way, in ns."""
     rows, wires, _ = network_model.before(net, row)
     ports = [wire.start for wire in wires] + [End(row.switch, port)]
     lines = [(net.leasts[end.switch], network_model.port_of(net, end)) for end in ports]
@@ -276,7 +277,7 @@ def wrong_of(net: Network, given: dict[End, bytes], outcomes: dict[str, model.Ou
 
 
 def ties_of(net: Network, given: dict[End, bytes], outcomes: dict[str, model.Outcome]) -> int:
-    """How many frames come over a wire at the instant at which others come in at another port of the switch."""
+    """Counts the frames that come over a wire at the instant at which others come in at another port of the switch."""
     found = 0
     for name in net.names:
         texts = network_model.texts_at(net, name, given, network_model.brought(net, name, outcomes))
@@ -334,7 +335,7 @@ def answer(afdx: str, room: Path, *arguments: str) -> tuple[int, str, str]:
 
 
 def with_less_jitter(chance: Random, net: Network) -> Network:
-    """The network with less jitter in some rows, so that some may fall short."""
+    """Returns the network with less jitter in some rows, so that some may fall short."""
     less = copy.deepcopy(net)
     for row in less.rows:
         if chance.randrange(2):
@@ -343,7 +344,7 @@ def with_less_jitter(chance: Random, net: Network) -> Network:
 
 
 def in_an_outage(chance: Random, net: Network) -> Network:
-    """The network with a switch down, or a few wires, or both."""
+    """Returns the network with a switch down, or a few wires, or both."""
     cut = copy.deepcopy(net)
     if chance.random() < 0.5:
         cut.down = {chance.choice(net.names)}
@@ -353,7 +354,7 @@ def in_an_outage(chance: Random, net: Network) -> Network:
 
 
 def checked(net: Network) -> tuple[int, str, str]:
-    """What `check` is to answer."""
+    """Returns what `check` is to answer."""
     try:
         return 0, network_model.check(net), ""
     except model.Refused as refused:
@@ -361,7 +362,7 @@ def checked(net: Network) -> tuple[int, str, str]:
 
 
 def falls_short(afdx: str, chance: Random, room: Path, net: Network) -> Iterator[str]:
-    """Where the program names other rows than the model."""
+    """Says where the program names other rows than the model."""
     less = with_less_jitter(chance, net)
     lay_out(room, less, {})
     if answer(afdx, room, "check", "net.toml") != checked(less):
@@ -369,7 +370,7 @@ def falls_short(afdx: str, chance: Random, room: Path, net: Network) -> Iterator
 
 
 def broken(chance: Random, afdx: str | None, room: Path | None, net: Network) -> Iterator[str]:
-    """Where the program says something else than the model of frames that keep to no line, or either takes them."""
+    """Says where the program says something else than the model of frames that keep to no line, or either takes them."""
     given = captures(chance, net, FREE, False)
     try:
         network_model.run(net, given)
@@ -385,7 +386,8 @@ def broken(chance: Random, afdx: str | None, room: Path | None, net: Network) ->
 
 
 def wrong_in(cut: Network, net: Network, given: dict[End, bytes], outcomes: dict[str, model.Outcome]) -> Iterator[str]:
-    """What is wrong in an outage of a network: a way that is left is as it was and delivers, and nothing leaves at the end of another."""
+    """Says what is wrong in an outage of a network: a way that is left is as it was and delivers, and nothing leaves at the end of
+    another."""
     ends = network_model.ends_of(cut)
     lost = [(row, port) for row, port in ends if network_model.is_lost(cut, row)]
     lines = network_model.check(cut).splitlines()
@@ -401,7 +403,7 @@ def wrong_in(cut: Network, net: Network, given: dict[End, bytes], outcomes: dict
 
 
 def measured(net: Network, sites: network_answers.Sites, unchecked: bool) -> Iterator[tuple[list[str], str]]:
-    """What the commands say that put nothing, as lines and as rows."""
+    """Yields what the commands say that put nothing, as lines and as rows."""
     options = ["--unchecked"] if unchecked else []
     for command, said in network_answers.PRINTED.items():
         lines = said(net, sites, unchecked)
@@ -410,7 +412,7 @@ def measured(net: Network, sites: network_answers.Sites, unchecked: bool) -> Ite
 
 
 def differs(afdx: str, room: Path, net: Network, given: dict[End, bytes], outcomes: dict[str, model.Outcome]) -> Iterator[str]:
-    """Where the program says something else than the model."""
+    """Says where the program says something else than the model."""
     lay_out(room, net, given)
     sites = network_answers.sites_of(net, given, outcomes)
     wanted = [(["check", "net.toml"], network_model.check(net)), (["jitter", "net.toml"], network_model.jitter_lines(net)),
@@ -426,7 +428,7 @@ def differs(afdx: str, room: Path, net: Network, given: dict[End, bytes], outcom
 
 
 def strained(net: Network) -> Network:
-    """The network with no jitter past the sources, small buffers and little patience: frames are policed and lost at any switch."""
+    """Returns the network with no jitter past the sources, small buffers and little patience: frames are policed and lost at any switch."""
     tight = copy.deepcopy(net)
     for row in tight.rows:
         if network_model.row_before(tight, row):
@@ -438,7 +440,7 @@ def strained(net: Network) -> Network:
 
 
 def strains(afdx: str, room: Path, net: Network, given: dict[End, bytes]) -> Iterator[str]:
-    """Where the program measures something else than the model, of frames that are lost on their way."""
+    """Says where the program measures something else than the model, of frames that are lost on their way."""
     tight = strained(net)
     lay_out(room, tight, given)
     sites = network_answers.sites_of(tight, given, network_answers.outcomes_of(tight, given, True))
@@ -453,7 +455,7 @@ def strains(afdx: str, room: Path, net: Network, given: dict[End, bytes]) -> Ite
 
 
 def within_of(net: Network, given: dict[End, bytes], outcomes: dict[str, model.Outcome]) -> Iterator[str]:
-    """Where a delay from end to end lies beside what is promised of its way."""
+    """Says where a delay from end to end lies beside what is promised of its way."""
     for line in network_answers.measure(net, network_answers.sites_of(net, given, outcomes), False).splitlines():
         words = line.split()
         if words[0] == "link" and words[7] != "0" and not int(words[13]) <= int(words[9]) <= int(words[11]) <= int(words[15]):

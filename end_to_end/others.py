@@ -11,7 +11,7 @@ import model
 
 
 def frames(path: Path, number: int) -> dict[int, list[bytes]]:
-    """The frames of a capture by their links, without this link."""
+    """Returns the frames of a capture by their links, without this link."""
     links: dict[int, list[bytes]] = {}
     for record in model.records_of(path.read_bytes(), 0):
         links.setdefault(int.from_bytes(record.data[4:6], "big"), []).append(record.data)
@@ -20,7 +20,7 @@ def frames(path: Path, number: int) -> dict[int, list[bytes]]:
 
 
 def captures(folder: Path) -> list[Path]:
-    """The names of the captures in a folder and below it."""
+    """Returns the names of the captures in a folder and below it."""
     return sorted(path.relative_to(folder) for path in folder.rglob("*") if path.is_file())
 
 

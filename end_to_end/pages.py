@@ -20,7 +20,7 @@ ENDINGS = (".md", ".py", ".sh", ".rt", ".antt", ".edit", ".c")
 
 
 def there() -> set[str]:
-    """The files and folders of the repository, but for what programs make."""
+    """Returns the files and folders of the repository, but for what programs make."""
     names: set[str] = set()
     for folder, folders, files in os.walk(TOP):
         folders[:] = [name for name in folders if name not in ("out", ".git", "__pycache__")]
@@ -41,7 +41,7 @@ def is_there(word: str, folder: Path, names: set[str]) -> bool:
 
 
 def anchors(page: Path) -> set[str]:
-    """The sections of a page, as links name them."""
+    """Returns the sections of a page, as links name them."""
     heads = re.findall(r"^#+ (.*)$", page.read_text(encoding="utf-8"), re.M)
     return {re.sub(r"[^\w\- ]", "", head.lower()).replace(" ", "-") for head in heads}
 

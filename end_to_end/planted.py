@@ -28,7 +28,7 @@ def later(record: model.Record, by: int) -> model.Record:
 
 
 def swapped(records: list[model.Record], place: int) -> list[model.Record]:
-    """Two records of a link change their places, and keep the instants of these."""
+    """Returns the records with two of a link in each other's places, at the instants of these."""
     first = records[place]
     other = next(after for after in range(place + 1, len(records)) if records[after].data[:6] == first.data[:6])
     changed = list(records)
@@ -38,7 +38,7 @@ def swapped(records: list[model.Record], place: int) -> list[model.Record]:
 
 
 def planted(kind: str, records: list[model.Record], place: int, by: int, came: list[model.Record]) -> list[model.Record]:
-    """The records with the fault, by rising stamp."""
+    """Returns the records with the fault, by rising stamp."""
     if kind == "lost":
         return records[:place] + records[place + 1:]
     if kind == "doubled":

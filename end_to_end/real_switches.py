@@ -23,7 +23,7 @@ MOST_ROUNDS = 64  # copies take another time each time, so that a ring need not 
 
 
 def queued(net: Network, number: int, end: End, frames: Iterable[model.Arrival]) -> Iterator[tuple[int, int, model.Arrival]]:
-    """The frames of a port, each as it comes to the queue: those of a link in their order, those of different links in any."""
+    """Yields the frames of a port, each as it comes to the queue: those of a link in their order, those of different links in any."""
     least, scatter = net.leasts[end.switch], network_model.scatter_of(net, end.switch)
     last: dict[int, int] = {}
     for place, frame in enumerate(frames):
@@ -36,7 +36,7 @@ def queued(net: Network, number: int, end: End, frames: Iterable[model.Arrival])
 
 
 def left_of(net: Network, number: int, end: End, arrivals: list[model.Arrival]) -> bytes:
-    """The capture of a port."""
+    """Returns the capture of a port."""
     port = dataclasses.replace(network_model.port_of(net, end), latency=0)
     frames = [arrival for arrival in arrivals if arrival.passed and arrival.link and end.port in arrival.link.to]
     events = model.service(port, [frame for _, _, frame in sorted(queued(net, number, end, frames), key=lambda entry: entry[:2])])
@@ -44,7 +44,7 @@ def left_of(net: Network, number: int, end: End, arrivals: list[model.Arrival]) 
 
 
 def run_switch(net: Network, number: int, name: str) -> Callable[[model.Table, dict[int, bytes]], model.Outcome]:
-    """A function like model.run, of this switch."""
+    """Returns a function like model.run, of this switch."""
     def run(table: model.Table, texts: dict[int, bytes]) -> model.Outcome:
         arrivals = model.arrivals_of(table, texts)
         outcome = model.Outcome({port.id: left_of(net, number, End(name, port.id), arrivals) for port in table.ports})
@@ -57,7 +57,7 @@ def run_switch(net: Network, number: int, name: str) -> Callable[[model.Table, d
 
 
 def run_network(net: Network, number: int, given: dict[End, bytes]) -> dict[str, model.Outcome] | None:
-    """What comes out of each switch; None where that does not come to rest."""
+    """Returns what comes out of each switch; None where that does not come to rest."""
     came: dict[str, dict[int, bytes]] = {}
     outcomes: dict[str, model.Outcome] = {}
     for _ in range(MOST_ROUNDS):

@@ -25,7 +25,7 @@ def frames_of(path: Path, port: int) -> list[model.Record]:
 
 
 def lay_line(port: int) -> None:
-    """A line whose ends are `end-K` and `switch-K`; what is sent at the one comes in at the other."""
+    """Lays a line whose ends are `end-K` and `switch-K`; what is sent at the one comes in at the other."""
     pair = [f"end-{port}", f"switch-{port}"]
     subprocess.run(["ip", "link", "add", pair[0], "type", "veth", "peer", "name", pair[1]], check=True)
     for name in pair:
@@ -60,7 +60,7 @@ def send(arrivals: list[tuple[int, model.Record]]) -> None:
 
 
 def is_recorded(sent: list[model.Record], path: Path) -> bool:
-    """Whether these frames are in the capture, in order; the system's own frames may lie between them."""
+    """Returns whether these frames are in the capture, in order; the system's own frames may lie between them."""
     try:
         recorded = iter([record.data for record in frames_of(path, 0)])
     except model.Refused:  # it is being written

@@ -41,7 +41,7 @@ def frame(link: int, end_system: int, size: int, number: int) -> bytes:
 
 
 def wanted(switch: str, port: int, table: dict[str, Any], chance: Random) -> list[Send]:
-    """What an end system would send, most times one frame in each gap."""
+    """Draws what an end system would send, most times one frame in each gap."""
     sends: list[Send] = []
     for link in (link for link in table["link"] if link["from"] == port):
         gap, number = link["bag_ms"] * 1_000_000, 0
@@ -54,7 +54,7 @@ def wanted(switch: str, port: int, table: dict[str, Any], chance: Random) -> lis
 
 
 def sent(sends: list[Send], network: str, tick: int, chance: Random) -> list[Record]:
-    """What comes of it on a network, one frame after the other on the line; stamped when it has wholly come."""
+    """Returns what comes of it on a network, one frame after the other on the line; stamped when it has wholly come."""
     records: list[Record] = []
     free, late = 0, 0 if network == "A" else 20_000 + chance.randrange(10_000)
     for at, link, number, data in sends:
@@ -83,12 +83,12 @@ def with_check_sequence(records: list[Record]) -> list[Record]:
 
 
 def starts(records: list[Record], tick: int) -> list[Record]:
-    """Stamped when a frame begins."""
+    """Returns the records, stamped when a frame begins."""
     return [replace(one, stamp=one.stamp - one.size * tick) for one in records]
 
 
 def by_third_clock(records: list[Record]) -> list[Record]:
-    """As the third recorder stamps them: a stamp from which the rules of the test lead back to the true one."""
+    """Returns the records as the third recorder stamps them: with a stamp from which the rules of the test lead back to the true one."""
     changed: list[Record] = []
     for one in records:
         first = records[0].stamp + OFFSET
@@ -100,7 +100,7 @@ def by_third_clock(records: list[Record]) -> list[Record]:
 
 
 def reordered(records: list[Record], chance: Random) -> list[Record]:
-    """Here and there a record, but not the first one, is written 40 records later than it came."""
+    """Moves a record here and there, but not the first one, so that it is written 40 records later than it came."""
     for index in range(1, len(records) - 40):
         if chance.random() < 0.03:
             records.insert(index + 40, records.pop(index))
@@ -108,7 +108,7 @@ def reordered(records: list[Record], chance: Random) -> list[Record]:
 
 
 def pcapng(interfaces: dict[str, list[Record]]) -> bytes:
-    """One recording of several lines, by their names."""
+    """Returns one recording of several lines, by their names."""
     rows = sorted((one.stamp, number, one.data) for number, records in enumerate(interfaces.values()) for one in records)
     records = [captures.Record(stamp, data, interface=number) for stamp, number, data in rows]
     return captures.pcapng(records, list(interfaces), options=captures.option("<", 1, b"run 1") + bytes(4))
@@ -119,7 +119,7 @@ def zstd(data: bytes) -> bytes:
 
 
 def make_truth(folder: Path) -> None:
-    """The end systems' captures of both networks, and what the switches make of them."""
+    """Writes the end systems' captures of both networks, and what the switches make of them."""
     chance = random.Random(1)
     for switch in SWITCHES:
         table = tomllib.loads((AIRCRAFT / f"{switch}.toml").read_text(encoding="utf-8"))

@@ -24,7 +24,7 @@ def network_records(port: int) -> list[model.Record]:
 
 
 def record(stamp: int, data: bytes) -> model.Record:
-    """A record of a whole frame."""
+    """Returns a record of a whole frame."""
     return model.Record(stamp, len(data), data)
 
 
@@ -33,14 +33,14 @@ def frame(link: int, size: int) -> bytes:
 
 
 def write(path: Path, records: list[model.Record]) -> None:
-    """A little-endian nanosecond capture that keeps the original lengths, as editcap writes it."""
+    """Writes a little-endian nanosecond capture that keeps the original lengths, as editcap writes it."""
     text = captures.HEADER + b"".join(captures.record(one.stamp, one.data, one.original) for one in records)
     path.parent.mkdir(parents=True, exist_ok=True)
     path.write_bytes(text)
 
 
 def write_table(path: Path, ports: list[int], links: list[tuple[int, int, int, int, int]]) -> None:
-    """Ports at 100 Mbit/s; links as (number, from, to, jitter in us, largest size), of BAG 1 ms."""
+    """Writes a table of ports at 100 Mbit/s and of links as (number, from, to, jitter in us, largest size), of BAG 1 ms."""
     rows = [f"[[port]]\nid = {port}\nmbit = 100\nbuffer = 100000\nmax_delay_us = 500000\n\n" for port in ports]
     rows += [f"[[link]]\nid = {link}\nfrom = {source}\nto = [{to}]\nbag_ms = 1\njitter_us = {jitter}\n"
              f"max_size = {size}\npriority = \"low\"\n\n" for link, source, to, jitter, size in links]
@@ -49,7 +49,7 @@ def write_table(path: Path, ports: list[int], links: list[tuple[int, int, int, i
 
 
 def network_with_clocks_apart(folder: Path) -> None:
-    """The example network; port 2 has a recorder of its own, whose clock is ahead."""
+    """Writes the example network; port 2 has a recorder of its own, whose clock is ahead."""
     shutil.copy(NETWORK / "table.toml", folder)
     for port in PORTS:
         ahead = 1_500_000 if port == 2 else 0
@@ -61,7 +61,7 @@ def network_with_clocks_apart(folder: Path) -> None:
 
 
 def one_link(jitter: int, stamps: list[int]) -> Callable[[Path], None]:
-    """Link 10 alone, of 1000 bytes and BAG 1 ms, at these instants."""
+    """Returns a function that writes link 10 alone, of 1000 bytes and BAG 1 ms, at these instants."""
 
     def make(folder: Path) -> None:
         write_table(folder / "table.toml", [1, 2], [(10, 1, 2, jitter, 1000)])
@@ -88,8 +88,8 @@ def stamps_of_starts(folder: Path) -> None:
 
 
 def what_left(folder: Path) -> None:
-    """Link 10 through a switch that takes 8 to 12 us for a frame. The recorder at the output is ahead, and was ended 0.1 s sooner; 0.5 s
-    after the first frame it lost one."""
+    """Writes link 10 through a switch that takes 8 to 12 us for a frame. The recorder at the output is ahead, and was ended 0.1 s sooner;
+    0.5 s after the first frame it lost one."""
     write_table(folder / "table.toml", [1, 2], [(10, 1, 2, 20, 1000)])
     table = (folder / "table.toml").read_text(encoding="utf-8")
     (folder / "table.toml").write_text("version = 3\nlatency_us = 16\n\n" + table, encoding="utf-8")

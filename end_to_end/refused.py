@@ -19,18 +19,19 @@ WANT = (5, b"", b"afdx: memory\n")
 
 
 def names() -> list[Path]:
-    """The files of the folder `out` in the order in which they are put: by folder, and by rising port number."""
+    """Returns the files of the folder `out` in the order in which they are put: by folder, and by rising port number."""
     found = [path for path in Path("out").rglob("*") if path.is_file()]
     return sorted(found, key=lambda path: (path.parent, int("0" + re.sub(r"\D", "", path.stem)), path.name))
 
 
 def files() -> Files:
-    """What is there."""
+    """Returns the bytes of the files that are there, by their paths."""
     return {str(path): path.read_bytes() for path in names()}
 
 
 def answer(library: str, number: int, source: str, sink: str, arguments: list[str]) -> tuple[Said, Files, bool]:
-    """Status, standard output, standard error, files; and whether an allocation was refused."""
+    """Runs the program, whose allocation of this number is refused. Returns status, standard output, standard error, files; and whether an
+    allocation was refused."""
     for path in names():
         path.unlink()
     heard, say = os.pipe()
@@ -48,7 +49,7 @@ def answer(library: str, number: int, source: str, sink: str, arguments: list[st
 
 
 def are_a_prefix(found: Files, right: Files) -> bool:
-    """Whether the files are the first of those that are right."""
+    """Returns whether the files are the first of those that are right."""
     return list(found.items()) == list(right.items())[:len(found)]
 
 

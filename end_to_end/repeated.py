@@ -17,7 +17,7 @@ AT_ONCE = 64  # times in one part
 
 
 def second_places(text: bytes, order: str) -> Any:
-    """The places of the records' seconds, which are at their starts, counted from the end of the capture's header."""
+    """Returns the places of the records' seconds, which are at their starts, counted from the end of the capture's header."""
     places: list[int] = []
     at = 0
     for _, _, captured, _, _ in rows_of(text, order):
@@ -27,7 +27,7 @@ def second_places(text: bytes, order: str) -> Any:
 
 
 def parts(capture: Path, times: int, period: int) -> Iterator[bytes]:
-    """The text of the repeated capture, in parts."""
+    """Yields the text of the repeated capture, in parts."""
     text = capture.read_bytes()
     yield text[:len(HEADER)]
     order, _ = form_of(text)
@@ -60,7 +60,7 @@ def check(capture: Path, times: int, period: int, name: Path) -> None:
 
 
 def told(line: str, times: int, period: int) -> list[str]:
-    """What a line of `afdx survey` that is told of one time is of all of them: counts add up, and spells come again."""
+    """Returns what a line of `afdx survey` that is told of one time is of all of them: counts add up, and spells come again."""
     words = line.split(" ")
     if "early" in words:  # link V policed N from T to T early E to E
         begin, end = int(words[5]), int(words[7])

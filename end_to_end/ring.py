@@ -37,7 +37,7 @@ def network() -> str:
 
 
 def frames(count: int) -> dict[str, list[int]]:
-    """Of each switch, what comes in at port 2: the first frame at C, then one at A, B, C and so on."""
+    """Returns, of each switch, what comes in at port 2: the first frame at C, then one at A, B, C and so on."""
     came: dict[str, list[int]] = {name: [] for name in LINKS}
     came["C"].append(0)
     for step in range(count - 1):

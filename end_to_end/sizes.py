@@ -14,7 +14,7 @@ import model
 
 
 def draw(chance: Random) -> model.Table:
-    """A network some of whose ports may have a slow line, a small buffer or a short delay."""
+    """Draws a network some of whose ports may have a slow line, a small buffer or a short delay."""
     table = babblers.draw_network(chance)
     for port in table.ports:
         port.tick = chance.choice([8, 80, 800])
@@ -29,7 +29,7 @@ def answers(program: str, command: str, path: Path) -> tuple[int, str]:
 
 
 def verdict_of(line: str) -> str:
-    """Answers the end of a port's line: `fits`, or the rules that it breaks."""
+    """Returns the end of a port's line: `fits`, or the rules that it breaks."""
     return line[line.rindex(" breaks "):].strip() if " breaks " in line else line.split()[-1]
 
 

@@ -11,7 +11,7 @@ from pathlib import Path
 
 
 def steps_of(page: str) -> Iterator[tuple[str, int, str, str]]:
-    """(name of the section, number in it, commands, what they print)"""
+    """Yields (name of the section, number in it, commands, what they print) of each step of a page."""
     for section in re.split(r"^## ", page, flags=re.M)[1:]:
         name = re.sub(r"[^a-z0-9]+", "_", section.split("\n", 1)[0].lower()).strip("_")
         blocks = re.findall(r"^```sh\n(.*?)^```\n(?:\n```text\n(.*?)^```\n)?", section, flags=re.M | re.S)

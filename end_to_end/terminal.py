@@ -43,7 +43,7 @@ def received(terminal: int) -> bytes:
 
 
 def has_read(process: int) -> int:
-    """How many bytes a process has read by calls of the system."""
+    """Returns how many bytes a process has read by calls of the system."""
     words = Path(f"/proc/{process}/io").read_text(encoding="ascii").split()
     return int(words[words.index("rchar:") + 1])
 
@@ -58,7 +58,8 @@ def pause(command: subprocess.Popen[bytes], seconds: float) -> None:
 
 
 def screen(sent: str) -> list[str]:
-    """The lines of a terminal that was sent this text: a carriage return goes to a line's begin, and ERASE erases it from there on."""
+    """Returns the lines of a terminal that was sent this text: a carriage return goes to a line's begin, and ERASE erases it from there
+    on."""
     lines = []
     for line in sent.split("\r\n"):
         shown: list[str] = []

@@ -72,8 +72,8 @@ class Told:
         return found[1]
 
     def frames(self, row: Row, port: int) -> tuple[int, list[int]]:
-        """How many frames of a way's link the first switch passed, and how long each took that left at the end. In an accepted network
-        the n-th of these is the n-th of those; else each is the next of its bytes."""
+        """Returns how many frames of a way's link the first switch passed, and how long each took that left at the end. In an accepted
+        network the n-th of these is the n-th of those; else each is the next of its bytes."""
         first = network_model.whole_way(self.net, row)[0][0]
         came = passed_at(self.net, first, self.given[End(first.switch, first.link.source)])
         left = [record for record in self.left[End(row.switch, port)] if int.from_bytes(record.data[4:6], "big") == row.link.id]
@@ -83,7 +83,7 @@ class Told:
         return len(came), [last.stamp - next(one.stamp for one in rest if one.data == last.data) for last in left]
 
     def way(self, row: Row, port: int) -> list[str]:
-        """The cells of a way, but for its slack."""
+        """Returns the cells of a way, but for its slack."""
         first = network_model.whole_way(self.net, row)[0][0]
         passed, delays = self.frames(row, port)
         least, greatest = (grouped(str(found(delays))) if delays else "-" for found in (min, max))
@@ -97,7 +97,7 @@ class Told:
         return [*cells, grouped(most), grouped(floor), ports, jitters]
 
     def ways(self) -> list[list[str]]:
-        """The rows of all ways: first of those with nothing down, then of the ends of the others; of a run that is unchecked those
+        """Returns the rows of all ways: first of those with nothing down, then of the ends of the others; of a run that is unchecked those
         that frames took."""
         up, lost = ([pair for pair in network_model.ends_of(self.net) if network_model.is_lost(self.net, pair[0]) == is_lost]
                     for is_lost in (False, True))
@@ -108,7 +108,7 @@ class Told:
 
 
 def check_ways(page: Any, told: Told) -> int:
-    """Each way has its row, and those that sent have a picture with their numbers."""
+    """Checks that each way has its row, and that those that sent have a picture with their numbers. Returns how many ways there are."""
     wanted = told.ways()
     cells = page.execute_script(ROWS, "all")
     shown = [row[:9] + row[11:] if told.checked else row[:8] for row in cells]
@@ -128,7 +128,7 @@ def check_ways(page: Any, told: Told) -> int:
 
 
 def check_switches(page: Any, told: Told) -> None:
-    """Each switch has a section, and what its links sent is what the report says of its ports."""
+    """Checks that each switch has a section, and that what its links sent is what the report says of its ports."""
     for switch in told.net.names:
         sent: dict[str, int] = {}
         for name, port, many in SENT.findall(told.report):
@@ -148,7 +148,7 @@ def check_names(page: Any) -> None:
 
 
 def near(point: list[float], box: list[float]) -> bool:
-    """Whether a point is at the border of a box."""
+    """Returns whether a point is at the border of a box."""
     (x, y), (left, top, right, bottom) = point, box
     within = left - NEAR <= x <= right + NEAR and top - NEAR <= y <= bottom + NEAR
     return within and min(abs(x - left), abs(x - right), abs(y - top), abs(y - bottom)) <= NEAR

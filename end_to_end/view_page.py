@@ -127,14 +127,14 @@ def grouped(word: str) -> str:
 
 
 def compared(options: argparse.Namespace) -> list[tuple[str, ...]]:
-    """The lines `link` of compare."""
+    """Returns the lines `link` of compare."""
     command = [os.environ["AFDX"], "compare", options.table, options.folder, options.recorded, *options.compare]
     said = subprocess.run(command, capture_output=True, text=True, check=False)
     return [match.groups() for match in map(COMPARED.fullmatch, said.stdout.splitlines()) if match]
 
 
 def recorded_row(line: tuple[str, ...], model: tuple[str, ...]) -> list[str]:
-    """The cells of a link at a port that was recorded, but for which part of its bound it took."""
+    """Returns the cells of a link at a port that was recorded, but for which part of its bound it took."""
     link, port, passed, seen, *kinds, before, after, unsure, least, greatest, bound = line
     verdict = "differs" if any(many != "0" for many in kinds) else "conforms"
     numbers = [*model[3:], least, greatest, bound, passed, seen, *kinds, before, after, unsure]
@@ -142,7 +142,7 @@ def recorded_row(line: tuple[str, ...], model: tuple[str, ...]) -> list[str]:
 
 
 def check_recordings(page: Any, options: argparse.Namespace, rows: list[tuple[str, ...]]) -> None:
-    """Each link at each port that was recorded, and each difference up to 50 of a port, has its row and its mark."""
+    """Checks that each link at each port that was recorded, and each difference up to 50 of a port, has its row and its mark."""
     models = {row[:2]: row for row in rows}
     wanted = [recorded_row(line, models[line[:2]]) for line in compared(options)]
     cells = page.execute_script(ROWS, "compared")
@@ -179,7 +179,7 @@ def check_picture(page: Any, row: tuple[str, ...], width: int) -> None:
 
 
 def check_sorting(page: Any, rows: list[tuple[str, ...]]) -> None:
-    """By each column that has numbers, up and down; what is no number stays last."""
+    """Checks sorting by each column that has numbers, up and down; what is no number stays last."""
     for column in (0, 7, 8, 9, 10):
         for turn, name in ((False, "ascending"), (True, "descending")):
             expect(f"column {column} says {name}", page.execute_script(HEADING, column) == name)
@@ -190,7 +190,7 @@ def check_sorting(page: Any, rows: list[tuple[str, ...]]) -> None:
 
 
 def touching(texts: list[Box]) -> str | None:
-    """The first two texts of a group that share a place."""
+    """Returns the first two texts of a group that share a place."""
     for place, (name, left, top, right, bottom) in enumerate(texts):
         for other, other_left, other_top, other_right, other_bottom in texts[:place]:
             if left < other_right and other_left < right and top < other_bottom and other_top < bottom:
@@ -199,7 +199,7 @@ def touching(texts: list[Box]) -> str | None:
 
 
 def check_places(page: Any, width: int) -> None:
-    """Nothing touches or has to be looked for at the side."""
+    """Checks that nothing touches or has to be looked for at the side."""
     first = page.execute_script(FIRST, FIRST_COLUMNS[width])
     expect(f"the verdict is in {width} px: {first}", first["verdict"][0] >= 0 and first["verdict"][1] <= width)
     expect(f"so are the first columns: {first}", first["right"] <= width)
@@ -211,18 +211,19 @@ def check_places(page: Any, width: int) -> None:
 
 
 def parts_of(colour: str) -> list[float]:
-    """Red, green and blue, up to 1, of a colour that the browser names."""
+    """Returns red, green and blue, up to 1, of a colour that the browser names."""
     return [int(part) / 255 for part in re.findall(r"\d+", colour)[:3]]
 
 
 def brightness(colour: str) -> float:
-    """The relative luminance of a colour."""
+    """Returns the relative luminance of a colour."""
     red, green, blue = (part / 12.92 if part <= 0.04045 else math.pow((part + 0.055) / 1.055, 2.4) for part in parts_of(colour))
     return 0.2126 * red + 0.7152 * green + 0.0722 * blue
 
 
 def check_colours(page: Any, scheme: str) -> None:
-    """Each text stands out from its paper, which is as light or as dark as was asked for; the verdict has its kind's colour."""
+    """Checks that each text stands out from its paper, which is as light or as dark as was asked for, and that the verdict has its kind's
+    colour."""
     page.execute_cdp_cmd("Emulation.setEmulatedMedia", {"features": [{"name": "prefers-color-scheme", "value": scheme}]})
     for text, ink, paper in page.execute_script(COLOURS, COLOURED):
         over, under = sorted((brightness(ink), brightness(paper)), reverse=True)
@@ -234,7 +235,7 @@ def check_colours(page: Any, scheme: str) -> None:
 
 
 def check_print(page: Any) -> None:
-    """Each row of each table is in the PDF, cell by cell, as often as it is on the page."""
+    """Checks that each row of each table is in the PDF, cell by cell, as often as it is on the page."""
     page.refresh()  # no heading has the mark of sorting
     printed = base64.b64decode(page.execute_cdp_cmd("Page.printToPDF", {"preferCSSPageSize": True})["data"])
     text = subprocess.run(["pdftotext", "-raw", "-", "-"], input=printed, capture_output=True, check=True).stdout.decode()

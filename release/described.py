@@ -21,12 +21,12 @@ class Row:
 
     @property
     def names(self) -> list[str]:
-        """Answers the names of an option, the short one first."""
+        """Returns the names of an option, the short one first."""
         return re.findall(r"(?:^|, )(-{1,2}[\w-]+)", self.head)
 
     @property
     def values(self) -> list[str]:
-        """Answers what the help calls the values of an argument or an option."""
+        """Returns what the help calls the values of an argument or an option."""
         last = self.head.split(", ")[-1]
         return [value.strip("<>") for value in last.split() if not value.startswith("-")]
 
@@ -45,7 +45,7 @@ class Command:
 
     @property
     def page(self) -> str:
-        """Answers the name of its man page."""
+        """Returns the name of its man page."""
         return self.name.replace(" ", "-")
 
     def whole(self) -> Iterator["Command"]:

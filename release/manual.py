@@ -39,7 +39,7 @@ def items(rows: list[Row]) -> list[str]:
 
 
 def parts(text: str) -> Iterator[tuple[str, str]]:
-    """Parts a paragraph by section: what a mark begins has one of its own, all else describes."""
+    """Splits a paragraph by section: what a mark begins has one of its own, all else describes."""
     for mark, section in MARKS:
         if found := mark.search(text):
             yield "DESCRIPTION", text[:found.start()].strip()

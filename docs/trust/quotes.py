@@ -84,7 +84,7 @@ def paragraphs(text: str) -> list[str]:
 
 
 def defined_in(file: str) -> dict[str, str]:
-    """The definitions of a file by their names: each is a paragraph, with the comment above it."""
+    """Returns the definitions of a file by their names: each is a paragraph, with the comment above it."""
     found: dict[str, str] = {}
     for part in paragraphs(read(file)):
         first = next(filter(BEGIN.match, part.split("\n")), "")
@@ -94,7 +94,7 @@ def defined_in(file: str) -> dict[str, str]:
 
 
 def owner_of(file: str, name: str) -> str:
-    """The definition that a name of a file belongs to: itself, or the type that it constructs."""
+    """Returns the definition that a name of a file belongs to: itself, or the type that it constructs."""
     definitions = defined_in(file)
     for other, text in definitions.items():
         if re.search(r"^pub data ", text, re.M) and re.search(rf"^  {re.escape(name)} : ", text, re.M):
@@ -109,7 +109,7 @@ def without_comments(text: str, mark: str) -> str:
 
 
 def imports(text: str, keyword: str) -> dict[str, str]:
-    """What `use` lines bring: each word with the path of what it stands for."""
+    """Returns what `use` lines bring: each word with the path of what it stands for."""
     brought: dict[str, str] = {}
     for path, names in re.findall(rf"^\s*{keyword} (Rattle\.[\w.]+?)\.\{{([^}}]*)\}}", text, re.M):
         for name in names.split(","):
@@ -121,7 +121,7 @@ def imports(text: str, keyword: str) -> dict[str, str]:
 
 
 def other_names(text: str, keyword: str) -> Names:
-    """The words that `use` lines bring for what has another name."""
+    """Returns the words that `use` lines bring for what has another name."""
     groups = re.findall(rf"^\s*{keyword} Rattle\.[\w.]+?\.\{{([^}}]*)\}}", text, re.M)
     others = [name.partition(" as ")[2].strip() for names in groups for name in names.split(",")]
     others += re.findall(rf"^\s*{keyword} Rattle\.[\w.]+ as (\w+)", text, re.M)
@@ -129,15 +129,15 @@ def other_names(text: str, keyword: str) -> Names:
 
 
 def words_of(text: str) -> Names:
-    """The words of a definition or clause that may name another one: all but the fields. A bound name counts as well, so that
-    more may be found than is named, and never less."""
+    """Returns the words of a definition or clause that may name another one: all but the fields. A bound name counts as well, so that more
+    may be found than is named, and never less."""
     text = re.sub(rf"^ *(?:pub )?{WORD} : ", "", text, flags=re.M)
     text = re.sub(rf"(^ *|[{{;] ){WORD} (?:=|←) ", r"\1", text, flags=re.M)
     return set(re.findall(rf"(?<![\w.'])({WORD})", text))
 
 
 def place_of(path: str) -> Place | None:
-    """The file and the name of what a path stands for; none where it is the kit's."""
+    """Returns the file and the name of what a path stands for; none where it is the kit's."""
     parts = path.split(".")
     crate = TOP / "crates" / parts[1]
     if not crate.is_dir() or parts[2] != "specs":
@@ -190,14 +190,14 @@ def named(words: Names, brought: dict[str, str], here: dict[str, Place], kit: Na
 
 
 def head_of(lines: list[str], start: int) -> int:
-    """The first line of the docstring and attributes above an item."""
+    """Returns the place of the first line of the docstring and attributes above an item."""
     while start > 0 and re.match(r" *(///|#\[)", lines[start - 1]):
         start -= 1
     return start
 
 
 def item_at(lines: list[str], start: int) -> list[str]:
-    """The lines of a type, a trait or an impl that begins here, with the docstring and attributes above it."""
+    """Returns the lines of a type, a trait or an impl that begins here, with the docstring and attributes above it."""
     end = start
     if not lines[start].endswith((";", "}")):
         while not lines[end].startswith("}"):
@@ -206,7 +206,7 @@ def item_at(lines: list[str], start: int) -> list[str]:
 
 
 def contract_at(lines: list[str], start: int) -> list[str]:
-    """The lines of a function that begins here, but for its body."""
+    """Returns the lines of a function that begins here, but for its body."""
     end = start
     while not lines[end].lstrip().startswith("{"):
         end += 1
@@ -215,7 +215,7 @@ def contract_at(lines: list[str], start: int) -> list[str]:
 
 
 def rust_item(file: str, name: str) -> str:
-    """A type or trait, a function's docstring and contract, that of TYPE.FUNCTION, or TYPE.Model, as it is in a file."""
+    """Returns a type or trait, a function's docstring and contract, that of TYPE.FUNCTION, or TYPE.Model, as it is in a file."""
     lines = read(file).split("\n")
     type_name, _, model = name.partition(".")
     if model == "Model":
@@ -233,7 +233,7 @@ def rust_item(file: str, name: str) -> str:
 
 
 def rust_imports(file: str) -> dict[str, tuple[Path, list[str]]]:
-    """The types that `use` lines bring: the crate and the modules of each."""
+    """Returns the types that `use` lines bring: the crate and the modules of each."""
     brought: dict[str, tuple[Path, list[str]]] = {}
     crate = TOP / file.split("/src/")[0]
     for path, names in re.findall(r"^use ([\w:]+)::\{?([\w, ]+)\}?;", read(file), re.M):
@@ -267,7 +267,7 @@ def uses_of_item(file: str, name: str, kit: Names, others: Names) -> set[Place]:
 
 
 def types_in(file: str, name: str, code: str) -> set[Place]:
-    """The types that a reader meets in a signature or in public fields: of one that contracts see otherwise, what they see."""
+    """Returns the types that a reader meets in a signature or in public fields: of one that contracts see otherwise, what they see."""
     if name.endswith(".Model"):
         shown = "\n".join(re.findall(r"^    pub .*$", rust_item(file, name[:-len(".Model")]), re.M))
     else:
@@ -280,7 +280,7 @@ def types_in(file: str, name: str, code: str) -> set[Place]:
 
 
 def has(file: str, name: str) -> bool:
-    """Whether a file of the repository has this definition or item."""
+    """Returns whether a file of the repository has this definition or item."""
     try:
         return name in defined_in(file) if file.endswith(".antt") else bool(rust_item(file, name))
     except Missing:
@@ -288,7 +288,8 @@ def has(file: str, name: str) -> bool:
 
 
 def home_of(file: str, name: str) -> str:
-    """The file itself where it has the name; else the one file of its crate, or of all crates, that has it."""
+    """Returns the file itself where it has the name; else the one file of its crate, or of all crates, that has it. Raises Missing if none
+    or several have."""
     if has(file, name):
         return file
     crate, kind = file.split("/")[1], "specs/**/*.antt" if file.endswith(".antt") else "src/**/*.rt"
@@ -306,12 +307,13 @@ def home_of(file: str, name: str) -> str:
 
 
 def contracts() -> list[Place]:
-    """The functions of ROOTS, each with its file."""
+    """Returns the functions of ROOTS, each with its file."""
     return [(home_of(f"crates/{crate}/src/lib.rt", name), name) for crate, name in ROOTS]
 
 
 def closure(roots: Iterable[Place]) -> tuple[dict[Place, set[Place]], Names, Names]:
-    """Each thing that the roots name, directly or not, the kit's words among them, and the words that are other names."""
+    """Returns each thing that the roots name, directly or not, with what it names; the kit's words among these; and the words that are
+    other names."""
     kit: Names = set()
     others: Names = set()
     seen: dict[Place, set[Place]] = {}
@@ -346,21 +348,21 @@ def quoted(file: str, names: list[str]) -> str:
 
 
 def code_lines(file: str, name: str) -> list[str]:
-    """The lines of a definition or of an item, without comments, attributes and blank lines."""
+    """Returns the lines of a definition or of an item, without comments, attributes and blank lines."""
     text, mark = (defined_in(file)[name], "--") if file.endswith(".antt") else (rust_item(file, name), "//")
     return [line for line in without_comments(text, mark).split("\n") if line.strip() and not line.startswith("#[")]
 
 
 def counted(mark: re.Match[str]) -> str:
-    """A count as it is to be written."""
+    """Returns a count as it is to be written."""
     seen, _, _ = closure([(home_of(mark["file"], mark["name"]), mark["name"])])
     lines = sum(len(code_lines(file, name)) for file, name in seen)
     return f"<!-- count {mark['file']} {mark['name']} -->{len(seen)} definitions, {lines} lines<!-- end -->"
 
 
 def rewritten(page: str) -> tuple[str, list[Place], list[str]]:
-    """The page with each quote as its source has it, what is quoted, and what is wrong. A quote follows what has moved to
-    another file, and becomes several if only a part has."""
+    """Returns the page with each quote as its source has it, what is quoted, and what is wrong. A quote follows what has moved to another
+    file, and becomes several if only a part has."""
     there: list[Place] = []
     wrong: list[str] = []
 
@@ -381,7 +383,7 @@ def rewritten(page: str) -> tuple[str, list[Place], list[str]]:
 
 
 def judged(there: list[Place], needed: Iterable[Place]) -> list[str]:
-    """What is wrong with a choice of quotes."""
+    """Returns what is wrong with a choice of quotes."""
     wrong = [f"not quoted: {file} {name}" for file, name in sorted(set(needed) - set(there))]
     seen_types = {(file, name.removesuffix(".Model")) for file, name in needed}
     wrong += [f"quoted, but nothing rests on it: {file} {name}" for file, name in sorted(set(there) - set(needed) - seen_types)]
@@ -389,7 +391,7 @@ def judged(there: list[Place], needed: Iterable[Place]) -> list[str]:
 
 
 def without_meaning(pages: list[str], kit: Names) -> list[str]:
-    """The words of the kit that no table explains."""
+    """Returns a line for each word of the kit that no table explains."""
     explained: Names = set()
     for page in pages:
         for mark in KIT.finditer(page):
@@ -400,7 +402,7 @@ def without_meaning(pages: list[str], kit: Names) -> list[str]:
 
 
 def unexplained(pages: list[str], others: Names) -> list[str]:
-    """The other names that are in backticks on no page."""
+    """Returns a line for each other name that is in backticks on no page."""
     prose = "\n".join(re.sub(r"^```.*?^```$", "", page, flags=re.M | re.S) for page in pages)
     return [f"another name, which no page explains: {name}" for name in sorted(others) if f"`{name}`" not in prose]
 

@@ -30,7 +30,7 @@ def drawn() -> str:
 
 
 def shown(svg: str) -> tuple[list[str], list[float]]:
-    """Answers its words, and the numbers of its places and paths."""
+    """Returns its words, and the numbers of its places and paths."""
     words: list[str] = []
     numbers: list[float] = []
     for element in xml.etree.ElementTree.fromstring(svg).iter():

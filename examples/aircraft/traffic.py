@@ -28,7 +28,7 @@ PORTS: dict[tuple[str, int], tuple[int, list[Link]]] = {
 
 
 def instants_of(link: int, first: int, period: int) -> list[int]:
-    """When a link's frames are sent; the camera's account cannot pay for most of what it babbles."""
+    """Returns the instants at which a link's frames are sent; the camera's account cannot pay for most of what it babbles."""
     regular = list(range(first, LENGTH, period))
     if link != 401:
         return regular
@@ -46,7 +46,7 @@ def wanted_frames(port: int, links: list[Link]) -> list[Frame]:
 
 
 def capture(port: int, tick: int, links: list[Link]) -> bytes:
-    """Frames one after the other on one line."""
+    """Returns a capture of a port's frames, one after the other on one line."""
     text = struct.pack("<IHHiIII", 0xA1B23C4D, 2, 4, 0, 0, 262_144, 1)
     free = 0
     for sent in wanted_frames(port, links):

@@ -47,7 +47,7 @@ class Frame:
 
 
 def frame(link: int, port: int, size: int, number: int) -> bytes:
-    """An AFDX frame of at least 64 bytes: addresses, IPv4 to the link's group, UDP, and the sequence number."""
+    """Returns an AFDX frame of at least 64 bytes: addresses, IPv4 to the link's group, UDP, and the sequence number."""
     datagram = struct.pack(">4H", 1000 + link, 1000 + link, size - 39, 0)
     datagram += bytes((number + at) & 255 for at in range(size - 47))
     head = struct.pack(">BBHHHBBH4B4B", 0x45, 0, 20 + len(datagram), number, 0, 1, 17, 0,
@@ -61,7 +61,7 @@ def frame(link: int, port: int, size: int, number: int) -> bytes:
 
 
 def wanted_frames(port: int, chance: random.Random) -> list[Frame]:
-    """What the end system at this port wants to send."""
+    """Returns what the end system at this port wants to send."""
     frames: list[Frame] = []
     for link, first, period, delay, least, greatest in LINKS[port]:
         instants = [first + int(chance.random() * delay) + at for at in range(0, LENGTH - first, period)]
@@ -74,7 +74,7 @@ def wanted_frames(port: int, chance: random.Random) -> list[Frame]:
 
 
 def strangers(port: int) -> list[Frame]:
-    """Frames that the switch has to filter."""
+    """Returns frames that the switch has to filter."""
     if port == 1:  # address resolution: another constant field
         request = bytes.fromhex("ffffffffffff 020000000120 0806 0001 0800 06 04 0001").ljust(60, b"\0")
         return [Frame(50_100_000, request), Frame(150_100_000, request)]

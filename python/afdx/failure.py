@@ -25,18 +25,18 @@ class Failure(Exception):
 
 
 def failing(command: str, what: str, error: OSError) -> Failure:
-    """Answers the failure of a device call, with the system's own words."""
+    """Returns the failure of a device call, with the system's own words."""
     return Failure(DEVICE, f"{command}: {what}: {error.strerror or error}")
 
 
 def failing_of(command: str, error: OSError) -> Failure:
-    """Answers the failure of a device call of which no more is known than the error has."""
+    """Returns the failure of a device call of which no more is known than the error has."""
     what = "cannot go on" if error.filename is None else f"cannot read or write {error.filename}"
     return failing(command, what, error)
 
 
 def encoded(text: str) -> bytes:
-    """Answers a text as the locale has it, names of files by their own bytes; a text with signs that the locale lacks
+    """Returns a text as the locale has it, names of files by their own bytes; a text with signs that the locale lacks
     has these by their numbers."""
     try:
         return os.fsencode(text)
@@ -70,7 +70,7 @@ def say(command: str, text: str) -> None:
 
 
 def run(main: Callable[[Sequence[str]], int]) -> int:
-    """Runs a command over the program's arguments; answers its exit status, EX_SOFTWARE of sysexits.h after a defect.
+    """Runs a command over the program's arguments; returns its exit status, EX_SOFTWARE of sysexits.h after a defect.
 
     Python's own status would be 1, which of some commands means that something was found.
     """
@@ -90,7 +90,7 @@ def run(main: Callable[[Sequence[str]], int]) -> int:
 
 
 def written(main: Callable[[Sequence[str]], int]) -> int:
-    """Answers the exit status of a command, once all that it printed is written."""
+    """Returns the exit status of a command, once all that it printed is written."""
     try:
         status = main(sys.argv[1:])
     except SystemExit:  # after the help
@@ -101,7 +101,7 @@ def written(main: Callable[[Sequence[str]], int]) -> int:
 
 
 def ended(failure: Failure) -> int:
-    """Tells of a failure; answers its status."""
+    """Tells of a failure; returns its status."""
     tell(*failure.lines)
     with contextlib.suppress(OSError):
         sys.stdout.flush()

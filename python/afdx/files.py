@@ -13,7 +13,7 @@ from afdx.failure import failing
 
 
 def beside(path: Path) -> Path:
-    """Answers a name beside another one, for what is moved onto that once it is whole."""
+    """Returns a name beside another one, for what is moved onto that once it is whole."""
     return path.with_name(f".{path.name}.{secrets.token_hex(4)}")
 
 

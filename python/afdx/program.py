@@ -43,7 +43,7 @@ class Answer:
 
 
 def beside(package: Path) -> list[Path]:
-    """Answers where the program is if it came with this package: in its repository, in the folder of the .tar.gz, or
+    """Returns where the program is if it came with this package: in its repository, in the folder of the .tar.gz, or
     installed by the .deb."""
     tree = package.parents[1]
     installed = [tree.parent / "bin" / "afdx"] if tree.name == "share" else []
@@ -92,7 +92,7 @@ class Program:
             raise failing(self.progress.command, f"cannot run {self.file}", error) from error
 
     def wait(self, process: subprocess.Popen[bytes], what: str) -> tuple[bytes, bytes]:
-        """Answers what a process prints until it ends."""
+        """Returns what a process prints until it ends."""
         try:
             while True:
                 self.progress.say(what)
@@ -102,7 +102,7 @@ class Program:
             self.progress.clear()
 
     def answer(self, *arguments: str | os.PathLike[str]) -> str:
-        """Answers what the program prints; if it fails, its line and its status end the command."""
+        """Returns what the program prints; if it fails, its line and its status end the command."""
         answer = self.ask(*arguments)
         if answer.status:
             raise Failure(answer.status, answer.line)

@@ -12,7 +12,7 @@ class NotToml(Exception):
 
 
 def content(text: bytes) -> dict[str, Any]:
-    """Answers the content of a text, which may have a byte order mark. Raises NotToml."""
+    """Returns the content of a text, which may have a byte order mark. Raises NotToml."""
     try:
         return tomllib.loads(text.decode("utf-8-sig"))
     except (ValueError, RecursionError) as error:
@@ -20,7 +20,7 @@ def content(text: bytes) -> dict[str, Any]:
 
 
 def read(command: str, path: Path) -> dict[str, Any]:
-    """Answers the content of a file."""
+    """Returns the content of a file."""
     try:
         return content(files.get(command, path))
     except NotToml as error:

@@ -97,7 +97,7 @@ def await_number(path: Path) -> int:
 
 
 def ends(pid: int) -> bool:
-    """Answers whether a process ends within some seconds."""
+    """Returns whether a process ends within some seconds."""
     deadline = time.monotonic() + PATIENCE
     while is_running(pid) and time.monotonic() < deadline:
         time.sleep(0.01)
@@ -105,7 +105,7 @@ def ends(pid: int) -> bool:
 
 
 def is_running(pid: int) -> bool:
-    """Answers whether a process is there that has not ended."""
+    """Returns whether a process is there that has not ended."""
     try:
         return Path(f"/proc/{pid}/stat").read_text().rpartition(")")[2].split()[0] not in "ZX"
     except FileNotFoundError:

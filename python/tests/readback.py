@@ -6,7 +6,7 @@ from captures import Record
 
 
 def read(path: Path, piece: int = 4096) -> tuple[list[Record], Recording]:
-    """Answers the records, and the recording after its last one."""
+    """Returns the records, and the recording after its last one."""
     recording = Recording(path, path.name, piece)
     records = []
     for batch in recording.batches():

@@ -19,12 +19,13 @@ AT = 1_768_471_200 * SECOND
 
 
 def frame(link: int, count: int, size: int = 60) -> bytes:
-    """A frame whose only change is its sequence number, 1 to 255, as an AFDX sender has it."""
+    """Returns a frame whose only change is its sequence number, 1 to 255, as an AFDX sender has it."""
     return captures.frame(link, size + 3, end_system=1, network=0x20) + bytes([count % 255 + 1])
 
 
 def traffic(seconds: int, chance: random.Random) -> list[Record]:
-    """Ten links, of which each may send every 2 to 16 ms and mostly does, so that the same bytes come again."""
+    """Returns the frames of ten links, of which each may send every 2 to 16 ms and mostly does, so that the same bytes
+    come again."""
     sent = []
     for link in range(10):
         gap, count = (2, 4, 8, 16)[link % 4] * 10**6, 0
@@ -36,7 +37,7 @@ def traffic(seconds: int, chance: random.Random) -> list[Record]:
 
 
 def other(records: list[Record], offset: int, ppb: int, late: Callable[[], int]) -> list[Record]:
-    """What another recorder has of the same frames, if by its clock they come so much later."""
+    """Returns what another recorder has of the same frames, if by its clock they come so much later."""
     return [Record(one.stamp + offset + (one.stamp - AT) * ppb // SECOND + late(), one.frame) for one in records]
 
 
@@ -44,8 +45,8 @@ def other(records: list[Record], offset: int, ppb: int, late: Callable[[], int])
     (3, 37_200_000, 20_000, 0), (3, -1_500_000, 0, 1000), (30, 5 * SECOND, -50_000, 20_000),
     (30, -86_400 * SECOND, 99_000, 100)])
 def test_offset_and_drift_are_found(tmp_path: Path, seconds: int, offset: int, ppb: int, noise: int) -> None:
-    """Every third frame is missing at the second recorder, every fifth at the first. A median of hundreds of frames is
-    far better than one of them: to a tenth of the noise."""
+    """Checks offset and drift where every third frame is missing at the second recorder, every fifth at the first. A
+    median of hundreds of frames is far better than one of them: to a tenth of the noise."""
     chance = random.Random(seconds + ppb)
     sent = traffic(seconds, chance)
     (tmp_path / "a").write_bytes(captures.pcap([one for number, one in enumerate(sent) if number % 5]))
@@ -62,7 +63,7 @@ def test_offset_and_drift_are_found(tmp_path: Path, seconds: int, offset: int, p
 
 
 def test_one_mark(tmp_path: Path, capsys: pytest.CaptureFixture[str]) -> None:
-    """A single frame in both tells the offset alone."""
+    """Checks that a single frame in both tells the offset alone."""
     (tmp_path / "a").write_bytes(captures.pcap([Record(AT, frame(1, 1)), Record(AT + 5, frame(2, 1))]))
     (tmp_path / "b").write_bytes(captures.pcapng([Record(AT + 1_500_000, frame(1, 1))], ["x"]))
     assert main(["--align", str(tmp_path / "a"), str(tmp_path / "b")]) == 0
@@ -72,8 +73,9 @@ def test_one_mark(tmp_path: Path, capsys: pytest.CaptureFixture[str]) -> None:
 
 
 def test_where_the_drift_counts_from(tmp_path: Path, capsys: pytest.CaptureFixture[str]) -> None:
-    """It is said where there is a drift, so that the rules hold for B wherever it stands among the source's recordings:
-    B's second mark comes to the first recording's stamp, beside an earlier recording of B's source too."""
+    """Checks that the stamp from which it counts is said where there is a drift, so that the rules hold for B wherever
+    it stands among the source's recordings: B's second mark comes to the first recording's stamp, beside an earlier
+    recording of B's source too."""
     marks = [Record(AT + number * SECOND, frame(number, 1)) for number in (1, 2)]
     (tmp_path / "a").write_bytes(captures.pcap(marks))
     (tmp_path / "b").write_bytes(captures.pcap([marks[0], Record(marks[1].stamp + 20_000, marks[1].frame)]))
@@ -90,7 +92,7 @@ def test_where_the_drift_counts_from(tmp_path: Path, capsys: pytest.CaptureFixtu
 @pytest.mark.parametrize("name, shown", [(b"a\nb", "a\\nb"), (b"\xff", "\\udcff"), ("ä b".encode(), "ä b")])
 def test_names_that_no_comment_can_have(tmp_path: Path, capsys: pytest.CaptureFixture[str], name: bytes,
                                         shown: str) -> None:
-    """The rules that are printed are TOML all the same."""
+    """Checks that the rules that are printed are TOML all the same."""
     path = tmp_path / os.fsdecode(name)
     path.write_bytes(captures.pcap([Record(AT, frame(1, 1))]))
     assert main(["--align", str(path), str(path)]) == 0
@@ -100,7 +102,7 @@ def test_names_that_no_comment_can_have(tmp_path: Path, capsys: pytest.CaptureFi
 
 
 def test_a_recording_that_breaks_off(tmp_path: Path, capsys: pytest.CaptureFixture[str]) -> None:
-    """It is said, and what was whole before is used."""
+    """Checks that the break is said, and that what was whole before is used."""
     marks = [Record(AT + number, frame(number, 1)) for number in (1, 2)]
     (tmp_path / "a").write_bytes(captures.pcap(marks)[:-1])
     (tmp_path / "b").write_bytes(captures.pcap(marks))
@@ -134,7 +136,7 @@ def test_what_cannot_be_aligned(tmp_path: Path, a: list[Record], b: list[Record]
 
 
 def test_a_bounded_part_of_many_frames_is_kept() -> None:
-    """The same part of both recordings: what has low keys."""
+    """Checks that the part is the same of both recordings: what has low keys."""
     samplers = Sampler(), Sampler()
     numbers = np.random.default_rng(1).integers(0, 2**63, 3 * MOST_KEPT).astype(np.uint64) << np.uint64(1)
     for sampler, keys in zip(samplers, (numbers, numbers[::-1])):

@@ -14,7 +14,8 @@ def test_ranks(values: list[int]) -> None:
 
 @given(st.lists(st.integers(0, 20), min_size=2, max_size=40))
 def test_the_step_has_the_greatest_sum_of_signs(values: list[int]) -> None:
-    """Pettitt's statistic by its definition: of all pairs across a place, how many rise less how many fall."""
+    """Compares with Pettitt's statistic by its definition: of all pairs across a place, how many rise less how many
+    fall."""
     def signs(place: int) -> int:
         return abs(sum((left < right) - (left > right) for left in values[:place] for right in values[place:]))
 

@@ -24,7 +24,7 @@ COMMAND = str(Path(__file__).parents[1] / "bin" / "afdx-campaign")
 
 
 def test_the_code_of_a_worker_goes_along_by_value(tmp_path: Path) -> None:
-    """A Python that knows nothing of this package answers as this one does."""
+    """Checks that a Python that knows nothing of this package answers as this one does."""
     for module in (worker, files, dask):
         cloudpickle.register_pickle_by_value(module)
     here = task(tmp_path, root=str(tmp_path / "here"))
@@ -51,7 +51,7 @@ def test_jobs_have_all_tasks_once_and_no_more_bytes_than_a_job_may(tmp_path: Pat
 
 
 def test_slurm_gets_paths_as_they_are(tmp_path: Path, monkeypatch: pytest.MonkeyPatch) -> None:
-    """In `--output` a percent sign begins a pattern."""
+    """Checks that a percent sign is doubled in `--output`, where it begins a pattern."""
     root = tmp_path / os.fsdecode(b"100%j \xff")
     (tmp_path / "sbatch").write_text(f'#!/bin/sh\nprintf "%s\\n" "$@" >{tmp_path}/words\ncat >{tmp_path}/job\necho 7\n')
     (tmp_path / "sbatch").chmod(0o755)
@@ -69,7 +69,7 @@ def test_slurm_gets_paths_as_they_are(tmp_path: Path, monkeypatch: pytest.Monkey
     Mock(status="cancelled"),
 ])
 def test_a_try_that_went_with_the_scheduler_is_none(tmp_path: Path, future: Mock) -> None:
-    """It may go after the look at its status, too."""
+    """Checks that such a try is not counted, also where the scheduler goes after the look at its status."""
     window = dask.Window(Mock(), [task(tmp_path)], [], Options(tmp_path, "tcp://127.0.0.1:1", 1, 1.0, lambda *_: None))
     window.tries[0] = 1
     window.settle(0, future)
@@ -78,7 +78,7 @@ def test_a_try_that_went_with_the_scheduler_is_none(tmp_path: Path, future: Mock
 
 @pytest.mark.parametrize("need, most", [(33, 3), (34, 2), (50, 2), (51, 1), (1000, 1)])
 def test_tasks_share_the_memory_there_is(tmp_path: Path, monkeypatch: pytest.MonkeyPatch, need: int, most: int) -> None:
-    """By three threads and 100 bytes; a task that needs more runs alone."""
+    """Checks how many tasks run at once with three threads and 100 bytes; a task that needs more runs alone."""
     running: set[str] = set()
     seen: list[int] = []
     full = threading.Event()
@@ -102,7 +102,7 @@ def test_tasks_share_the_memory_there_is(tmp_path: Path, monkeypatch: pytest.Mon
 
 
 def test_no_more_threads_than_tasks(tmp_path: Path, monkeypatch: pytest.MonkeyPatch) -> None:
-    """Though there may be a million jobs at once."""
+    """Checks that no more threads are begun than there are tasks, though there may be a million jobs at once."""
     before, most = threading.active_count(), 0
 
     def work(_: Task) -> Outcome:

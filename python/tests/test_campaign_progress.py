@@ -8,7 +8,7 @@ from afdx.campaign.progress import lasting, speed
     (3_000_000, 6_000_000, 1.5, "2.0 MB/s, 3 s to go"), (0, 5, 1.0, "0.0 MB/s, - to go"),
     (1_000_000, 0, 0.0, "1000.0 MB/s, 0 s to go"), (1_000_000, 0, -0.5, "1000.0 MB/s, 0 s to go")])
 def test_speed(done: int, left: int, seconds: float, said: str) -> None:
-    """It is said though no time has passed, as by the clock of another machine."""
+    """Checks that the speed is said though no time has passed, as by the clock of another machine."""
     assert speed(done, left, seconds) == said
 
 

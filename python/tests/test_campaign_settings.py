@@ -46,7 +46,7 @@ def test_recordings_are_named_below_the_first_wildcard(tmp_path: Path) -> None:
 
 
 def test_a_table_without_ports(tmp_path: Path) -> None:
-    """afdx accepts it, and reads no capture."""
+    """Checks that the tasks of such a table are of no files: afdx accepts it, and reads no capture."""
     file = campaign(tmp_path)
     (tmp_path / "one.toml").write_text("version = 3\n")
     assert [task.recording.files for task in tasks_of(read_campaign(file))] == [(), ()]
@@ -65,7 +65,7 @@ def test_a_damaged_list_of_tasks(tmp_path: Path, text: str) -> None:
 
 
 def test_a_list_of_tasks_is_of_one_campaign_file(tmp_path: Path, capsys: pytest.CaptureFixture[str]) -> None:
-    """Another file is refused by all that read the list; one that changed is told."""
+    """Checks that another file is refused by all that read the list, and that one that changed is told."""
     file = campaign(tmp_path)
     put_plan(read_campaign(file), tasks_of(read_campaign(file)))
     other = tmp_path / "other.toml"

@@ -67,7 +67,7 @@ def drawn(chance: random.Random, about: dict[str, Any], begin: int, found: dict[
 
 @pytest.fixture(params=range(4))
 def campaign(request: pytest.FixtureRequest, tmp_path: Path) -> tuple[Path, list[Task], dict[str, pandas.DataFrame]]:
-    """Makes a campaign of two tables, with missing answers and faults; answers it with what is in the others."""
+    """Makes a campaign of two tables, with missing answers and faults; returns it with what is in the others."""
     chance = random.Random(request.param)
     found: dict[str, Rows] = {"ports": [], "babblers": [], "delays": [], "faults": []}
     tasks = []
@@ -111,7 +111,7 @@ def test_questions_against_pandas(campaign: Campaign) -> None:
 
 
 def rows(frame: pandas.DataFrame) -> list[tuple[Any, ...]]:
-    """Answers the rows in an order of their own; a gap is none."""
+    """Returns the rows in an order of their own; a gap is none."""
     return sorted(map(tuple, frame.astype(object).where(frame.notna(), None).values.tolist()), key=repr)
 
 
@@ -171,7 +171,7 @@ def test_the_store_is_of_the_answers_alone(campaign: Campaign) -> None:
 
 
 def contents(base: sqlite3.Connection) -> list[tuple[Any, ...]]:
-    """All rows, with the names of runs for their numbers."""
+    """Returns all rows, with the names of runs for their numbers."""
     found: list[tuple[Any, ...]] = []
     for table in ("links", "ports", "delays", "spells", "faults"):
         found += [(table, *row) for row in base.execute(
@@ -196,12 +196,12 @@ def test_rows_of_a_network_name_their_switch() -> None:
 
 
 def of_table(asked: Task, name: str, identity: str) -> Task:
-    """Answers the task under another table."""
+    """Returns the task under another table."""
     return replace(asked, table=Table(name, (), (), False, identity))
 
 
 def worst_bounds(root: Path, tasks: list[Task]) -> set[tuple[str, int]]:
-    """Answers each table's name with the bounds that the store has under it."""
+    """Returns each table's name with the bounds that the store has under it."""
     with collected(root, tasks) as base:
         return set(base.execute('select tables.name, bound from delays join runs on runs.id = run '
                                 'join tables on tables.id = runs."table"'))

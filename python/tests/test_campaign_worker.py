@@ -44,7 +44,7 @@ def test_faults_are_answers(tmp_path: Path, act: str, fault: str, status: int, l
 
 
 def test_a_child_may_end_as_its_time_does(monkeypatch: pytest.MonkeyPatch) -> None:
-    """Its time is over when it has ended and was not reaped yet."""
+    """Checks that a child's time is over when it has ended and was not reaped yet."""
     waitid = os.waitid
 
     def wait_longer(*arguments: int) -> os.waitid_result | None:
@@ -176,7 +176,7 @@ def test_a_killed_maker_leaves_no_scratch_folder_for_long(tmp_path: Path) -> Non
 
 
 def test_folders_of_others_beside_scratch_folders_stay(tmp_path: Path) -> None:
-    """Their names may begin with the command's."""
+    """Checks that such folders stay, though their names begin with the command's."""
     others = [tmp_path / name for name in ("afdx-campaign-results", "afdx-campaign-x1y2z3_4", "afdx-campaign")]
     for other in others:
         other.mkdir()

@@ -34,7 +34,7 @@ def test_copied(count: int, sizes: list[int], neighbours: float, shuffled: bool,
 
 
 def test_arranged() -> None:
-    """By hand: three records, the last one first."""
+    """Compares with what was arranged by hand: three records, the last one first."""
     text, at = arranged(b"aabbbc", np.array([2, 3, 1]), np.array([2, 0, 1]))
     assert (bytes(text), at.tolist()) == (b"caabbb", [0, 1, 3, 6])
 
@@ -43,5 +43,5 @@ def test_arranged() -> None:
     ([76, 76, 60], [(60, 60), (76, 76)]), (list(range(16, 31)) * 2, [(size, size) for size in range(16, 31)]),
     (range(16, 100), [(16, 32), (33, 66), (67, 99)]), ([*range(20, 40), 100], [(20, 39), (100, 100)])])
 def test_ranges(lengths: list[int], ranges: list[tuple[int, int]]) -> None:
-    """Few lengths are taken one by one; of many, none in a range is more than twice another."""
+    """Checks that few lengths are taken one by one, and that of many none in a range is more than twice another."""
     assert ranges_of(np.array(lengths)) == ranges

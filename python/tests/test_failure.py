@@ -93,7 +93,7 @@ def test_a_failure(tmp_path: Path) -> None:
 
 
 def test_a_defect(tmp_path: Path) -> None:
-    """It is told apart from status 1, which means that something was found."""
+    """Checks that a defect is told apart from status 1, which means that something was found."""
     process = begun(tmp_path, DEFECT)
     assert "ZeroDivisionError" in process.communicate()[1]
     assert process.returncode == 70
@@ -110,7 +110,8 @@ def test_a_device_that_fails_is_no_defect(tmp_path: Path, what: str, said: str) 
 
 
 def test_words_that_the_locale_lacks(tmp_path: Path) -> None:
-    """They are told by their numbers; of a name of a file are its own bytes."""
+    """Checks that characters that the locale lacks are told by their numbers, and bytes of a name of a file as they
+    are."""
     for words, told in ((r"'K\u00fcche \u65e5'", rb"K\xfcche \u65e5"), ("os.fsdecode(bytes([255]))", b"\xff")):
         environment = {"LC_ALL": "C", "PYTHONUTF8": "0", "PYTHONCOERCECLOCALE": "0"}
         done = subprocess.run([sys.executable, "-c", FAILING.format(f"raise Failure(3, {words})")], cwd=tmp_path,
@@ -120,7 +121,7 @@ def test_words_that_the_locale_lacks(tmp_path: Path) -> None:
 
 @pytest.mark.parametrize("number", [signal.SIGINT, signal.SIGTERM, signal.SIGHUP])
 def test_a_signal(tmp_path: Path, number: signal.Signals) -> None:
-    """Nothing is left and nothing is printed, though it comes twice."""
+    """Checks that nothing is left and nothing is printed, though the signal comes twice."""
     with begun(tmp_path, COMMAND) as process:
         assert process.stdout and process.stdout.readline() == "there\n"
         process.send_signal(number)
@@ -137,7 +138,7 @@ def test_a_signal_while_pandas_reads(tmp_path: Path) -> None:
 
 
 def test_a_signal_while_a_program_is_begun(tmp_path: Path) -> None:
-    """The program is ended all the same."""
+    """Checks that the program that was being begun is ended all the same."""
     program = tmp_path / "afdx"
     program.write_text('#!/bin/sh\necho $$ >process\nkill -TERM $PPID\nexec sleep 60\n')
     program.chmod(0o755)
@@ -163,7 +164,7 @@ sys.exit(run(main))
 
 
 def ended(folder: Path, redirection: str, *arguments: str, unbuffered: str = "") -> tuple[int, str]:
-    """Answers the status and standard error of the printing command, of which a shell redirected the streams."""
+    """Returns the status and standard error of the printing command, of which a shell redirected the streams."""
     environment = {"PYTHONPATH": str(Path(__file__).parents[1]), "PATH": os.environ["PATH"],
                    "PYTHONUNBUFFERED": unbuffered}
     words = ["sh", "-c", f'exec "$@" {redirection}', "sh", sys.executable, "-c", PRINTING, *arguments]
@@ -178,13 +179,13 @@ def ended(folder: Path, redirection: str, *arguments: str, unbuffered: str = "")
                                               (">/dev/full", "No space left on device")])
 def test_an_output_that_takes_nothing(tmp_path: Path, redirection: str, why: str, arguments: tuple[str, ...],
                                       unbuffered: str) -> None:
-    """It is a device that failed, whether the command printed its answer or its help."""
+    """Checks that the failure is that of a device, whether the command printed its answer or its help."""
     status, said = ended(tmp_path, redirection, *arguments, unbuffered=unbuffered)
     assert (status, said) == (5, f"-c: cannot write standard output: {why}\n")
 
 
 def test_an_error_stream_that_takes_nothing(tmp_path: Path) -> None:
-    """The status is as with one."""
+    """Checks that the status is as with an error stream that takes all."""
     code = FAILING.format("raise Failure(3, 'command: one')")
     with open("/dev/full", "wb") as full:
         done = subprocess.run([sys.executable, "-c", code], cwd=tmp_path, stderr=full,
@@ -194,7 +195,7 @@ def test_an_error_stream_that_takes_nothing(tmp_path: Path) -> None:
 
 @pytest.mark.parametrize("redirection", ["2>&-", "<&- 2>&-"])
 def test_an_error_stream_that_is_closed(tmp_path: Path, redirection: str) -> None:
-    """The status is as with one."""
+    """Checks that the status is as with an error stream that is open."""
     assert ended(tmp_path, redirection) == (1, "")
     assert ended(tmp_path, redirection, "--no-such-option") == (2, "")
 

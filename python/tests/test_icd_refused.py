@@ -72,7 +72,7 @@ def rows(good: dict[str, str], bad: list[tuple[str, str, str]]) -> str:
 
 
 def refusal(paths: list[Path], *options: str) -> Failure:
-    """Answers how the command ends for these lists, which has to be before it writes anything."""
+    """Returns how the command ends for these lists, which has to be before it writes anything."""
     net = paths[0].parent / "net"
     with pytest.raises(Failure) as ended:
         command.main([*map(str, paths), str(net), *options])
@@ -160,7 +160,8 @@ ONCE, TWICE = "C,9,Bx,9,100,0\n", "Bx,10,A,9,100,0\n"
     (ONCE, "", [("switch_b", 5)]), (TWICE, "", [("switch_a", 5)]), (ONCE + TWICE, "", []), (ONCE, "B2,Bx,1,100\n", [])])
 def test_a_switch_that_one_cable_alone_names(
         tmp_path: Path, wires: str, ends: str, places: list[tuple[str, int]]) -> None:
-    """Each switch has a table, and no link can cross this one. With two cables, or an end system, it may be right."""
+    """Checks that a switch is warned of if one cable alone names it. Each switch has a table, and no link can cross
+    this one; with two cables, or an end system, it may be right."""
     paths = worked_lists.write(tmp_path, ends=worked_lists.ENDS + ends, wires=worked_lists.WIRES + wires)
     complaints = Complaints()
     network.read(lists_of("afdx-icd", paths, mapping.read("afdx-icd", None), complaints))
@@ -219,7 +220,8 @@ def test_missing_columns_of_all_lists_at_once(tmp_path: Path) -> None:
 
 
 def test_other_headings_of_columns_that_have_to_be_there(tmp_path: Path) -> None:
-    """The heading that may be meant is named; a column that the mapping names wrongly is only said to be missing."""
+    """Checks that the heading that may be meant is named; a column that the mapping names wrongly is only said to be
+    missing."""
     links = worked_lists.LINKS.replace("bag_ms", "BAG [ms]").replace("jitter_us", "Jitter")
     paths, path = worked_lists.write(tmp_path, links), tmp_path / "map.toml"
     meant = "no such column, {} may be it: the mapping has to name it"
@@ -236,7 +238,8 @@ def test_other_headings_of_columns_that_have_to_be_there(tmp_path: Path) -> None
     (2, "delay_ns", "delay [ns]"), (2, "delay_ns", "delay\nns"), (2, "delay_ns", "DELAY-ns"), (2, "delay_ns", "delay"),
     (2, "delay_ns", "delay_ns/ns"), (2, "delay_ns", "delay_ns*")])
 def test_another_heading_of_a_column_that_may_be_missing(tmp_path: Path, order: int, column: str, heading: str) -> None:
-    """Without the column all links would be policed by bytes, all cables without delay: the mapping has to say it."""
+    """Checks that the mapping has to name such a column, or to say that there is none: without it all links would be
+    policed by bytes, all cables without delay."""
     lists = [worked_lists.LINKS, worked_lists.ENDS, worked_lists.WIRES]
     lists[order] = lists[order].replace(column, f'"{heading}"')
     paths, path = worked_lists.write(tmp_path, *lists), tmp_path / "map.toml"
@@ -251,7 +254,8 @@ def test_another_heading_of_a_column_that_may_be_missing(tmp_path: Path, order: 
 
 
 def test_headings_that_are_no_column(tmp_path: Path) -> None:
-    """A name beside the numbers of links may be called as it likes, and words may stand before a name."""
+    """Checks that a name beside the numbers of links may be called as it likes, and that words may stand before a
+    name."""
     heading = "id,name (long),from,to,bag_ms,jitter_us,max_size,payload of UDP,priority,no police,remark to via"
     paths = worked_lists.write(tmp_path, worked_lists.LINKS.replace(worked_lists.LINKS.splitlines()[0], heading))
     found = lists_of("afdx-icd", paths, mapping.read("afdx-icd", None), Complaints())

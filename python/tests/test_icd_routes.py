@@ -13,7 +13,7 @@ NAMES = "ABCDEFGH"
 
 
 def network_of(pairs: Iterable[tuple[str, str]]) -> Network:
-    """Answers switches with cables between these, each at the next free ports."""
+    """Returns switches with cables between these, each at the next free ports."""
     network, used = Network(switches=set(NAMES)), dict.fromkeys(NAMES, 0)
     for ends in pairs:
         for name in ends:
@@ -63,7 +63,7 @@ def test_no_way(targets: str, via: str, what: str) -> None:
 
 
 def hops(pairs: Iterable[tuple[str, str]], source: str) -> dict[str, int]:
-    """Answers how many cables each switch is away, by rounds of relaxation."""
+    """Returns how many cables each switch is away, by rounds of relaxation."""
     away = {source: 0}
     for _ in NAMES:
         for a, b in [*pairs, *((b, a) for a, b in pairs)]:

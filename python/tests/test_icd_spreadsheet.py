@@ -23,7 +23,7 @@ def read(path: Path, text: bytes) -> list[Row]:
 
 
 def workbook(rows: list[list[object]], *merged: str) -> bytes:
-    """Answers a workbook of these rows, in which these ranges are merged."""
+    """Returns a workbook of these rows, in which these ranges are merged."""
     book, text = openpyxl.Workbook(), io.BytesIO()
     for row in rows:
         book.active.append(row)
@@ -34,7 +34,7 @@ def workbook(rows: list[list[object]], *merged: str) -> bytes:
 
 
 def changed(book: bytes, part: str, texts: dict[bytes, bytes]) -> bytes:
-    """Answers a workbook in one part of which each of these texts, which has to be there, is another."""
+    """Returns a workbook in one part of which each of these texts, which has to be there, is another."""
     source, text = zipfile.ZipFile(io.BytesIO(book)), io.BytesIO()
     with zipfile.ZipFile(text, "w") as made:
         for name in source.namelist():
@@ -100,7 +100,8 @@ def test_merged_cells_have_the_value_of_the_first(tmp_path: Path) -> None:
 
 
 def test_formulas_without_a_saved_value(tmp_path: Path) -> None:
-    """The second has an empty text as its value, the third a number; the last two do not say where they are."""
+    """Checks that such formulas are told from values. The second has an empty text as its value, the third a number;
+    the last two do not say where they are."""
     text = workbook([["id", "to", "=A1"], [1, "=A1", "=2+3"], [], ["=A2", "=B2"]], "C2:C4")
     sheet = "xl/worksheets/sheet1.xml"
     saved = {b'<c r="B2">': b'<c r="B2" t="str">', b"<f>2+3</f>": b"<f>2+3</f><v>5</v>", b'<c r="A4">': b"<c>",
@@ -120,7 +121,8 @@ def test_formulas_without_a_saved_value(tmp_path: Path) -> None:
     ('<calcPr calcId="191029" fullCalcOnLoad="0"/>', False, True),
     ("", False, True)])
 def test_formulas_that_no_program_has_computed(tmp_path: Path, said: str, chain: bool, is_computed: bool) -> None:
-    """XlsxWriter saves 0 with them, unless it is given another value; a 0 without a formula is one."""
+    """Checks that what was saved with such formulas is no value. XlsxWriter saves 0 with them, unless it is given
+    another value; a 0 without a formula is one."""
     text = workbook([["id", "jitter_us"], [0, "=A2+1"], [0, "=A3+2"], [0, '="0"']])
     text = changed(text, "xl/worksheets/sheet1.xml", {
         b"<f>A2+1</f>": b"<f>A2+1</f><v>0</v>", b"<f>A3+2</f>": b"<f>A3+2</f><v>2</v>",
@@ -143,8 +145,8 @@ ARRAY = "=E2:E3*2"
     ("<v>0</v>", 0, ARRAY, ARRAY), ("<v>7</v>", 0, "7", ARRAY), ("<v>7</v>", 3, "7", "3"), ("", None, ARRAY, ARRAY)])
 def test_the_formula_of_an_array_that_no_program_has_computed(tmp_path: Path, value: str, other: object, own: str,
                                                               others: str) -> None:
-    """It stands in its first cell alone. XlsxWriter saves 0 in all, or a value in those for which it is given one;
-    openpyxl saves no value."""
+    """Checks all cells of the array. The formula stands in its first cell alone. XlsxWriter saves 0 in all, or a value
+    in those for which it is given one; openpyxl saves no value."""
     text = workbook([["id", "x", "jitter_us", ""], [1, "=E2", other, 8], [2, other, other, 8], [3, 0, 0, 8]])
     text = changed(text, "xl/worksheets/sheet1.xml", {
         b"<f>E2</f><v></v>": f'<f t="array" ref="B2:C3">{ARRAY[1:]}</f>{value}'.encode()})
@@ -165,7 +167,7 @@ NO_XLSX = "a spreadsheet that is no .xlsx: save it as .xlsx or .csv"
 
 def test_a_workbook_with_lists_to_choose_from_is_read_without_a_warning(
         tmp_path: Path, recwarn: pytest.WarningsRecorder) -> None:
-    """openpyxl warns that it would not save them."""
+    """Checks that the warning of openpyxl, that it would not save them, is not seen."""
     choices = b'</sheetData><extLst><ext uri="{CCE6A557-97BC-4b89-ADB6-D9C93CAAB3DF}"/></extLst>'
     text = changed(workbook([["id"], [1]]), "xl/worksheets/sheet1.xml", {b"</sheetData>": choices})
     assert read(tmp_path / "list.xlsx", text) == [Row(1, ["id"]), Row(2, ["1"])]

@@ -82,7 +82,7 @@ network.toml switches 3 {0}
 
 
 def made(paths: list[Path], net: Path, *options: str) -> dict[str, bytes]:
-    """Runs the command, which has to end well; answers the files of its folder."""
+    """Runs the command, which has to end well; returns the files of its folder."""
     assert command.main([*map(str, paths), str(net), *options]) == 0
     return {path.name: path.read_bytes() for path in sorted(net.iterdir())}
 
@@ -113,7 +113,7 @@ def test_a_second_run_changes_nothing(tmp_path: Path, capfdbinary: pytest.Captur
 
 
 def test_a_switch_that_one_cable_alone_names(tmp_path: Path, capsys: pytest.CaptureFixture[str]) -> None:
-    """It is made, with a warning."""
+    """Checks that the table of such a switch is made, with a warning."""
     paths = worked_lists.write(tmp_path, wires=worked_lists.WIRES + "C,9,Bx,9,100,0\n")
     assert list(made(paths, tmp_path / "net")) == ["A.toml", "B.toml", "Bx.toml", "C.toml", "network.toml"]
     assert capsys.readouterr().err == (

@@ -39,7 +39,8 @@ class Folder:
     capsys: pytest.CaptureFixture[str]
 
     def run(self, rules: str, **recordings: bytes) -> tuple[int, list[str], list[str]]:
-        """Imports; answers the status and the lines of standard output and standard error."""
+        """Imports the recordings by these rules and returns the status and the lines of standard output and standard
+        error."""
         (self.path / "raw").mkdir(exist_ok=True)
         for name, text in recordings.items():
             (self.path / "raw" / name.replace("_", ".")).write_bytes(text)
@@ -67,7 +68,8 @@ TWO = '[[source]]\nfile = "b.pcap"\nto = "port-2"\n'
 
 
 def test_one_recording(folder: Folder) -> None:
-    """In microseconds, big-endian, one frame cut, two frames exchanged: a line, and the capture to the byte."""
+    """Compares the line, and the capture to the byte: in microseconds, big-endian, one frame cut, two frames
+    exchanged."""
     first, second, third = frame(fill=1), frame(fill=2, size=64), frame(fill=3)
     records = [Record(AT + 3000, second, 99), Record(AT + 1000, first), Record(AT + 9000, third)]
     recording = captures.pcap(records, ">", 1000)
@@ -133,7 +135,7 @@ def test_check_sequences(folder: Folder, fcs: str, got: list[Record], word: str,
 
 
 def test_check_sequences_of_some_frames(folder: Folder) -> None:
-    """Of each interface what most of its first frames have is done to all, and said."""
+    """Checks that of each interface what most of its first frames have is done to all, and said."""
     left = [Record(AT + number, frame(fill=number)) for number in range(5)]
     right = [Record(AT + 10 + number, data, interface=1)
              for number, data in enumerate([bytes(64), checked(frame(fill=1)), checked(frame(fill=2))])]
@@ -148,7 +150,7 @@ def test_check_sequences_of_some_frames(folder: Folder) -> None:
     ("true", 3, "warning: 3 of 3 frames looked at do not end with their check sequence, taken off all"),
     ('"auto"', 1, "warning: 2 of 3 frames looked at end with their check sequence, taken off all")])
 def test_wrong_check_sequences(folder: Folder, fcs: str, wrong: int, said: str) -> None:
-    """They are said, also of later pieces, and of those that are said to have them."""
+    """Checks that wrong ones are said, also of later pieces, and of frames that are said to have them."""
     records = [Record(AT + number, checked(frame(fill=number))) for number in range(3 - wrong)]
     records += [Record(AT + 5 + number, frame(fill=number) + bytes(4)) for number in range(wrong)]
     with patch.object(Import.__init__, "__defaults__", (24 + 80,)):
@@ -158,7 +160,8 @@ def test_wrong_check_sequences(folder: Folder, fcs: str, wrong: int, said: str) 
 
 
 def test_a_recording_that_is_taken_twice(folder: Folder) -> None:
-    """By its name and compressed; frames that differ have one stamp too, and equal ones another."""
+    """Checks that a recording that is taken by its name and compressed is warned of; frames that differ have one stamp
+    too, and equal ones another."""
     records = [Record(AT + stamp, frame(fill=fill)) for stamp, fill in ((0, 1), (0, 2), (0, 3), (7, 1), (8, 2))]
     text = captures.pcap(records)
     rules = ONE.replace("a.pcap", "a.pcap*")
@@ -172,7 +175,7 @@ def test_a_recording_that_is_taken_twice(folder: Folder) -> None:
 
 
 def test_check_sequences_where_interfaces_come_later(folder: Folder) -> None:
-    """What the first frames of an interface have is seen across the blocks of others."""
+    """Checks that what the first frames of an interface have is seen across the blocks of others."""
     good = [captures.packet(Record(AT + number, checked(frame(fill=number)))) for number in range(1, 9)]
     text = captures.section() + captures.interface() + captures.packet(Record(AT, bytes(64))) + captures.interface()
     status, _, said = folder.run(ONE, a_pcap=text + b"".join(good))
@@ -185,7 +188,7 @@ def test_check_sequences_where_interfaces_come_later(folder: Folder) -> None:
     (30, "stripped-of-30", ["afdx-import: 30 of 30 frames looked at end with their check sequence, taken off all, "
                             "a.pcap, interface 0"])])
 def test_cut_frames_before_any_whole_one(folder: Folder, whole: int, word: str, said: list[str]) -> None:
-    """They keep their original lengths, with a warning."""
+    """Checks that such frames keep their original lengths, with a warning."""
     cut = [Record(AT + number, checked(frame(fill=number))[:40], 64) for number in range(3)]
     later = [Record(AT + 10 + number, checked(frame(fill=number))) for number in range(whole)]
     with patch.object(Import.__init__, "__defaults__", (24 + 3 * 56,)), patch.object(CheckSequences, "LATER", 256):
@@ -212,7 +215,7 @@ def test_stamps(folder: Folder, keys: str, moved: list[int]) -> None:
 
 
 def test_drift_counts_from_the_first_recording_of_a_source(folder: Folder) -> None:
-    """Rotated files: the second one's clock has drifted on; the names are not in order of time."""
+    """Checks rotated files: the second one's clock has drifted on; the names are not in order of time."""
     rules = '[[source]]\nfile = "a*.pcap"\nto = "port-1"\ndrift_ppb = 1000\n'
     early, late = Record(AT, frame(1)), Record(AT + 2 * SECOND, frame(2))
     assert folder.run(rules, a9_pcap=captures.pcap([early]), a10_pcap=captures.pcap([late]))[0] == 0
@@ -220,7 +223,8 @@ def test_drift_counts_from_the_first_recording_of_a_source(folder: Folder) -> No
 
 
 def test_dropped_frames_that_the_recording_counts(folder: Folder) -> None:
-    """The last statistics of an interface count; old packets count what was dropped before each, if it is known."""
+    """Checks that the last statistics of an interface count, and that old packets count what was dropped before each,
+    if it is known."""
     def statistics(interface: int, dropped: int, code: int = 5) -> bytes:
         option = captures.option("<", code, struct.pack("<Q", dropped))
         return captures.block("<", 5, struct.pack("<III", interface, 0, 0) + option + bytes(4))
@@ -250,8 +254,8 @@ def test_dropped_frames_that_the_recording_counts(folder: Folder) -> None:
     ("<", "0100 ffff 0400 0800 0700000000000000", 0)])
 @pytest.mark.parametrize("size", [60, 61, 63])
 def test_dropped_frames_that_packets_count(folder: Folder, order: str, options: str, count: int, size: int) -> None:
-    """Option 4 of a packet, of 64 bits, wherever it is among its options; of a repeated one the first; one of a wrong
-    length, one after the end of options and one past the block's end are none."""
+    """Reads option 4 of a packet, of 64 bits, wherever it is among its options; of a repeated one the first. One of a
+    wrong length, one after the end of options and one past the block's end are none."""
     two = [captures.packet(Record(AT, frame(size=size), interface=number), order, options=bytes.fromhex(options))
            for number in (0, 1)]
     none = captures.packet(Record(AT + 1, frame(size=size)), order)
@@ -264,7 +268,7 @@ def test_dropped_frames_that_packets_count(folder: Folder, order: str, options: 
 @pytest.mark.parametrize("in_all, before, count", [(5, (2, 1), 5), (2, (2, 1), 3), (0, (0, 0), 0)])
 def test_dropped_frames_that_are_counted_in_two_ways(folder: Folder, in_all: int, before: tuple[int, int],
                                                      count: int) -> None:
-    """Statistics and packets tell of the same frames: the greater count is said, once."""
+    """Checks that the greater count is said, once, as statistics and packets tell of the same frames."""
     packets = [captures.packet(Record(AT + one, frame()), options=bytes.fromhex("04000800") + struct.pack("<Q", one))
                for one in before]
     statistics = captures.block("<", 5, bytes(12) + bytes.fromhex("05000800") + struct.pack("<Q", in_all))
@@ -372,7 +376,7 @@ def test_a_recording_is_not_replaced(folder: Folder) -> None:
 
 
 def test_a_link_in_the_place_of_a_capture(folder: Folder) -> None:
-    """It is replaced, also if it leads to itself; what it led to stays."""
+    """Checks that the link is replaced, also if it leads to itself, and that what it led to stays."""
     (folder.path / "in").mkdir()
     (folder.path / "kept").write_text("text")
     for name in ("port-1.pcap", str(folder.path / "kept")):
@@ -384,7 +388,7 @@ def test_a_link_in_the_place_of_a_capture(folder: Folder) -> None:
 
 
 def test_a_signal_while_captures_are_put(folder: Folder, monkeypatch: pytest.MonkeyPatch) -> None:
-    """It waits until all are: none is of another import than the others."""
+    """Checks that the signal waits until all captures are put: none is of another import than the others."""
     replace_file, handlers = os.replace, {number: signal.signal(number, signals.end) for number in signals.ENDING}
 
     def replace_slowly(old: str, new: Path) -> None:
@@ -410,7 +414,8 @@ def test_warnings_that_nobody_takes(folder: Folder, monkeypatch: pytest.MonkeyPa
 
 
 def test_link_types(folder: Folder) -> None:
-    """Of another link type are refused only the interfaces that are asked for; bits of a check sequence are none."""
+    """Checks that of another link type only the interfaces that are asked for are refused; bits of a check sequence are
+    none."""
     assert folder.run(ONE, a_pcap=captures.pcap(A, link_type=0x2400_0001))[0] == 0
     assert folder.run(ONE, a_pcap=captures.pcap(A, link_type=113)) == (
         3, [], ["afdx-import: link type 113, not Ethernet, a.pcap, record 1, offset 24"])
@@ -454,7 +459,7 @@ class Asked:
                           "" if self.network is None else f'network = "{self.network}"', ""])
 
     def port(self, one: Record) -> str | None:
-        """The port to which a frame comes."""
+        """Returns the port to which a frame comes; None if it is not asked for."""
         if self.interface not in (None, one.interface):
             return None
         if self.network and one.frame[11:12] != {"A": b"\x20", "B": b"\x40"}[self.network]:
@@ -474,8 +479,8 @@ ASKED = some.builds(Asked, some.sampled_from([[0], [1], [0, 1]]), some.sampled_f
        some.sampled_from([0, 2000, 2**24]), some.sampled_from([100, 2000, 2**20]))
 def test_random_recordings(tmp_path_factory: pytest.TempPathFactory, recorded: list[list[Record]], asked: list[Asked],
                            most: int, piece: int) -> None:
-    """Each port gets the frames that a plain model gives it, in order of their stamps. If few may wait, a late one may
-    be refused, but none is lost or out of order."""
+    """Checks that each port gets the frames that a plain model gives it, in order of their stamps. If few may wait, a
+    late one may be refused, but none is lost or out of order."""
     raw = tmp_path_factory.getbasetemp()
     wanted: dict[str, list[Record]] = {}
     for number, records in enumerate(recorded):
@@ -506,7 +511,7 @@ MUTATED = '[[source]]\nfile = "m.pcap"\nend_systems = { 9 = "port-1", 10 = "port
 
 
 def imported_plainly(text: bytes) -> dict[str, bytes] | None:
-    """Answers the captures of a plain model for the rules of mutated recordings; None if they have to be refused."""
+    """Returns the captures of a plain model for the rules of mutated recordings; None if they have to be refused."""
     try:
         records, _ = captures.read(text)
     except Faulty:
@@ -525,7 +530,8 @@ def imported_plainly(text: bytes) -> dict[str, bytes] | None:
 
 @given(text=some.sampled_from(SAMPLES), changes=CHANGES, cut=some.integers(0, 10**6))
 def test_mutated_recordings(folder: Folder, text: bytes, changes: list[tuple[int, bytes]], cut: int) -> None:
-    """A mutated recording is refused and nothing is put, or what is put is what a plain model makes of it."""
+    """Checks that a mutated recording is refused and nothing is put, or that what is put is what a plain model makes of
+    it."""
     shutil.rmtree(folder.path / "in", ignore_errors=True)
     changed = bytearray(text)
     for at, by in changes:
@@ -539,7 +545,7 @@ def test_mutated_recordings(folder: Folder, text: bytes, changes: list[tuple[int
 
 @given(at=some.integers(0, 10**6), by=some.binary(min_size=1, max_size=2))
 def test_mutated_compressed_recordings(folder: Folder, at: int, by: bytes) -> None:
-    """The check of gzip finds what was changed: it is refused, or the bytes are those of the recording."""
+    """Checks that the check of gzip finds what was changed: it is refused, or the bytes are those of the recording."""
     shutil.rmtree(folder.path / "in", ignore_errors=True)
     changed = bytearray(gzip.compress(PCAPNG, mtime=0))
     changed[at % len(changed):at % len(changed) + len(by)] = by
@@ -548,7 +554,7 @@ def test_mutated_compressed_recordings(folder: Folder, at: int, by: bytes) -> No
 
 
 def test_late_by_less_than_the_window_where_too_many_wait(folder: Folder) -> None:
-    """Nothing that was written is passed by a frame before it: it is refused, with both records."""
+    """Checks that nothing that was written is passed by a frame before it: it is refused, with both records."""
     records = [Record(AT + number, frame(fill=number)) for number in range(1, 40)] + [Record(AT, frame())]
     with patch.object(ordering, "MOST_WAITING", 1000), patch.object(Import.__init__, "__defaults__", (1000,)):
         assert folder.run(ONE, a_pcap=captures.pcap(records)) == (3, [], [

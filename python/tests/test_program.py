@@ -27,8 +27,8 @@ def script(path: Path, text: str) -> Path:
 ])
 def test_where_it_is_found(tmp_path: Path, monkeypatch: pytest.MonkeyPatch, package: str, there: list[str], named: str,
                            found: str | None) -> None:
-    """What is named comes first, then what came with the commands: built in the repository, of the .tar.gz or of the
-    .deb; then what is on the path."""
+    """Checks the order: what is named comes first, then what came with the commands: built in the repository, of the
+    .tar.gz or of the .deb; then what is on the path."""
     for place in there:
         script(tmp_path / place, ":")
     monkeypatch.setenv("AFDX", named)
@@ -66,7 +66,7 @@ def test_a_kill_and_a_program_that_cannot_be_run(tmp_path: Path, monkeypatch: py
 
 
 def test_what_it_runs_ends_with_the_command(tmp_path: Path, monkeypatch: pytest.MonkeyPatch) -> None:
-    """After a signal, which is an exception here, nothing goes on."""
+    """Checks that nothing goes on after a signal, which is an exception here."""
     process = tmp_path / "process"
     told = f'echo $$ >"{process}.new"; mv "{process}.new" "{process}"'  # so that it has its text as soon as it is there
     monkeypatch.setenv("AFDX", str(script(tmp_path / "afdx", f"{told}; exec sleep 60")))

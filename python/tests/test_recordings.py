@@ -67,7 +67,8 @@ def test_pcapng_stamps(tmp_path: Path, resolution: int, later: int, units: int, 
 
 
 def test_pcapng_sections_of_both_orders(tmp_path: Path) -> None:
-    """Numbers of interfaces begin anew in a section; blocks of other kinds are passed over, also long ones."""
+    """Checks that numbers of interfaces begin anew in a section; blocks of other kinds are passed over, also long
+    ones."""
     text = section("<", option("<", 1, b"comment")) + interface("<", "left")
     text += block("<", 0xBAD, b"x" * 9001) + packet(Record(AT, FRAME), "<", options=option("<", 1, b"note") + bytes(4))
     text += section(">") + interface(">", "right") + interface(">", "third") + packet(Record(AT + 1, FRAME, 99, 1), ">")
@@ -109,7 +110,8 @@ def test_faults_with_their_places(tmp_path: Path, text: bytes, said: str) -> Non
 
 @pytest.mark.parametrize("piece", [300, 100_000])
 def test_the_first_of_many_faults(tmp_path: Path, piece: int) -> None:
-    """It is the first by its place, whatever its kind, and what is before it is answered."""
+    """Checks that the fault that is told is the first by its place, whatever its kind, and that what is before it is
+    answered."""
     good = [Record(AT + number, FRAME) for number in range(100)]
     fraction, long, late = words(1, 2 * 10**9, 0, 0), words(1, 0, 300_000, 0), words(2**32 - 1, 0, 0, 0)
     blocks = [captures.section(), captures.interface(), *map(packet, good)]
@@ -157,7 +159,8 @@ def test_compressed_recordings(tmp_path: Path) -> None:
 
 
 def test_compressed_recordings_that_break_off(tmp_path: Path) -> None:
-    """What was whole before is a beginning of what was recorded, and it is said that the rest is missing."""
+    """Checks that what was whole before is a beginning of what was recorded, and that it is said that the rest is
+    missing."""
     records = [Record(AT + number, bytes([number, number * 7 % 256]) * 200) for number in range(50)]
     for packed in compressed(captures.pcap(records)):
         for end in range(0, len(packed) - 1, 7):
@@ -173,7 +176,8 @@ def test_a_long_skippable_frame(tmp_path: Path) -> None:
 
 @pytest.mark.parametrize("count", [1, 2000])
 def test_bytes_after_compressed_ones(tmp_path: Path, count: int) -> None:
-    """The offset is how long the recording is when unpacked, whether or not some of it was read as records before."""
+    """Checks that the offset is how long the recording is when unpacked, whether or not some of it was read as records
+    before."""
     text = captures.pcap([Record(AT, FRAME)] * count)
     for packed in compressed(text)[:3]:
         assert fault(tmp_path / "a", packed + b"more of it") == (
@@ -185,7 +189,8 @@ def test_bytes_after_compressed_ones(tmp_path: Path, count: int) -> None:
 @pytest.mark.parametrize("count", [1, 2000])
 def test_how_far_damaged_bytes_were_unpacked(tmp_path: Path, pack: Callable[[bytes], bytes], damaged: str,
                                              count: int) -> None:
-    """The second member is of no kind that there is: the offset is how long the first one is when unpacked."""
+    """Checks that the offset is how long the first member is when unpacked: the second one is of no kind that there
+    is."""
     packed = pack(captures.pcap([Record(AT, FRAME)] * count)) + bytes.fromhex(damaged) + bytes(100)
     said = fault(tmp_path / "a", packed)
     assert said.startswith("damaged compressed bytes (") and "bytes after" not in said

@@ -19,7 +19,7 @@ def frame(link: int, count: int, network: int) -> bytes:
 
 
 def put(folder: Path, name: str, network: int, sent: list[tuple[int, int, int]]) -> None:
-    """A capture of (stamp in us, link, count)."""
+    """Writes a capture of (stamp in us, link, count)."""
     (folder / name).parent.mkdir(parents=True, exist_ok=True)
     records = [Record(AT + stamp * 1000, frame(link, count, network)) for stamp, link, count in sent]
     (folder / name).write_bytes(captures.pcap(records))
@@ -30,7 +30,8 @@ def run(folder: Path, *more: str) -> int:
 
 
 def test_pairs_and_frames_of_one_network(tmp_path: Path, capsys: pytest.CaptureFixture[str]) -> None:
-    """Link 1 lacks three frames on B, two of them in a row, and one on A; of link 2 the same bytes come again."""
+    """Counts where link 1 lacks three frames on B, two of them in a row, and one on A; of link 2 the same bytes come
+    again."""
     put(tmp_path / "a", "SW1/port-2.pcap", 0x20,
         [(0, 1, 1), (5, 2, 9), (1000, 1, 2), (2000, 1, 3), (3000, 1, 4), (4000, 1, 5), (50_005, 2, 9), (60_000, 1, 7)])
     put(tmp_path / "b", "SW1/port-2.pcap", 0x40,
@@ -64,7 +65,7 @@ def test_how_far_copies_may_be_apart(tmp_path: Path, capsys: pytest.CaptureFixtu
 
 
 def test_a_lost_one_of_frames_of_the_same_bytes(tmp_path: Path, capsys: pytest.CaptureFixture[str]) -> None:
-    """Those after it are paired with the next, unless that is too far apart."""
+    """Checks that those after it are paired with the next, unless that is too far apart."""
     put(tmp_path / "a", "port-1.pcap", 0x20, [(4000 * number, 1, 1) for number in range(5)])
     put(tmp_path / "b", "port-1.pcap", 0x40, [(4000 * number + 25, 1, 1) for number in (0, 2, 3, 4)])
     assert run(tmp_path) == 0
@@ -109,8 +110,8 @@ def test_faults(tmp_path: Path, capsys: pytest.CaptureFixture[str]) -> None:
 
 @pytest.mark.parametrize("piece", [PIECE, 100])
 def test_stamps_that_fall(tmp_path: Path, monkeypatch: pytest.MonkeyPatch, piece: int) -> None:
-    """The pairs would be wrong: a copy that waits would be given up too soon. In pieces of 100 bytes each has a record
-    of its own."""
+    """Checks that such stamps are refused. The pairs would be wrong: a copy that waits would be given up too soon. In
+    pieces of 100 bytes each has a record of its own."""
     put(tmp_path / "a", "port-1.pcap", 0x20, [(0, 1, 1), (50_000, 1, 2)])
     put(tmp_path / "b", "port-1.pcap", 0x40, [(50_000, 1, 2), (50_000, 1, 3), (0, 1, 1)])
     monkeypatch.setattr("afdx.skew.command.Recording", partial(Recording, piece=piece))

@@ -31,7 +31,7 @@ def read(path: Path) -> list[Record]:
 
 
 def shown(path: Path) -> list[tuple[str, ...]]:
-    """Answers what tshark says of each frame."""
+    """Returns what tshark says of each frame."""
     fields = ["frame.time_epoch", "frame.cap_len", "frame.len", "frame.interface_id"]
     arguments = ["tshark", "-r", str(path), "-T", "fields", *(word for field in fields for word in ("-e", field))]
     lines = subprocess.run(arguments, check=True, capture_output=True, text=True).stdout.splitlines()
@@ -56,7 +56,7 @@ def as_shown(one: Record) -> tuple[str, ...]:
     ("tshark -r raw.pcap -x | text2pcap -q - made", 0),
 ])
 def test_one_interface(tmp_path: Path, command: str, unit: int) -> None:
-    """The unit is that of the stamps, in ns; 0 where the tool makes its own."""
+    """Compares frames and stamps. The unit is that of the stamps, in ns; 0 where the tool makes its own."""
     records = recorded()
     (tmp_path / "raw.pcap").write_bytes(captures.pcap(records))
     run(command, tmp_path)

@@ -117,7 +117,7 @@ def test_answers_whose_numbers_are_none(folder: Path, name: str, old: str, new: 
 
 
 def test_a_page_of_answers(folder: Path) -> None:
-    """It says what it was made of, and when, and nothing of the host."""
+    """Checks that the page says what it was made of, and when, and nothing of the host."""
     assert command.main(["table.toml", str(folder), str(folder / "page.html"), "--answers", "."]) == 0
     page = (folder / "page.html").read_text()
     assert "<td>afdx-view table.toml " + folder.name + " page.html --answers .\n" in page
@@ -147,7 +147,8 @@ def test_a_page_of_no_frames(folder: Path) -> None:
 
 
 def test_very_many_spells(tmp_path: Path) -> None:
-    """Of twelve links that are policed each 200 ms, 60,000 times, what is drawn and listed does not grow with them."""
+    """Checks that of twelve links that are policed each 200 ms, 60,000 times, what is drawn and listed does not grow
+    with them."""
     table = Table(0, [1], {link: Link(1_000_000, "low") for link in range(12)})
     stamps = [(link, answered.FIRST + 200_000_000 * spell + link) for spell in range(5000) for link in range(12)]
     rows = [f"{frame},1,{frame + 1},{stamp},64,{link},policed,100," for frame, (link, stamp) in enumerate(stamps)]

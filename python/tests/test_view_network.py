@@ -44,7 +44,8 @@ def test_the_rows_of_size_by_switch() -> None:
 
 
 def test_each_frame_is_followed_to_its_end_system(tmp_path: Path) -> None:
-    """At A frames 0, 1 and 3 are of an end system, and 2 is B's 3; at B 0 and 4 are A's 0 and 3."""
+    """Checks the first arrival of each frame. At A frames 0, 1 and 3 are of an end system, and 2 is B's 3; at B 0 and 4
+    are A's 0 and 3."""
     said = answered.answers(tmp_path)
     frames = following.frames_of(said)
     assert frames.begins.tolist() == [0, 4, 9]
@@ -52,7 +53,7 @@ def test_each_frame_is_followed_to_its_end_system(tmp_path: Path) -> None:
 
 
 def test_what_left_is_read_to_the_nanosecond(tmp_path: Path) -> None:
-    """Also beside a copy that was discarded, which has no instant at which it left."""
+    """Reads the instants also beside a copy that was discarded, which has none at which it left."""
     said = answered.answers(tmp_path)
     with (tmp_path / "B" / "departures.csv").open("a") as file:
         file.write(f"2,,1,12,high,64,{answered.FIRST + 400},,,,aged\n")
@@ -61,7 +62,7 @@ def test_what_left_is_read_to_the_nanosecond(tmp_path: Path) -> None:
 
 
 def test_frames_over_many_wires() -> None:
-    """Also back to switches where they were."""
+    """Follows frames also back to switches where they were."""
     before = numpy.array([0, 0, 1, 2, 3, 5, 5, 6])
     assert following.roots_of(before).tolist() == [0, 0, 0, 0, 0, 5, 5, 5]
 
@@ -75,7 +76,8 @@ def test_answers_that_do_not_fit_together(tmp_path: Path) -> None:
 
 
 def test_the_ways(tmp_path: Path) -> None:
-    """Their delays are from the stamp at the first switch to the end on the last line, not from switch to switch."""
+    """Checks that the delays of ways are from the stamp at the first switch to the end on the last line, not from
+    switch to switch."""
     ways = answered.read(tmp_path).ways
     assert [(way.link, f"{way.start} {way.end}", way.priority, " ".join(map(str, way.ports)), way.jitters, way.floor,
              way.bound, way.passed, way.policed, way.sent, way.least, way.greatest, way.slack) for way in ways] == [
@@ -85,7 +87,7 @@ def test_the_ways(tmp_path: Path) -> None:
 
 
 def test_the_ways_of_a_network_that_is_refused(tmp_path: Path) -> None:
-    """They are those that frames took, and nothing is promised of them."""
+    """Checks that these are the ways that frames took, and that nothing is promised of them."""
     found = answered.read(tmp_path, answered.asked(False, "", ("afdx: network J1 Jitter, ..",)))
     ways = found.ways
     assert [(way.link, f"{way.start} {way.end}", way.ports, way.bound, way.share, way.sent) for way in ways] == [
@@ -99,7 +101,8 @@ def test_a_way_that_is_none(tmp_path: Path) -> None:
 
 
 def test_the_layout_of_an_outage() -> None:
-    """A wire is down if it says so, or a switch at one of its ends does; the other direction of a cable is not."""
+    """Checks that a wire is down if it says so, or if a switch at one of its ends does; the other direction of a cable
+    is not."""
     content = {"switch": [{"name": "A", "table": "a.toml"}, {"name": "B", "table": "b.toml", "down": False},
                           {"name": "C", "table": "c.toml", "down": True}],
                "wire": [{"from": "A.1", "to": "B.1", "down": True}, {"from": "B.1", "to": "A.1", "down": False},
@@ -111,7 +114,8 @@ def test_the_layout_of_an_outage() -> None:
 
 
 def test_an_outage(tmp_path: Path, monkeypatch: pytest.MonkeyPatch) -> None:
-    """What left for the wire that is down went no further: it did not leave the network, and the end has none."""
+    """Checks that what left for the wire that is down went no further: it did not leave the network, and the end has
+    none."""
     found = answered.read(tmp_path, answered.cut(monkeypatch))
     assert [(way.link, way.sent, way.least) for way in found.ways] == [(11, 1, 300), (12, 1, 100)]
     assert [(end.link, str(end.end)) for end in found.lost] == [(10, "B.2")]
@@ -122,7 +126,7 @@ def test_an_outage(tmp_path: Path, monkeypatch: pytest.MonkeyPatch) -> None:
 
 
 def test_what_comes_in_in_an_outage(tmp_path: Path) -> None:
-    """Captures of no frames over a wire that is down, and at each port of a switch that is."""
+    """Checks that captures have no frames over a wire that is down, and at each port of a switch that is."""
     cut = Layout(answered.LAYOUT.tables, [Wire(Port("A", 2), Port("B", 1), 100, True), answered.WIRES[1]])
     asked, folder = replace(answered.asked(), layout=cut), tmp_path / "given"
     for path in (tmp_path / "out", folder):
@@ -153,7 +157,7 @@ def test_all_switches_have_one_time(tmp_path: Path) -> None:
 
 
 def test_totals_and_loads(tmp_path: Path) -> None:
-    """Frames over wires count as none of an end system's, and those to a wire as none that left."""
+    """Checks that frames over wires count as none of an end system's, and those to a wire as none that left."""
     found = answered.read(tmp_path)
     assert (found.totals.frames, found.totals.sent, found.totals.lost, found.totals.policed) == (6, 4, 0, 1)
     assert found.totals.sent == sum(way.sent for way in found.ways)
@@ -180,14 +184,15 @@ def test_refusals_up_to_three(tmp_path: Path) -> None:
     ([("A", "B"), ("B", "C"), ("C", "A")], [["A"], ["B", "C"]]), ([("A", "B")], [["A", "C"], ["B"]]),
     ([], [["A", "B", "C"]])])
 def test_columns_of_switches(wires: list[tuple[str, str]], columns: list[list[str]]) -> None:
-    """From one end of the network to the other; parts without a wire between them are below one another."""
+    """Checks that the columns go from one end of the network to the other; parts without a wire between them are below
+    one another."""
     drawn = Layout({name: Path(name) for name in "ABC"},
                    [Wire(Port(start, 1), Port(end, 1), 0) for start, end in wires])
     assert picture.columns_of(drawn) == columns
 
 
 def test_the_drawing(tmp_path: Path) -> None:
-    """Boxes are apart, a wire leads from border to border, and is as broad as its load."""
+    """Checks that boxes are apart, and that a wire leads from border to border, and is as broad as its load."""
     wide, narrow = picture.drawings(answered.read(tmp_path))
     assert [(box.switch, box.lines) for box in wide.boxes] == [
         ("A", ["port 2 → B.1: 25 %", "1 port to end systems: 10 %"]),

@@ -19,7 +19,7 @@ def add(greatest: Greatest, points: Points) -> None:
 @given(some.lists(some.tuples(some.integers(0, 2), some.integers(0, SPAN), some.integers(0, 5))),
        some.integers(1, 9), some.integers(1, 40))
 def test_the_greatest_of_each_part_is_kept(points: Points, parts: int, piece: int) -> None:
-    """However the points are cut into pieces, and of equal values the first."""
+    """Checks that the greatest is kept however the points are cut into pieces, and of equal values the first."""
     greatest = Greatest(3, parts, SPAN)
     for begin in range(0, len(points), piece):
         add(greatest, points[begin:begin + piece])
@@ -34,7 +34,7 @@ def test_the_greatest_of_each_part_is_kept(points: Points, parts: int, piece: in
 
 
 def test_the_last_instant_of_the_longest_time() -> None:
-    """It is in the last part, though the time in ns is more than a float can count."""
+    """Checks that the instant is in the last part, though the time in ns is more than a float can count."""
     longest = 4_294_967_294_999_999_999
     greatest, cover = Greatest(1, 240, longest), Cover(240, longest)
     last = numpy.array([longest], numpy.int64)
@@ -85,8 +85,8 @@ def test_spells_of_a_link(steps: list[int], gap: int, piece: int) -> None:
 
 
 def test_a_spell_ends_after_one_gap_of_its_own_link() -> None:
-    """Two links are policed at the same instants, 8 ms apart and then 9: the one with a gap of 8 ms in two spells, the
-    one with 16 ms in one."""
+    """Checks two links that are policed at the same instants, 8 ms apart and then 9: the one with a gap of 8 ms in two
+    spells, the one with 16 ms in one."""
     millis = numpy.array([0, 0, 8, 8, 17, 17], numpy.int64) * 1_000_000
     spells = Spells({10: 8_000_000, 11: 16_000_000}, [], Cover(10, 17_000_000))
     spells.add(numpy.array([10, 11] * 3), millis, numpy.ones(6))
@@ -104,7 +104,8 @@ def test_the_cover_is_of_spells_and_not_of_the_time_between_them() -> None:
 
 
 def test_a_strip_by_hand() -> None:
-    """A value of a quarter of the scale is at 75 of 100 from the top; ticks at one column are one."""
+    """Compares with a strip by hand: a value of a quarter of the scale is at 75 of 100 from the top; ticks at one
+    column are one."""
     drawn = strip(numpy.array([0, 500]), numpy.array([25.0, 100.0]), 100, 1000, numpy.array([250, 250, 1000]))
     assert drawn.points == "M0 75h0M500 0h0"
     assert drawn.ticks == "M250 104v10M1000 104v10"

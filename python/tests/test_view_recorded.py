@@ -54,7 +54,8 @@ def test_sums_of_ports(tmp_path: Path) -> None:
 
 @pytest.mark.usefixtures("piece")
 def test_differences_by_port_and_time(tmp_path: Path) -> None:
-    """What left at port 2 was 1000 ns earlier than its recorder said; a missing frame came when it did."""
+    """Checks counts, rows and marks where what left at port 2 was 1000 ns earlier than its recorder said; a missing
+    frame came when it did."""
     _, said = read(tmp_path)
     found, first = said.differences, answered.FIRST
     assert found.many == {(1, "extra"): 1, (2, "missing"): 1, (2, "foreign"): 1, (2, "late"): 1}
@@ -98,7 +99,7 @@ def test_answers_of_compare_that_are_of_another_run(tmp_path: Path, said: str, r
 
 
 def test_a_band_by_hand() -> None:
-    """From a quarter of the scale to its half; and what is past the scale is at the top."""
+    """Checks a band from a quarter of the scale to its half, and that what is past the scale is at the top."""
     assert band(25, 50, 100) == "M0 75V50H1000V75Z"
     assert band(90, 130, 100) == "M0 10V0H1000V10Z"
 
@@ -108,7 +109,7 @@ def test_offsets_of_all_options() -> None:
 
 
 def test_a_page_of_recordings(folder: Path) -> None:
-    """It says what was compared, and how; all differences are put beside it."""
+    """Checks that the page says what was compared, and how, and that all differences are put beside it."""
     recorded_answers.put(folder)
     (folder / "recorded").mkdir()
     for port in (1, 2):
@@ -152,7 +153,7 @@ def test_options_that_are_refused(arguments: list[str], said: str, capsys: pytes
 
 
 def test_options_are_handed_on_as_they_are_given() -> None:
-    """One that is given twice too, which the program refuses."""
+    """Checks that an option that is given twice, which the program refuses, is handed on too."""
     options = command.options_of(["t", "i", "p.html", "--recorded", "o", "--rest", "--stamps", "free", "--offset=1=5",
                                   "--offset", "2=-5", "--least-latency", "3"])
     assert options.recordings == Asked("o", ["--least-latency=3", "--stamps=free", "--offset=1=5", "--offset=2=-5",

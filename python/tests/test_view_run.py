@@ -27,7 +27,7 @@ def test_a_run(tmp_path: Path) -> None:
 
 
 def test_points_are_at_the_stamps_of_frames(tmp_path: Path) -> None:
-    """So the latency is not in their places, though `came` has it."""
+    """Checks that the latency is not in the places of points, though `came` has it."""
     answered.put_answers(tmp_path)
     drawn = answered.read(tmp_path).drawn
     kept = [[points.tolist() for points in drawn.links.points(place)] for place in range(3)]
@@ -40,7 +40,7 @@ def test_points_are_at_the_stamps_of_frames(tmp_path: Path) -> None:
 
 
 def test_policing(tmp_path: Path) -> None:
-    """The policed frames are 1.5 ms apart, more than the link's gap of 1 ms."""
+    """Counts the spells of policed frames that are 1.5 ms apart, more than the link's gap of 1 ms."""
     answered.put_answers(tmp_path)
     policed = answered.read(tmp_path).policed
     assert policed.links == policed.watched == [10]

@@ -8,7 +8,7 @@ from captures import words
 
 
 def piece(order: str, seed: int, misleading: bool) -> bytes:
-    """Answers a megabyte of records over some seconds; misleading frames hold what looks like headers of records."""
+    """Returns a megabyte of records over some seconds; misleading frames hold what looks like headers of records."""
     chance, text, stamp = random.Random(seed), bytearray(), 1_768_471_200 * 10**9
     while len(text) < 2**20:
         stamp += chance.randrange(10**6)
@@ -36,7 +36,8 @@ def test_lanes(order: str, misleading: bool) -> None:
     (100, None, 0, 100), (100, None, 59, 100), (100, None, 61, 99), (100, None, 76 * 37, 0), (10, None, 0, 0),
     (100, 3, 0, 0), (100, 80, 0, 0), (100, 99, 0, 0)])
 def test_records_of_one_length(order: str, count: int, other: int | None, cut: int, found: int) -> None:
-    """They are answered if they are many, and one of another length is not among them; the last one may be cut."""
+    """Checks that such records are answered if they are many, and that one of another length is not among them; the
+    last one may be cut."""
     sizes = [61 if number == other else 60 for number in range(count)]
     text = b"".join([words(7, 0, size, size, order).ljust(RECORD + size, b"\x07") for size in sizes])
     data = text[:len(text) - cut]
@@ -54,7 +55,8 @@ def test_few_bytes(size: int) -> None:
 
 @pytest.mark.parametrize("order", "<>")
 def test_lanes_of_very_many_records(order: str) -> None:
-    """Long records, and then empty ones: so many in a lane that lanes are given up, and all are answered one by one."""
+    """Takes long records, and then empty ones: so many in a lane that lanes are given up, and all are answered one by
+    one."""
     second = 1_790_000_000
     long = words(second, 0, 1514, 1514, order).ljust(RECORD + 1514, b"\x07")
     other, empty = words(second // 2, 0, 0, 0, order), words(second, 0, 0, 0, order)

@@ -29,7 +29,7 @@ id,name,from,to,bag_ms,jitter_us,max_size,udp_payload,priority,police,via
 
 
 def write(folder: Path, links: str = LINKS, ends: str = ENDS, wires: str = WIRES) -> list[Path]:
-    """Writes three lists; answers their paths, as a command takes them."""
+    """Writes three lists; returns their paths, as a command takes them."""
     paths = [folder / name for name in ("icd.csv", "ends.csv", "wires.csv")]
     for path, text in zip(paths, (links, ends, wires)):
         path.write_text(text, encoding="utf-8")

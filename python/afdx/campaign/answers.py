@@ -11,18 +11,18 @@ ENDING = ".json.gz"
 
 
 def keys_there(root: Path) -> set[str]:
-    """Answers the keys of all answers that are there."""
+    """Returns the keys of all answers that are there."""
     return {path.name.removesuffix(ENDING) for path in root.glob(f"answers/*/*{ENDING}")}
 
 
 def left_of(root: Path, tasks: list[Task]) -> list[int]:
-    """Answers the numbers of the tasks that have no answer."""
+    """Returns the numbers of the tasks that have no answer."""
     there = keys_there(root)
     return [number for number, task in enumerate(tasks) if task.key not in there]
 
 
 def answered(root: Path, tasks: Iterable[Task]) -> Iterator[tuple[Task, Answer]]:
-    """Answers the tasks that have an answer, each with it."""
+    """Returns the tasks that have an answer, each with it."""
     there = keys_there(root)
     for task in tasks:
         if task.key in there:
@@ -30,7 +30,7 @@ def answered(root: Path, tasks: Iterable[Task]) -> Iterator[tuple[Task, Answer]]
 
 
 def digest(root: Path, tasks: list[Task]) -> str:
-    """Answers one hash of all that the answers say, whoever found them, in whatever order and at whatever cost."""
+    """Returns one hash of all that the answers say, whoever found them, in whatever order and at whatever cost."""
     digest = hashlib.sha256()
     for task, answer in sorted(answered(root, tasks), key=lambda pair: (pair[0].key, pair[0].table.name)):
         said = [task.key, task.recording.name, task.table.name, answer["status"], answer["fault"], answer["line"],
@@ -40,7 +40,7 @@ def digest(root: Path, tasks: list[Task]) -> str:
 
 
 def forget(root: Path, tasks: list[Task], status: int) -> int:
-    """Removes the answers of this status; answers how many they were."""
+    """Removes the answers of this status; returns how many they were."""
     found = {task.answer for task, answer in answered(root, tasks) if answer["status"] == status}
     for answer in found:
         answer.unlink(missing_ok=True)

@@ -43,14 +43,14 @@ where bound is not null and greatest is not null group by runs.id order by table
 
 
 def ranks(values: Floats) -> Floats:
-    """Answers the rank of each value from 1; equal ones share the mean of theirs."""
+    """Returns the rank of each value from 1; equal ones share the mean of theirs."""
     _, places, counts = numpy.unique(values, return_inverse=True, return_counts=True)
     shared: Floats = counts.cumsum() - (counts - 1) / 2
     return shared[places]
 
 
 def step_of(values: Floats) -> tuple[int, float]:
-    """Answers the first place after the step that Pettitt's rank test finds, and its chance if there is none."""
+    """Returns the first place after the step that Pettitt's rank test finds, and its chance if there is none."""
     count = len(values)
     sums = 2 * ranks(values)[:-1].cumsum() - numpy.arange(1, count) * (count + 1)
     place = int(numpy.abs(sums).argmax())
@@ -59,7 +59,7 @@ def step_of(values: Floats) -> tuple[int, float]:
 
 
 def trends(base: sqlite3.Connection) -> Rows:
-    """Answers the steps of each link's and port's greatest delays over the recordings in the order of their begin."""
+    """Returns the steps of each link's and port's greatest delays over the recordings in the order of their begin."""
     found: Rows = []
     for table, runs in groupby(base.execute(RUNS).fetchall(), itemgetter(0)):
         _, numbers, recordings = zip(*runs)
@@ -78,7 +78,7 @@ class Series:
 
 
 def series_of(base: sqlite3.Connection, numbers: Iterable[int]) -> dict[tuple[str, int, int], Series]:
-    """Answers the series of all links and ports over these runs, in their order."""
+    """Returns the series of all links and ports over these runs, in their order."""
     found: defaultdict[tuple[str, int, int], Series] = defaultdict(Series)
     for run_place, number in enumerate(numbers):
         for switch, link, port, greatest in base.execute(DELAYS, (number,)):
@@ -89,7 +89,7 @@ def series_of(base: sqlite3.Connection, numbers: Iterable[int]) -> dict[tuple[st
 
 
 def step_row(series: Series, recordings: Sequence[str], many: int) -> tuple[Any, ...]:
-    """Answers the link's number of recordings, that of its step, medians, change, and the chance among all series."""
+    """Returns the link's number of recordings, that of its step, medians, change, and the chance among all series."""
     values = numpy.frombuffer(series.values)
     first, chance = step_of(values)
     before, after = float(numpy.median(values[:first])), float(numpy.median(values[first:]))
@@ -97,7 +97,7 @@ def step_row(series: Series, recordings: Sequence[str], many: int) -> tuple[Any,
 
 
 def outliers(base: sqlite3.Connection) -> Rows:
-    """Answers the recordings of which a number is far out among those of all recordings of the table."""
+    """Returns the recordings of which a number is far out among those of all recordings of the table."""
     found: Rows = []
     for sql, names in ((COUNTS, tuple(MEASURES)), (SHARES, ("nearest to a bound",))):
         for table, rows in groupby(base.execute(sql), itemgetter(0)):
@@ -108,7 +108,7 @@ def outliers(base: sqlite3.Connection) -> Rows:
 
 
 def far_out(table: str, name: str, recordings: tuple[str, ...], values: Floats) -> Rows:
-    """Answers the values beside the middle half of all by more than some of its spans."""
+    """Returns the values beside the middle half of all by more than some of its spans."""
     low, high = (float(edge) for edge in numpy.percentile(values, (25, 75)))
     least, most = low - FAR * (high - low), high + FAR * (high - low)
     return [(table, recording, name, float(value), least, most) for recording, value in zip(recordings, values)

@@ -77,7 +77,7 @@ def at_least_one(text: str) -> int:
 
 
 def run(campaign: Campaign, options: argparse.Namespace) -> int:
-    """Answers what is left, and reports."""
+    """Returns what is left, and reports."""
     engine = engine_of(options.engine)
     tasks = tasks_of(campaign)
     left = left_of(campaign.root, tasks)

@@ -78,7 +78,7 @@ class Finding:
         return text.getvalue()
 
     def of(self, table: str) -> Rows:
-        """Answers the rows of a table, without its name."""
+        """Returns the rows of a table, without its name."""
         return [row[1:] for row in self.rows if row[0] == table]
 
 

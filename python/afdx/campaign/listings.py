@@ -22,7 +22,7 @@ class Listing:
 
 
 def listing(name: str, rows: Rows) -> Listing:
-    """Answers the first rows of a finding, without the column of switches if there is one switch alone."""
+    """Returns the first rows of a finding, without the column of switches if there is one switch alone."""
     heads, cells, words = FORMS[name]
     shown = [cells(row) for row in rows[:MOST]]
     if heads[0] == "switch" and not any(row[0] for row in shown):
@@ -31,39 +31,39 @@ def listing(name: str, rows: Rows) -> Listing:
 
 
 def same(row: Cells) -> Cells:
-    """Answers a row as it is."""
+    """Returns a row as it is."""
     return row
 
 
 def worst(row: Cells) -> Cells:
-    """Answers a row of the greatest delays."""
+    """Returns a row of the greatest delays."""
     switch, link, port, sent, greatest, bound, share, recording = row
     percent = "-" if share is None else f"{100 * share:.1f}"
     return switch, link, port, number(sent), number(greatest), number(bound), percent, recording
 
 
 def babbler(row: Cells) -> Cells:
-    """Answers a row of the policed links."""
+    """Returns a row of the policed links."""
     switch, link, recording, passed, policed, begin, end, frames, least, greatest = row
     return (switch, link, recording, number(passed), number(policed), instant(begin), instant(end), number(frames),
             number(least), number(greatest))
 
 
 def trend(row: Cells) -> Cells:
-    """Answers a row of the steps."""
+    """Returns a row of the steps."""
     switch, link, port, recordings, step, before, after, change, chance = row
     return (switch, link, port, number(recordings), step, number(before), number(after), number(change),
             f"{chance:.1e}")
 
 
 def outlier(row: Cells) -> Cells:
-    """Answers a row of the recordings that differ."""
+    """Returns a row of the recordings that differ."""
     recording, what, *numbers = row
     return recording, what, *(f"{value:,.3f}".rstrip("0").rstrip(".") for value in numbers)
 
 
 def compared(row: Cells) -> Cells:
-    """Answers a row of one table against another."""
+    """Returns a row of one table against another."""
     return *row[:3], *(number(value) for value in row[3:])
 
 

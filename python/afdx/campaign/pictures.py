@@ -40,7 +40,7 @@ class Course:
 
 
 def course_of(base: sqlite3.Connection, table: str) -> Course:
-    """Answers the recordings of a table."""
+    """Returns the recordings of a table."""
     rows = base.execute(RUNS, (table,)).fetchall()
     faults = [place for place, row in enumerate(rows) if row[2]]
     shares = numpy.array([row[3] for row in rows], dtype=float)
@@ -48,7 +48,7 @@ def course_of(base: sqlite3.Connection, table: str) -> Course:
 
 
 def parts_of(values: Floats) -> list[tuple[float, float, float]]:
-    """Answers middle, greatest value and median of each part of the values, as many parts as a picture shows."""
+    """Returns middle, greatest value and median of each part of the values, as many parts as a picture shows."""
     found = []
     for part in numpy.array_split(numpy.arange(len(values)), min(PARTS, len(values))):
         own = values[part][~numpy.isnan(values[part])]
@@ -98,7 +98,7 @@ def overview(course: Course, babblers: Rows) -> Figure:
 
 
 def worst_babblers(babblers: Rows) -> list[tuple[str, int]]:
-    """Answers the switches and links with most policed frames."""
+    """Returns the switches and links with most policed frames."""
     policed: dict[tuple[str, int], dict[str, int]] = {}
     for switch, link, recording, _, frames, *_ in babblers:
         policed.setdefault((switch, link), {})[recording] = frames

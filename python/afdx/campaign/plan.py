@@ -39,7 +39,7 @@ def tasks_of(campaign: Campaign) -> list[Task]:
 
 
 def checked(program: str, configured: Configured) -> Table:
-    """Answers the table, if afdx accepts it, or at least reads it if it is run unchecked."""
+    """Returns the table, if afdx accepts it, or at least reads it if it is run unchecked."""
     path = str(configured.file)
     of_networks = ("network",) if configured.network else ()
     answer = Program(COMMAND, program).ask(*of_networks, "size" if configured.unchecked else "check", path)
@@ -55,7 +55,7 @@ def checked(program: str, configured: Configured) -> Table:
 
 
 def captures_of(configured: Configured) -> tuple[str, ...]:
-    """Answers the captures that a table or a network reads, below the folder of a recording."""
+    """Returns the captures that a table or a network reads, below the folder of a recording."""
     top = toml.read(COMMAND, configured.file)
     if not configured.network:
         return tuple(f"port-{port['id']}.pcap" for port in top.get("port", []))
@@ -89,31 +89,31 @@ def folders_of(folder: Path, patterns: tuple[str, ...]) -> dict[str, str]:
 
 
 def above(pattern: str) -> str:
-    """Answers the folder above the first wildcard of a pattern, or above a folder that has none."""
+    """Returns the folder above the first wildcard of a pattern, or above a folder that has none."""
     parts = Path(pattern).parts
     plain = next((number for number, part in enumerate(parts) if glob.has_magic(part)), len(parts) - 1)
     return str(Path(*parts[:plain]))
 
 
 def recordings_of(folders: dict[str, str], files: tuple[str, ...], by_content: bool) -> list[Recording]:
-    """Answers the recordings as they are now."""
+    """Returns the recordings as they are now."""
     return [Recording(name, folder, files, size_of(folder, files), by_content,
                       identity_of(name, folder, files, by_content)) for name, folder in folders.items()]
 
 
 def size_of(folder: str, files: tuple[str, ...]) -> int:
-    """Answers the bytes of the captures that are there."""
+    """Returns the bytes of the captures that are there."""
     paths = [os.path.join(folder, file) for file in files]
     return sum(os.path.getsize(path) for path in paths if os.path.exists(path))
 
 
 def plan_file(root: Path) -> Path:
-    """Answers the list of the tasks as `run` made it last."""
+    """Returns the list of the tasks as `run` made it last."""
     return root / "tasks.jsonl"
 
 
 def origin_of(campaign: Campaign) -> dict[str, str]:
-    """Answers which campaign file it is, as seen from the root, so that both may move together, and a hash of what it
+    """Returns which campaign file it is, as seen from the root, so that both may move together, and a hash of what it
     says."""
     return {"file": os.path.relpath(campaign.file, campaign.root),
             "hash": hashlib.sha256(campaign.file.read_bytes()).hexdigest()}

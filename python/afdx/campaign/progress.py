@@ -43,7 +43,7 @@ class Progress:
             self.say()
 
     def line(self) -> str:
-        """Answers how far it is."""
+        """Returns how far it is."""
         rate = speed(self.bytes_done, self.bytes_left, time.monotonic() - self.began)
         return f"done {self.done}, left {self.left}, failed {self.failed}, {rate}"
 

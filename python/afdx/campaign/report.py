@@ -57,7 +57,7 @@ def page_of(title: str, base: sqlite3.Connection, findings: dict[str, Finding], 
 
 
 def verdict(base: sqlite3.Connection, sums: Sums) -> list[Markup]:
-    """Answers what there is, and what is missing."""
+    """Returns what there is, and what is missing."""
     recordings, size = base.execute(
         "select count(*), sum(size) from (select max(size) as size from runs group by recording)").fetchone()
     said = [bold(f"{count(recordings, 'recording')}, {(size or 0) / 1e9:,.2f} GB."),
@@ -72,7 +72,7 @@ def bold(text: str) -> Markup:
 
 
 def part_of(base: sqlite3.Connection, findings: dict[str, Finding], table: str, place: int) -> dict[str, Any]:
-    """Answers what the page says of a table."""
+    """Returns what the page says of a table."""
     rows = {name: finding.of(table) for name, finding in findings.items()}
     rows["worst"].sort(key=lambda row: -(row[6] or 0))
     course = pictures.course_of(base, table)
@@ -91,7 +91,7 @@ def drawn(figure: Figure, label: str) -> Markup:
 
 
 def table_verdict(rows: dict[str, Rows]) -> list[Markup]:
-    """Answers what stands out under a table."""
+    """Returns what stands out under a table."""
     said = []
     worst = rows["worst"]
     if worst and worst[0][6] is not None:
@@ -120,7 +120,7 @@ def named(switch: str, link: int, port: int) -> str:
 
 
 def pair_of(finding: Finding, before: str, after: str, place: int) -> dict[str, Any]:
-    """Answers what the page says of a table against the first one."""
+    """Returns what the page says of a table against the first one."""
     rows = [row[2:] for row in finding.rows if row[:2] == (before, after)]
     rows.sort(key=lambda row: abs(int(row[6])), reverse=True)
     greater, less = (sum(1 for row in rows if sign * row[6] > 0) for sign in (1, -1))

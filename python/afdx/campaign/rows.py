@@ -58,7 +58,7 @@ def rows_of(text: str) -> Rows:
 
 
 def place_of(port: str) -> Place:
-    """Answers the switch and the number of a port, as SWITCH.7."""
+    """Returns the switch and the number of a port, as SWITCH.7."""
     switch, _, own = port.rpartition(".")
     return switch, int(own)
 

@@ -115,7 +115,7 @@ def read_campaign(path: Path) -> Campaign:
 
 
 def campaign_of(top: Section, path: Path) -> Campaign:
-    """Answers what the sections of the file say."""
+    """Returns what the sections of the file say."""
     folder = path.parent
     program = program_of(top.take("program", str, ""), folder)
     if not program:
@@ -137,14 +137,14 @@ def campaign_of(top: Section, path: Path) -> Campaign:
 
 
 def program_of(named: str, folder: Path) -> str:
-    """Answers the program that the file names, beside it if there is a / in its name; else the one that is found, whose
+    """Returns the program that the file names, beside it if there is a / in its name; else the one that is found, whose
     name is of the folder where the command was started."""
     found = named or find_program() or ""
     return str((folder if named else Path.cwd()) / found) if "/" in found else found
 
 
 def tables_of(top: Section, folder: Path) -> tuple[Configured, ...]:
-    """Answers the tables and networks, whose names are different."""
+    """Returns the tables and networks, whose names are different."""
     found = [(section, kind == "network") for kind in ("table", "network") for section in top.take_sections(kind)]
     tables: list[Configured] = []
     for section, network in found:
@@ -162,7 +162,7 @@ def tables_of(top: Section, folder: Path) -> tuple[Configured, ...]:
 
 
 def limits_of(top: Section) -> Limits:
-    """Answers the limits, each with a default."""
+    """Returns the limits, each with a default."""
     section = Section(top.take("limits", dict, {}), "[limits]")
     limits = Limits(section.take_above_zero("tries", int, 3), section.take_above_zero("timeout_s", float, 36000.0),
                     section.take_above_zero("memory", float, 4.0), section.take_above_zero("patience_s", float, 60.0))

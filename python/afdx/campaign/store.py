@@ -45,7 +45,7 @@ OF_RUNS = ("links", "ports", "delays", "spells", "faults")
 
 
 def store_file(root: Path) -> Path:
-    """Answers the file of the store."""
+    """Returns the file of the store."""
     return root / "store.sqlite"
 
 
@@ -112,7 +112,7 @@ def remove(base: sqlite3.Connection, numbers: list[int]) -> None:
 
 
 def name_tables(base: sqlite3.Connection, tasks: list[Task]) -> dict[str, int]:
-    """Answers the numbers of the tables, which are in the order of the campaign file."""
+    """Returns the numbers of the tables, which are in the order of the campaign file."""
     names = {task.table.name: task.table.unchecked for task in tasks}
     stored = base.execute("select name, unchecked from tables order by id").fetchall()
     if stored != list(names.items()):

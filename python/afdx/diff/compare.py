@@ -30,7 +30,7 @@ def is_newly_refused(place: Place, old: dict[str, str], new: dict[str, str]) -> 
 
 
 def difference(place: Place, old: dict[str, str] | None, new: dict[str, str] | None) -> Difference | None:
-    """Answers what differs at a place, if anything does."""
+    """Returns what differs at a place, if anything does."""
     if old == new:
         return None
     before, after = old or {}, new or {}
@@ -43,7 +43,7 @@ def difference(place: Place, old: dict[str, str] | None, new: dict[str, str] | N
 
 
 def comparable(old: Facts, new: Facts) -> set[str]:
-    """Answers the kinds to be compared. Of a refused network the program may not say all; what it does not say of one
+    """Returns the kinds to be compared. Of a refused network the program may not say all; what it does not say of one
     side is not compared."""
     kinds = set(KINDS)
     for side in (old, new):
@@ -54,7 +54,7 @@ def comparable(old: Facts, new: Facts) -> set[str]:
 
 
 def differences(old: Facts, new: Facts) -> list[Difference]:
-    """Answers all that differs, rows first."""
+    """Returns all that differs, rows first."""
     kinds = comparable(old, new)
     places = sorted((place for place in old.keys() | new.keys() if place.kind in kinds), key=Place.rank)
     found = (difference(place, old.get(place), new.get(place)) for place in places)

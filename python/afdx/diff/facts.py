@@ -15,7 +15,7 @@ class Place:
     name: str  # a number, or what stands for one
 
     def rank(self) -> tuple[int, str, int, str]:
-        """Answers what places are sorted by; numbers among names by their values."""
+        """Returns what places are sorted by; numbers among names by their values."""
         digits = self.name.split(" ", 1)[0]
         return KINDS.index(self.kind), self.switch, int(digits) if digits.isdecimal() else 0, self.name
 

@@ -13,7 +13,7 @@ def text_of(value: Any) -> str:
 
 
 def table_facts(table: dict[str, Any], switch: str = "") -> Facts:
-    """Answers the rows of a table, and what stands at its top, with what a missing key stands for."""
+    """Returns the rows of a table, and what stands at its top, with what a missing key stands for."""
     top = {"constant": table.get("constant", "03000000").lower(), "latency_us": str(table.get("latency_us", 0))}
     facts = {Place(switch, "table", ""): top}
     for port in table.get("port", []):
@@ -30,7 +30,7 @@ def truth_of(row: dict[str, Any], key: str) -> str:
 
 
 def network_facts(network: dict[str, Any]) -> Facts:
-    """Answers the top, the switches and the wires of a network file. Where its tables lie is no fact."""
+    """Returns the top, the switches and the wires of a network file. Where its tables lie is no fact."""
     facts: Facts = {Place("", "network", ""): {"one_line": truth_of(network, "one_line")}}
     for switch in network.get("switch", []):
         facts[Place("", "switch", switch["name"])] = {"least_latency_us": str(switch.get("least_latency_us", 0)),

@@ -31,22 +31,22 @@ def refuse(program: Program, path: Path, answer: Answer) -> None:
 
 
 def verdict_of(answer: Answer) -> Facts:
-    """Answers what `check` said: the first line where rows are refused one by one, since `need` says it of each."""
+    """Returns what `check` said: the first line where rows are refused one by one, since `need` says it of each."""
     return {Place("", "check", ""): {"verdict": answer.line.partition("\n")[0] or "accepted"}}
 
 
 def words(field: str) -> str:
-    """Answers a field as it is shown: a list with blanks, NONE if it is empty."""
+    """Returns a field as it is shown: a list with blanks, NONE if it is empty."""
     return printed.listed(field) or NONE
 
 
 def bound(row: printed.Row, priority: str) -> str:
-    """Answers the bound of a priority; where it has links and the others leave nothing, `none`."""
+    """Returns the bound of a priority; where it has links and the others leave nothing, `none`."""
     return row[priority] or ("none" if row[f"{priority}_limit"] else NONE)
 
 
 def load_facts(said: str, switch: str = "") -> Facts:
-    """Answers what `afdx size` printed: of each port with links what they ask for, and the rules that it breaks."""
+    """Returns what `afdx size` printed: of each port with links what they ask for, and the rules that it breaks."""
     return {Place(switch, "load", row["port"]):
             {"rate": row["rate"], "buffer": row["buffer"], "high": bound(row, "high"), "low": bound(row, "low"),
              "breaks": words(row["breaks"])} for row in printed.rows_of(said)}
@@ -62,7 +62,7 @@ def ask_table(program: Program, side: Side) -> None:
 
 
 def need_facts(said: str, facts: Facts) -> Facts:
-    """Answers what `afdx network jitter` printed, and by how much the row has less."""
+    """Returns what `afdx network jitter` printed, and by how much the row has less."""
     needs = {}
     for row in printed.rows_of(said):
         has = int(facts[Place(row["switch"], "link", row["link"])]["jitter_us"])
@@ -72,7 +72,7 @@ def need_facts(said: str, facts: Facts) -> Facts:
 
 
 def way_facts(said: str) -> Facts:
-    """Answers the ways that `afdx network check` printed."""
+    """Returns the ways that `afdx network check` printed."""
     return {Place("", "way", f"{row['link']} to {row['to']}"):
             {"start": words(row["from"]), "ways": words(row["ways"]), "least": words(row["least"]),
              "most": words(row["most"]), "jitter": words(row["jitter"])} for row in printed.rows_of(said)}
@@ -94,7 +94,7 @@ def ask_network(program: Program, side: Side) -> None:
 
 
 def read(program: Program, path: Path) -> Side:
-    """Answers all that is so of a table or a network file."""
+    """Returns all that is so of a table or a network file."""
     side = Side(path, toml.read(program.progress.command, path), {})
     if side.is_network():
         ask_network(program, side)

@@ -65,7 +65,7 @@ def one_line(text: str) -> str:
 
 
 def words_of(text: str) -> list[str]:
-    """Answers the words of a heading in small letters; all that is no letter or digit lies between words."""
+    """Returns the words of a heading in small letters; all that is no letter or digit lies between words."""
     return re.findall(r"[^\W_]+", text.casefold())
 
 

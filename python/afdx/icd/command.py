@@ -30,7 +30,7 @@ def options_of(arguments: Sequence[str]) -> argparse.Namespace:
 
 
 def hops_of(links: List, read: Network) -> dict[int, list[Hop]]:
-    """Answers the ways of all links, by number. A link without one is a complaint."""
+    """Returns the ways of all links, by number. A link without one is a complaint."""
     graph, hops = routes.graph_of(read), {}
     for link in read.links:
         try:
@@ -54,7 +54,7 @@ def read_all(options: argparse.Namespace, mapped: mapping.Mapping) -> tuple[Netw
 
 
 def put_changed(folder: Path, texts: dict[str, bytes], made: dict[str, tables.Table]) -> str:
-    """Puts the files that are not there already as they are; answers a line for each."""
+    """Puts the files that are not there already as they are; returns a line for each."""
     try:
         folder.mkdir(exist_ok=True)
     except OSError as error:

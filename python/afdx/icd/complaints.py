@@ -32,7 +32,7 @@ class Complaints:
         self.rows.add((place.order, place.line))
 
     def warnings(self, command: str) -> list[str]:
-        """Answers a line for each doubt, in the order of the lists and lines."""
+        """Returns a line for each doubt, in the order of the lists and lines."""
         return [f"{command}: warning: {what}, {place.words()}" for place, what in sorted(self.doubts)]
 
     def refuse(self, command: str) -> None:

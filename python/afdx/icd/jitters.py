@@ -24,7 +24,7 @@ def put_all(command: str, folder: Path, texts: dict[str, bytes]) -> None:
 
 
 def give(tables: dict[str, Table], said: str) -> list[str]:
-    """Gives the rows the jitters that `afdx network jitter` printed, as far as a table can have them. Answers the lines
+    """Gives the rows the jitters that `afdx network jitter` printed, as far as a table can have them. Returns the lines
     of rows that need more, with their names."""
     lines = []
     for need in printed.rows_of(said):
@@ -36,7 +36,7 @@ def give(tables: dict[str, Table], said: str) -> list[str]:
 
 
 def broken_ports(program: Program, folder: Path, tables: dict[str, Table]) -> list[str]:
-    """Answers the lines that `afdx size` has for ports that break rules, with the names of switch and port."""
+    """Returns the lines that `afdx size` has for ports that break rules, with the names of switch and port."""
     lines = []
     for switch, table in tables.items():
         file = folder / f"{switch}.toml"

@@ -33,7 +33,7 @@ class List:
             at for at, heading in enumerate(sheet.heading.cells) if isinstance(heading, Formula)])
 
     def heading(self, column: Column[Any]) -> str:
-        """Answers what a column is called: in the list, or what is looked for if the list lacks it."""
+        """Returns what a column is called: in the list, or what is looked for if the list lacks it."""
         if column.key in self.places:
             return one_line(self.sheet.heading.cells[self.places[column.key]])
         return self.mapping.headings.get(column.key) or column.key
@@ -58,7 +58,7 @@ class List:
         return column.default is not None or column.key in self.mapping.defaults
 
     def likely(self, column: Column[Any]) -> str:
-        """Answers a heading by which a column seems to be there, quoted, or nothing: `delay [ns]` for `delay_ns`, its
+        """Returns a heading by which a column seems to be there, quoted, or nothing: `delay [ns]` for `delay_ns`, its
         name, or that without its unit, with or without words behind it. A link's name is but a comment."""
         own = words_of(column.key)
         names = [own[:-1] if own[-1] in UNITS else own, *map(words_of, column.also)]
@@ -83,7 +83,7 @@ class List:
         self.complaints.note(place, what)
 
     def rows(self) -> Iterator[Row]:
-        """Answers the rows. A cell that no heading is above, as an unquoted separator makes them, is a complaint."""
+        """Returns the rows. A cell that no heading is above, as an unquoted separator makes them, is a complaint."""
         for row in self.sheet.rows:
             beyond = [at for at in range(self.width, len(row.cells)) if row.cells[at]]
             self.complain_beside(row, "more cells than the heading has", beyond[:1])
@@ -96,7 +96,7 @@ class List:
             self.complaints.note(cell, what)
 
     def text(self, row: Row, column: Column[Any]) -> str:
-        """Answers a cell's text; if the cell is empty or not there, what the mapping has for it."""
+        """Returns a cell's text; if the cell is empty or not there, what the mapping has for it."""
         at = self.places.get(column.key, self.width)
         own = row.cells[at] if at < min(self.width, len(row.cells)) else ""
         return own or self.mapping.defaults.get(column.key, "")

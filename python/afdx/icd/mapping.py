@@ -57,7 +57,7 @@ class Reading:
             self.wrong.append(f"no such section, {name}")
 
     def values(self, place: str, known: columns.Columns, number: bool) -> dict[str, str]:
-        """Answers the values of a section as texts; other keys are wrong, but for the sections of lists in it."""
+        """Returns the values of a section as texts; other keys are wrong, but for the sections of lists in it."""
         section: Any = self.sections
         for name in place.split("."):
             section = section.get(name, {}) if isinstance(section, dict) else {}
@@ -74,7 +74,7 @@ class Reading:
         return {key: str(value) for key, value in found.items() if key in keys}
 
     def fit(self, place: str, known: columns.Columns) -> dict[str, str]:
-        """Answers the values of a section that are cells; one that its column cannot hold is wrong."""
+        """Returns the values of a section that are cells; one that its column cannot hold is wrong."""
         values = self.values(place, known, number=True)
         for column in known:
             try:

@@ -21,7 +21,7 @@ class Hop:
 
 
 def graph_of(network: Network) -> networkx.DiGraph:
-    """Answers the switches, with an edge for each wire that knows its ports. Of several wires from a switch to another
+    """Returns the switches, with an edge for each wire that knows its ports. Of several wires from a switch to another
     it is that at the lowest port. Nodes and edges are added by name, since searches meet them in that order."""
     graph = networkx.DiGraph()
     graph.add_nodes_from(sorted(network.switches))
@@ -33,7 +33,7 @@ def graph_of(network: Network) -> networkx.DiGraph:
 
 
 def ways_from(graph: networkx.DiGraph, start: str, closed: Iterable[str]) -> dict[str, list[str]]:
-    """Answers a way by fewest hops to each switch that is reached without the closed ones; together they are a tree. Of
+    """Returns a way by fewest hops to each switch that is reached without the closed ones; together they are a tree. Of
     several ways it is that whose names come first."""
     view = networkx.restricted_view(graph, closed, [])
     ways: dict[str, list[str]] = networkx.single_source_shortest_path(view, start)
@@ -41,7 +41,7 @@ def ways_from(graph: networkx.DiGraph, start: str, closed: Iterable[str]) -> dic
 
 
 def stem_of(graph: networkx.DiGraph, source: str, via: list[str]) -> list[str]:
-    """Answers the way from a switch over those of `via` in their order, each part by fewest hops."""
+    """Returns the way from a switch over those of `via` in their order, each part by fewest hops."""
     stem = [source]
     for place, switch in enumerate(via):
         if switch not in stem:
@@ -55,7 +55,7 @@ def stem_of(graph: networkx.DiGraph, source: str, via: list[str]) -> list[str]:
 
 
 def ways_of(graph: networkx.DiGraph, source: str, targets: set[str], via: list[str]) -> dict[str, list[str]]:
-    """Answers the way from a switch to each of these; together they are a tree. All go over the switches of `via`, but
+    """Returns the way from a switch to each of these; together they are a tree. All go over the switches of `via`, but
     to a switch that lies before the last of these."""
     stem = stem_of(graph, source, via)
     ways = {switch: stem[:place] for place, switch in enumerate(stem, 1)}
@@ -69,7 +69,7 @@ def ways_of(graph: networkx.DiGraph, source: str, targets: set[str], via: list[s
 
 
 def hops_of(graph: networkx.DiGraph, network: Network, link: Link) -> list[Hop]:
-    """Answers the switches on a link's ways, by name."""
+    """Returns the switches on a link's ways, by name."""
     source = network.ends[link.source]
     ends = [network.ends[target] for target in link.targets]
     ways = ways_of(graph, source.switch, {end.switch for end in ends}, link.via)

@@ -54,7 +54,7 @@ def text_of(value: object) -> str:
 
 
 def is_uncomputed(parts: ZipFile) -> bool:
-    """Answers whether a workbook says that all its formulas have to be computed when it is opened, and no program has
+    """Returns whether a workbook says that all its formulas have to be computed when it is opened, and no program has
     left the order in which it computed them. XlsxWriter saves 0 with formulas, and such a workbook."""
     if WORKBOOK not in parts.namelist() or CHAIN in parts.namelist():
         return False
@@ -63,7 +63,7 @@ def is_uncomputed(parts: ZipFile) -> bool:
 
 
 def elements_of(sheet: Any) -> Iterator[ElementTree.Element]:
-    """Answers a sheet's rows and merged ranges one by one. What they have beside values openpyxl does not say of a
+    """Returns a sheet's rows and merged ranges one by one. What they have beside values openpyxl does not say of a
     sheet that it reads row by row."""
     with sheet._get_source() as source:
         for _, element in ElementTree.iterparse(source):
@@ -74,7 +74,7 @@ def elements_of(sheet: Any) -> Iterator[ElementTree.Element]:
 
 
 def is_saved(cell: ElementTree.Element, none: str) -> bool:
-    """Answers whether a value was saved with the formula of a cell, other than this text, which is none; a text without
+    """Returns whether a value was saved with the formula of a cell, other than this text, which is none; a text without
     characters is a value."""
     value = cell.find(f"{PARTS}v")
     return value is not None and (value.text not in (None, none) or cell.get("t") == "str")
@@ -97,7 +97,7 @@ def put_formula(rows: list[Row], line: int, column: int, cell: ElementTree.Eleme
 
 
 def put_formulas(rows: list[Row], sheet: Any, none: str) -> list[str]:
-    """Puts formulas without values where they stand, also those whose value is this text, which is none. Answers the
+    """Puts formulas without values where they stand, also those whose value is this text, which is none. Returns the
     ranges of merged cells, A2:B5 for instance."""
     ranges, line = [], 0
     for element in elements_of(sheet):
@@ -128,7 +128,7 @@ def spread(rows: list[Row], ranges: Iterable[str]) -> None:
 
 
 def workbook_rows(text: bytes) -> list[Row]:
-    """Answers the rows of a workbook's first visible sheet, of formulas the values that were saved with them. How
+    """Returns the rows of a workbook's first visible sheet, of formulas the values that were saved with them. How
     large the sheet says that it is does not count: programs other than Excel write less than there is."""
     book = openpyxl.load_workbook(io.BytesIO(text), read_only=True, data_only=True)
     sheet = next(sheet for sheet in book.worksheets if sheet.sheet_state == "visible")
@@ -142,13 +142,13 @@ def workbook_rows(text: bytes) -> list[Row]:
 
 
 def separator_of(text: str) -> str:
-    """Answers the separator that the first line has most of."""
+    """Returns the separator that the first line has most of."""
     first = text.lstrip("\r\n").split("\n", 1)[0]
     return max(SEPARATORS, key=first.count)
 
 
 def separated_rows(text: str) -> list[Row]:
-    """Answers the rows of separated values; one with line feeds in its cells is of the line where it begins. A first
+    """Returns the rows of separated values; one with line feeds in its cells is of the line where it begins. A first
     line may say the separator, as some spreadsheets have it."""
     said = SAID.match(text)
     separator = said[1] if said else separator_of(text)
@@ -162,7 +162,7 @@ def separated_rows(text: str) -> list[Row]:
 
 
 def rows_of(command: str, path: Path) -> list[Row]:
-    """Answers all rows of a file, read by its ending."""
+    """Returns all rows of a file, read by its ending."""
     text = files.get(command, path)
     if path.suffix.lower() == ".xlsx":
         try:

@@ -39,7 +39,7 @@ class Table:
 
 
 def section(name: str, values: dict[str, Value]) -> Section:
-    """Answers a section with these values, and a name beside its heading if there is one."""
+    """Returns a section with these values, and a name beside its heading if there is one."""
     made = tomlkit.table()
     for key, value in values.items():
         made.add(key, value)
@@ -54,7 +54,7 @@ def port_section(name: str, port: Port) -> Section:
 
 
 def row_section(table: Table, link: Link, hop: Hop) -> Section:
-    """Answers a link's row with its sender's jitter, the names of its ports beside their numbers."""
+    """Returns a link's row with its sender's jitter, the names of its ports beside their numbers."""
     source = tomlkit.item(hop.source).comment(table.names([hop.source]))
     targets = tomlkit.item(hop.targets).comment(table.names(hop.targets))
     return section(link.name, {
@@ -63,7 +63,7 @@ def row_section(table: Table, link: Link, hop: Hop) -> Section:
 
 
 def document(top: dict[str, int | str], sections: dict[str, list[Section]]) -> TOMLDocument:
-    """Answers a file that says who made it, the values at its top, and its sections."""
+    """Returns a file that says who made it, the values at its top, and its sections."""
     made = tomlkit.document()
     made.add(tomlkit.comment(MADE))
     for key, value in top.items():
@@ -77,7 +77,7 @@ def document(top: dict[str, int | str], sections: dict[str, list[Section]]) -> T
 
 
 def named_ports(network: Network) -> list[tuple[str, Port]]:
-    """Answers all ports by number, each with the name of what is at it."""
+    """Returns all ports by number, each with the name of what is at it."""
     ports = list(network.ends.items())
     for cable in network.cables:
         ports += [(f"cable to {cable.b}", cable.a), (f"cable to {cable.a}", cable.b)]
@@ -85,7 +85,7 @@ def named_ports(network: Network) -> list[tuple[str, Port]]:
 
 
 def tables_of(network: Network, hops: dict[int, list[Hop]], mapping: Mapping) -> dict[str, Table]:
-    """Answers the table of each switch, by name."""
+    """Returns the table of each switch, by name."""
     tables = {switch: Table() for switch in sorted(network.switches)}
     for name, port in named_ports(network):
         tables[port.switch].ports[port.number] = (name, port)
@@ -102,7 +102,7 @@ def tables_of(network: Network, hops: dict[int, list[Hop]], mapping: Mapping) ->
 
 
 def switch_section(name: str, table: Table) -> Section:
-    """Answers the section of a switch in the network file. Its least latency is said if it is known to be above 0."""
+    """Returns the section of a switch in the network file. Its least latency is said if it is known to be above 0."""
     values: dict[str, Value] = {"name": name, "table": f"{name}.toml"}
     if table.least_latency_us:
         values["least_latency_us"] = table.least_latency_us
@@ -110,7 +110,7 @@ def switch_section(name: str, table: Table) -> Section:
 
 
 def network_document(tables: dict[str, Table], cables: Iterable[Cable]) -> TOMLDocument:
-    """Answers the network file: the switches, and both wires of each cable, by switch and port."""
+    """Returns the network file: the switches, and both wires of each cable, by switch and port."""
     both = [[(cable.a, cable.b, cable.delay_ns), (cable.b, cable.a, cable.delay_ns)] for cable in cables]
     wires = sorted(chain(*both), key=lambda wire: (wire[0].switch, wire[0].number))
     return document({"version": 1}, {

@@ -43,7 +43,7 @@ class Line:
     drift: float
 
     def over(self, stamp: Column) -> Floats:
-        """Answers the differences at these instants, beyond the base."""
+        """Returns the differences at these instants, beyond the base."""
         return self.more + self.drift * (stamp - self.anchor).astype(np.float64)
 
 
@@ -65,7 +65,7 @@ class Alignment:
 
     @property
     def drift_from_ns(self) -> int:
-        """Answers the stamp from which the drift counts, which is that of the second recording's first record."""
+        """Returns the stamp from which the drift counts, which is that of the second recording's first record."""
         return self.line.anchor
 
 
@@ -104,7 +104,7 @@ def sightings(path: Path) -> Sightings:
 
 
 def keyed(batch: Batch, checks: dict[int, CheckSequences]) -> tuple[npt.NDArray[np.uint64], Column]:
-    """Answers a batch's whole frames by a number made of their bytes, without a check sequence, with their stamps."""
+    """Returns a batch's whole frames by a number made of their bytes, without a check sequence, with their stamps."""
     end = batch.start + batch.captured
     for place in np.unique(batch.interface).tolist():
         its = np.flatnonzero(batch.interface == place)
@@ -124,7 +124,7 @@ class Occurrences:
         self.key, self.stamp = seen.key[order], seen.stamp[order]
 
     def all_differences(self, key: npt.NDArray[np.uint64], stamp: Column) -> tuple[Column, Column]:
-        """Answers each difference of these frames from one of the same bytes, with the frame's place among these."""
+        """Returns each difference of these frames from one of the same bytes, with the frame's place among these."""
         begin, end = np.searchsorted(self.key, key), np.searchsorted(self.key, key, "right")
         count = end - begin
         which = np.repeat(np.arange(len(key)), count)
@@ -132,7 +132,7 @@ class Occurrences:
         return stamp[which] - self.stamp[at], which
 
     def nearest_differences(self, key: npt.NDArray[np.uint64], stamp: Column, expected: Column) -> Column:
-        """Answers each frame's difference from that one of the same bytes that was seen nearest to what is expected."""
+        """Returns each frame's difference from that one of the same bytes that was seen nearest to what is expected."""
         begin, end = np.searchsorted(self.key, key), np.searchsorted(self.key, key, "right")
         while (end - begin > 1).any():
             middle = (begin + end) // 2
@@ -145,14 +145,14 @@ class Occurrences:
 
 
 def densest(differences: Column, width: int) -> tuple[int, int]:
-    """Answers where the window begins that holds most of these sorted differences, and how many it holds."""
+    """Returns where the window begins that holds most of these sorted differences, and how many it holds."""
     held = np.searchsorted(differences, differences + width, "right") - np.arange(len(differences))
     best = int(held.argmax())
     return int(differences[best]), int(held[best])
 
 
 def voted(first: Occurrences, key: npt.NDArray[np.uint64], stamp: Column) -> tuple[Column, Column, bool]:
-    """Answers stamps and differences of those frames of a part of the time that agree on an offset, and whether nearly
+    """Returns stamps and differences of those frames of a part of the time that agree on an offset, and whether nearly
     as many agree on another one."""
     some = np.unique(np.linspace(0, len(key) - 1, min(len(key), SAMPLES)).astype(np.int64))
     key, stamp = key[some], stamp[some]

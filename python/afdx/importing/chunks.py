@@ -52,7 +52,7 @@ class Chunk:
         return Seen(int(self.stamp[index]), self.origin, int(self.where[index]))
 
     def part(self, begin: int, end: int, is_sorted: bool) -> "Chunk":
-        """Answers some of the records, which lie in this chunk's memory; whether they are sorted has to be told."""
+        """Returns some of the records, which lie in this chunk's memory; whether they are sorted has to be told."""
         if end - begin == len(self.stamp):
             return replace(self, is_sorted=is_sorted)
         at = self.at[begin:end + 1]
@@ -60,25 +60,25 @@ class Chunk:
                      is_sorted, is_shared=True, waited=self.waited)
 
     def apart(self) -> "Chunk":
-        """Answers the records in memory of their own: as long as they wait, no others are kept."""
+        """Returns the records in memory of their own: as long as they wait, no others are kept."""
         return Chunk(memoryview(bytes(self.text)), self.at.copy(), self.stamp.copy(), self.where.copy(), self.origin,
                      self.is_sorted)
 
     def sorted(self) -> "Chunk":
-        """Answers the records in the order of their stamps, equal ones in the order that they have."""
+        """Returns the records in the order of their stamps, equal ones in the order that they have."""
         order = np.argsort(self.stamp, kind="stable")
         text, at = arranged(self.text, np.diff(self.at), order)
         return Chunk(text, at, self.stamp[order], self.where[order], self.origin, is_sorted=True)
 
     def before(self, instant: int) -> int:
-        """Answers how many of sorted records are before an instant."""
+        """Returns how many of sorted records are before an instant."""
         if self.first < instant <= self.last:
             return int(np.searchsorted(self.stamp, instant))
         return len(self.stamp) if self.last < instant else 0
 
 
 def arranged(text: bytes | memoryview, length: Column, order: Column) -> tuple[memoryview, Column]:
-    """Answers records of these lengths, of which a text is made, in this order of them, with their places."""
+    """Returns records of these lengths, of which a text is made, in this order of them, with their places."""
     at = places_of(length[order])
     return copied(text, places_of(length)[:-1], length, permuted(at[:-1], order)), at
 
@@ -109,7 +109,7 @@ class Ordered:
 
 
 def merged(chunks: list[Chunk]) -> list[Ordered]:
-    """Answers the records of sorted chunks in order, of equal stamps those of the first chunk first, all of one stamp
+    """Returns the records of sorted chunks in order, of equal stamps those of the first chunk first, all of one stamp
     together."""
     if all(before.last < after.first for before, after in zip(chunks, chunks[1:])):
         return [Ordered(chunk.text, chunk.at, chunk.stamp) for chunk in chunks]

@@ -47,7 +47,7 @@ def rules_in(path: Path) -> Rules:
 
 
 def recordings_of(rules: Rules, raw: Path) -> list[list[Path]]:
-    """Answers the files of each source, by name."""
+    """Returns the files of each source, by name."""
     if not raw.is_dir():
         raise Failure(DEVICE, f"{COMMAND}: no folder {raw}")
     found = [[raw / name for name in sorted(glob(source.file, root_dir=raw)) if (raw / name).is_file()]
@@ -87,7 +87,7 @@ def import_all(rules: Rules, raw: Path, folder: Path) -> Import:
 
 
 def align(paths: list[Path]) -> Alignment:
-    """Answers how the second recording comes to the clock of the first one."""
+    """Returns how the second recording comes to the clock of the first one."""
     try:
         first, second = map(sightings, paths)
         tell(*(f"{COMMAND}: {broken_note(seen.broken)}" for seen in (first, second) if seen.broken))
@@ -101,7 +101,7 @@ def align(paths: list[Path]) -> Alignment:
 
 
 def main(arguments: Sequence[str]) -> int:
-    """Runs the command; answers its exit status."""
+    """Runs the command; returns its exit status."""
     options = options_of(arguments)
     if options.align:
         say(COMMAND, alignment_text(options.align[0], options.align[1], align(options.align)))

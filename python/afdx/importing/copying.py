@@ -9,21 +9,21 @@ BLOCK = 128 * 1024  # bytes that are copied at once: they stay in the processor'
 
 
 def places_of(length: Column) -> Column:
-    """Answers where pieces of these lengths begin that follow one another, and where the last one ends."""
+    """Returns where pieces of these lengths begin that follow one another, and where the last one ends."""
     at = np.zeros(len(length) + 1, np.int64)
     np.cumsum(length, out=at[1:])
     return at
 
 
 def permuted(column: Column, to: Column) -> Column:
-    """Answers a column whose values have come to these places, each of which is one's."""
+    """Returns a column whose values have come to these places, each of which is one's."""
     found = np.empty_like(column)
     found[to] = column
     return found
 
 
 def copied(data: bytes | memoryview, begin: Column, length: Column, to: Column) -> memoryview:
-    """Answers pieces of data, none of them empty, in memory of their own, each at its place there; they leave no gaps.
+    """Returns pieces of data, none of them empty, in memory of their own, each at its place there; they leave no gaps.
 
     They are copied in the order in which they are named: at best that in which they lie in data, since the processor
     fetches ahead what lies next, and waits for what does not.
@@ -63,7 +63,7 @@ def copy_all(data: bytes | memoryview, text: memoryview, begin: Column, length: 
 
 
 def ranges_of(length: Column) -> list[tuple[int, int]]:
-    """Answers ranges that hold all of these lengths: of single ones if they are few, otherwise none to more than twice
+    """Returns ranges that hold all of these lengths: of single ones if they are few, otherwise none to more than twice
     the length at which it begins."""
     lengths = np.flatnonzero(np.bincount(length))
     ranges, is_few = [], len(lengths) <= FEW

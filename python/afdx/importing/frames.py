@@ -24,7 +24,7 @@ class Senders:
 
 
 def senders(batch: Batch) -> Senders:
-    """Answers the senders of a batch's frames."""
+    """Returns the senders of a batch's frames."""
     end_system = (batch.sender >> 8).astype(np.uint16).byteswap().astype(np.int32)
     network = (batch.sender >> 24).astype(np.uint8)
     short = batch.captured < ADDRESSES
@@ -35,7 +35,7 @@ def senders(batch: Batch) -> Senders:
 
 
 def is_checked(frame: bytes) -> bool:
-    """Answers whether the last four bytes are the check sequence of those before."""
+    """Returns whether the last four bytes are the check sequence of those before."""
     return zlib.crc32(frame[:-CHECK_SEQUENCE]) == int.from_bytes(frame[-CHECK_SEQUENCE:], "little")
 
 
@@ -52,7 +52,7 @@ class CheckSequences:
         self.are_there: bool | None = None
 
     def look(self, batch: Batch, mine: Column) -> bool:
-        """Looks at whole frames of these records; answers whether check sequences are there."""
+        """Looks at whole frames of these records; returns whether check sequences are there."""
         most = self.FIRST if self.are_there is None else self.LATER
         some = whole(batch, mine[:2 * most])[:most]
         if len(some) < most:
@@ -69,14 +69,14 @@ class CheckSequences:
 
 
 def whole(batch: Batch, mine: Column) -> Column:
-    """Answers those of these records whose frames are whole, and long enough for a check sequence."""
+    """Returns those of these records whose frames are whole, and long enough for a check sequence."""
     captured = batch.captured[mine]
     found: Column = mine[(captured == batch.original[mine]) & (captured >= SHORTEST)]
     return found
 
 
 def without_check_sequence(captured: Column, original: Column, has: npt.NDArray[np.bool_]) -> tuple[Column, Column]:
-    """Answers the lengths of frames of which some have a check sequence that is taken off."""
+    """Returns the lengths of frames of which some have a check sequence that is taken off."""
     if not has.any():
         return captured, original
     original = np.where(has, np.maximum(original - CHECK_SEQUENCE, 0), original)

@@ -3,5 +3,5 @@ from afdx.pages.words import utc
 
 
 def instant(stamp: int) -> str:
-    """Answers a stamp, which is ns after 1970, as ISO 8601 has it, in UTC to the nanosecond."""
+    """Returns a stamp, which is ns after 1970, as ISO 8601 has it, in UTC to the nanosecond."""
     return f"{utc(stamp).replace(' ', 'T')}Z"

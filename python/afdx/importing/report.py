@@ -16,7 +16,7 @@ MOST_NAMED = 8  # end systems that are named in a warning
 
 
 def port_line(name: str, port: Port) -> str:
-    """Answers the line of a port."""
+    """Returns the line of a port."""
     some = "stripped" if port.stripped == port.frames else f"stripped-of-{port.stripped}"
     fcs = some if port.stripped else "none"
     first, last = (instant(port.first), instant(port.last)) if port.frames else ("-", "-")
@@ -25,7 +25,7 @@ def port_line(name: str, port: Port) -> str:
 
 
 def notes(done: Import) -> Iterator[str]:
-    """Answers what was found out of the recordings, and what may be wrong with them."""
+    """Says what was found out of the recordings, and what may be wrong with them."""
     for reading in done.readings.values():
         if reading.recording.broken:
             yield broken_note(reading.recording.broken)
@@ -40,12 +40,12 @@ def notes(done: Import) -> Iterator[str]:
 
 
 def broken_note(place: Place) -> str:
-    """Answers that a recording breaks off here."""
+    """Says that a recording breaks off here."""
     return f"warning: breaks off; what was whole before is used, {place}"
 
 
 def dropped_notes(reading: Reading) -> Iterator[str]:
-    """Answers of which interfaces that are asked for the recording says that frames were dropped."""
+    """Says of which interfaces that are asked for the recording says that frames were dropped."""
     for place, count in sorted(reading.recording.dropped.items()):
         interface = reading.recording.interfaces[place]
         if count and any(taker.is_asked(interface) for taker in reading.takers):
@@ -54,7 +54,7 @@ def dropped_notes(reading: Reading) -> Iterator[str]:
 
 
 def check_sequence_notes(reading: Reading) -> Iterator[str]:
-    """Answers of which interfaces check sequences were taken off, and where frames differ."""
+    """Says of which interfaces check sequences were taken off, and where frames differ."""
     for place, check in reading.checks.items():
         interface = reading.recording.interfaces[place].number
         if check.unknown:
@@ -73,7 +73,7 @@ def check_sequence_notes(reading: Reading) -> Iterator[str]:
 
 
 def left_note(reading: Reading) -> str:
-    """Answers which frames no source takes."""
+    """Says which frames no source takes."""
     senders = (np.flatnonzero(reading.left) + NONE).tolist()
     named = " ".join(str(number) if number >= 0 else "none" for number in senders[:MOST_NAMED])
     more = " .." if len(senders) > MOST_NAMED else ""
@@ -82,13 +82,13 @@ def left_note(reading: Reading) -> str:
 
 
 def interface_note(taker: Taker) -> str:
-    """Answers that a source's interface is not there."""
+    """Says that a source's interface is not there."""
     there = ", ".join(f"{interface.number} {interface.name!r}" for interface in taker.recording.interfaces)
     return f"warning: no interface {taker.source.interface!r}; there are: {there or 'none'}, {taker.recording.name}"
 
 
 def port_notes(ports: dict[str, Port]) -> Iterator[str]:
-    """Answers where networks are mixed, where frames were taken twice, and where clocks may be apart."""
+    """Says where networks are mixed, where frames were taken twice, and where clocks may be apart."""
     for name, port in ports.items():
         if all(port.networks.values()):
             counts = " and ".join(f"{count} of network {network}" for network, count in port.networks.items())
@@ -103,13 +103,13 @@ def port_notes(ports: dict[str, Port]) -> Iterator[str]:
 
 
 def in_comment(path: Path) -> str:
-    """Answers a file's name as a comment of TOML may have it: what cannot be printed, and bytes that are not UTF-8, by
+    """Returns a file's name as a comment of TOML may have it: what cannot be printed, and bytes that are not UTF-8, by
     their numbers."""
     return "".join(sign if sign.isprintable() else ascii(sign)[1:-1] for sign in str(path))
 
 
 def alignment_text(first: Path, second: Path, found: Alignment) -> str:
-    """Answers the rules for the second recording, to be pasted, with what they rest on."""
+    """Returns the rules for the second recording, to be pasted, with what they rest on."""
     least, low, high, greatest = (round(part) for part in np.percentile(found.residues, [0, 25, 75, 100]))
     anchor = f"drift_from_ns = {found.drift_from_ns}\n" if found.drift_ppb else ""
     names = f"{in_comment(second)} by the clock of {in_comment(first)}"

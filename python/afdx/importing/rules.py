@@ -31,12 +31,12 @@ class Source:
 
     @property
     def tick(self) -> int:
-        """Answers by how many ns a stamp is made later for each byte of its frame."""
+        """Returns by how many ns a stamp is made later for each byte of its frame."""
         return 8000 // self.mbit if self.stamps == "start" and self.mbit else 0
 
     @property
     def moves(self) -> bool:
-        """Answers whether stamps are changed."""
+        """Returns whether stamps are changed."""
         return self.tick != 0 or self.offset_ns != 0 or self.drift_ppb != 0
 
     @property
@@ -53,7 +53,7 @@ class Rules:
 
     @property
     def ports(self) -> list[str]:
-        """Answers all ports that get a capture, by folder and number."""
+        """Returns all ports that get a capture, by folder and number."""
         named = {port for source in self.sources for port in source.ports} | set(self.silent)
         return sorted(named, key=lambda port: (port.rpartition("/")[0], int(port.rpartition("-")[2])))
 
@@ -109,7 +109,7 @@ OF_THE_TOP: dict[str, tuple[Callable[[Any], bool], str]] = {
 
 
 def faults_of(table: dict[str, Any], keys: dict[str, tuple[Callable[[Any], bool], str]], place: str) -> list[str]:
-    """Answers what is wrong with the values of a table, each by itself."""
+    """Returns what is wrong with the values of a table, each by itself."""
     unknown = [f"{place}: unknown key {key}" for key in table if key not in keys]
     wrong = [f"{place}: {key} has to be {meaning}" for key, (is_sound, meaning) in keys.items()
              if key in table and not is_sound(table[key])]
@@ -117,7 +117,7 @@ def faults_of(table: dict[str, Any], keys: dict[str, tuple[Callable[[Any], bool]
 
 
 def faults_of_source(table: dict[str, Any], place: str) -> list[str]:
-    """Answers what is wrong with a source."""
+    """Returns what is wrong with a source."""
     faults = faults_of(table, OF_SOURCES, place)
     if "file" not in table:
         faults.append(f"{place}: file is missing")
@@ -133,7 +133,7 @@ def faults_of_source(table: dict[str, Any], place: str) -> list[str]:
 
 
 def faults_of_silent(rules: Rules) -> list[str]:
-    """Answers which ports are said to be silent, and get frames of a source."""
+    """Returns which ports are said to be silent, and get frames of a source."""
     return [f"top: silent names {port}, which source {number} names too"
             for number, source in enumerate(rules.sources, 1)
             for port in sorted(set(source.ports) & set(rules.silent))]

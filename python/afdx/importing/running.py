@@ -17,7 +17,7 @@ FIRST_LOOK = 64 * 1024  # bytes in which a recording's first record is looked fo
 
 
 def first_stamp(path: Path) -> int | None:
-    """Answers the stamp of a recording's first record; None if it has none, or a fault before it."""
+    """Returns the stamp of a recording's first record; None if it has none, or a fault before it."""
     batches = Recording(path, path.name, FIRST_LOOK).batches()
     try:
         return next((int(batch.stamp[0]) for batch in batches if len(batch.stamp)), None)
@@ -57,7 +57,7 @@ class Reading:
                 self.left += np.bincount(of.end_system[is_left] - NONE, minlength=len(self.left))
 
     def progress(self, taker: Taker) -> int:
-        """Answers how far the recording has come, by the clock that the taker's stamps have."""
+        """Returns how far the recording has come, by the clock that the taker's stamps have."""
         if self.newest is None:
             return LONG_AGO
         return int(corrected(np.array(self.newest), taker.source, taker.anchor))
@@ -81,7 +81,7 @@ class Import:
 
     @property
     def faults(self) -> list[RecordingFault]:
-        """Answers the first fault of each recording that has one, in the rules' order."""
+        """Returns the first fault of each recording that has one, in the rules' order."""
         return [reading.fault for reading in self.readings.values() if reading.fault]
 
     def add(self, reading: Reading, source: Source, anchor: int) -> None:

@@ -112,7 +112,7 @@ class Frames:
 
 
 def corrected(stamp: Column, source: Source, anchor: int) -> Column:
-    """Answers stamps by the clock that the source's rules lead to; the drift counts from the anchor on."""
+    """Returns stamps by the clock that the source's rules lead to; the drift counts from the anchor on."""
     if not source.drift_ppb and not source.offset_ns:
         return stamp
     seconds = (stamp - anchor) // SECOND
@@ -139,7 +139,7 @@ class Taker:
             self.port_of[int(end_system)] = self.names.index(name) + 1
 
     def take(self, batch: Batch, of: Senders) -> Column:
-        """Takes the source's frames of a batch to their ports; answers which they are."""
+        """Takes the source's frames of a batch to their ports; returns which they are."""
         mine = self.chosen(batch)
         if self.source.network:
             mine = mine[picked(of.network, mine) == NETWORKS[self.source.network]]
@@ -160,7 +160,7 @@ class Taker:
         return self.share_out(batch, frames, self.port_of.take(picked(of.end_system, mine)), is_written)
 
     def share_out(self, batch: Batch, frames: Frames, port_of: Ports, is_written: bool) -> Column:
-        """Brings frames to the ports of these numbers; answers those that have one."""
+        """Brings frames to the ports of these numbers; returns those that have one."""
         if not port_of.all():
             some = np.flatnonzero(port_of)
             frames, port_of = frames.at(some), port_of.take(some)
@@ -176,7 +176,7 @@ class Taker:
         return frames.record
 
     def chosen(self, batch: Batch) -> Column:
-        """Answers the records of the source's interfaces."""
+        """Returns the records of the source's interfaces."""
         interfaces = self.recording.interfaces
         asked = np.array([self.is_asked(interface) for interface in interfaces])
         if asked.all():
@@ -198,14 +198,14 @@ class Taker:
         return asked is None or asked == (interface.name if isinstance(asked, str) else interface.number)
 
     def check_sequences(self, batch: Batch, mine: Column) -> npt.NDArray[np.bool_]:
-        """Answers which of these frames have a check sequence to be taken off."""
+        """Returns which of these frames have a check sequence to be taken off."""
         if self.source.fcs is False:
             return np.zeros(len(mine), np.bool_)
         has = self.looked_at(batch, mine)
         return np.full(len(mine), True) if self.source.fcs is True else has
 
     def looked_at(self, batch: Batch, mine: Column) -> npt.NDArray[np.bool_]:
-        """Looks at some of these frames; answers which are of an interface whose frames have a check sequence."""
+        """Looks at some of these frames; returns which are of an interface whose frames have a check sequence."""
         if len(self.recording.interfaces) == 1:
             return np.full(len(mine), self.checks.setdefault(0, CheckSequences()).look(batch, mine))
         has = np.zeros(len(mine), np.bool_)

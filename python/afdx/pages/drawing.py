@@ -27,7 +27,7 @@ def saved(figure: Any, transparent: bool) -> str:
 
 
 def svg_of(figure: Any, label: str) -> str:
-    """Answers the figure as an element of the page: as wide as its place, in the page's colours, without names that
+    """Returns the figure as an element of the page: as wide as its place, in the page's colours, without names that
     another figure has too. The label is text of HTML."""
     svg = saved(figure, True)
     svg = svg[svg.index("<svg"):]

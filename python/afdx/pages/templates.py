@@ -9,7 +9,7 @@ FOLDER = Path(__file__).resolve().parent / "templates"
 
 
 def environment(package: Path) -> jinja2.Environment:
-    """Answers the templates of a package and those that all pages share: frame, style and sorting.
+    """Returns the templates of a package and those that all pages share: frame, style and sorting.
 
     They write what they are given as text of HTML, with the functions of `words`.
     """

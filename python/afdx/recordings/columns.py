@@ -54,7 +54,7 @@ class Batch:
 
 
 def joined(parts: list[Batch]) -> Iterator[Batch]:
-    """Answers batches of one piece as one, if there are any."""
+    """Returns batches of one piece as one, if there are any."""
     if len(parts) > 1:
         names = ("where", "start", "captured", "original", "stamp", "interface", "sender")
         columns = {name: np.concatenate([getattr(part, name) for part in parts]) for name in names}
@@ -63,20 +63,20 @@ def joined(parts: list[Batch]) -> Iterator[Batch]:
 
 
 def wheres(at: Column) -> Column:
-    """Answers where all records of a piece are, which begin at these places."""
+    """Returns where all records of a piece are, which begin at these places."""
     found: Column = (np.arange(len(at)) << HALF) + at
     return found
 
 
 def at_any(data: bytes | memoryview, kind: str, begin: int = 0) -> npt.NDArray[Any]:
-    """Answers what of this kind lies at each place of data from `begin` on; neighbours overlap."""
+    """Returns what of this kind lies at each place of data from `begin` on; neighbours overlap."""
     size = np.dtype(kind).itemsize
     found: npt.NDArray[Any] = np.ndarray((max(len(data) - begin - size + 1, 0),), kind, data, begin, (1,))
     return found
 
 
 def words(data: bytes, at: Column, count: int, order: str) -> Words:
-    """Answers the words of 4 bytes from each of these places on, which ascend, a row for each; zeros past the end."""
+    """Returns the words of 4 bytes from each of these places on, which ascend, a row for each; zeros past the end."""
     size = 4 * count
     within = int(np.searchsorted(at, len(data) - size, "right"))
     picked = at_any(data, f"V{size}")[at[:within]]
@@ -88,15 +88,15 @@ def words(data: bytes, at: Column, count: int, order: str) -> Words:
 
 
 def picked(column: npt.NDArray[Number], ascending: Column) -> npt.NDArray[Number]:
-    """Answers what a column has at these places, which ascend: the column itself if they are all."""
+    """Returns what a column has at these places, which ascend: the column itself if they are all."""
     return column if len(ascending) == len(column) else column.take(ascending)
 
 
 def are_in_order(stamp: Column) -> bool:
-    """Answers whether no stamp is before the one in front of it."""
+    """Returns whether no stamp is before the one in front of it."""
     return bool((stamp[1:] >= stamp[:-1]).all())
 
 
 def are_stamps(stamp: Column) -> bool:
-    """Answers whether a capture can have all of these stamps."""
+    """Returns whether a capture can have all of these stamps."""
     return not len(stamp) or 0 <= int(stamp.min()) and int(stamp.max()) < END_OF_STAMPS

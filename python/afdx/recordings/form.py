@@ -26,20 +26,20 @@ class Form(ABC):
 
     @property
     def dropped(self) -> dict[int, int]:
-        """Answers how many frames the recording says were dropped, by the place of the interface."""
+        """Returns how many frames the recording says were dropped, by the place of the interface."""
         return {}
 
     @property
     def ends_within(self) -> bool:
-        """Answers whether the recording would break off here, though all bytes were used."""
+        """Returns whether the recording would break off here, though all bytes were used."""
         return False
 
     @abstractmethod
     def batches(self, data: bytes) -> Iterator[Batch]:
-        """Answers the records that lie whole in data, which follows what was used before."""
+        """Returns the records that lie whole in data, which follows what was used before."""
 
     def up_to_fault(self, read: Callable[[Column], Batch], at: Column, origin: Origin) -> Iterator[Batch]:
-        """Answers the records that are read at these places, the next ones of a piece; if one has a fault, those before
+        """Returns the records that are read at these places, the next ones of a piece; if one has a fault, those before
         the first that has, and raises its fault."""
         try:
             batch = read(at)

@@ -40,7 +40,7 @@ class Pcap(Form):
 
     @classmethod
     def of(cls, begin: bytes, name: str) -> Self | None:
-        """Answers the reader of a recording that begins so, if it is pcap with a whole header."""
+        """Returns the reader of a recording that begins so, if it is pcap with a whole header."""
         return cls(name, begin[:HEADER]) if begin[:4] in MAGICS and len(begin) >= HEADER else None
 
     def batches(self, data: bytes) -> Iterator[Batch]:
@@ -49,7 +49,7 @@ class Pcap(Form):
         yield from self.up_to_fault(lambda some: self.batch(data, some, after, origin), at, origin)
 
     def batch(self, data: bytes, at: Column, after: int, origin: Origin) -> Batch:
-        """Answers the records at these places that lie whole in data."""
+        """Returns the records at these places that lie whole in data."""
         where = wheres(at)
         fields = words(data, at, TO_SENDER, self.order)
         captured = fields[:, 2].astype(np.int64)
@@ -76,7 +76,7 @@ class Pcap(Form):
 
 
 def headers(stamp: Column, captured: Column, original: Column) -> npt.NDArray[np.void]:
-    """Answers the headers of records as afdx writes them."""
+    """Returns the headers of records as afdx writes them."""
     fields = np.empty((len(stamp), 4), "<u4")
     seconds = stamp // SECOND  # np.divmod takes five times as long
     fields[:, 0] = seconds

@@ -40,14 +40,14 @@ class Clock:
         return self.power <= most and abs(self.seconds_later) < 2**33
 
     def nanoseconds(self, units: npt.NDArray[np.uint64]) -> Column:
-        """Answers stamps in ns, rounded down; one that is too late for a capture is past all others."""
+        """Returns stamps in ns, rounded down; one that is too late for a capture is past all others."""
         a_second = np.uint64((2 if self.binary else 10) ** self.power)
         seconds, fraction = np.divmod(units, a_second)
         seconds = np.minimum(seconds, np.uint64(2**33)).astype(np.int64) + self.seconds_later
         return np.clip(seconds, -1, 2**32) * SECOND + self.nanos(fraction).astype(np.int64)
 
     def nanos(self, fraction: npt.NDArray[np.uint64]) -> npt.NDArray[np.uint64]:
-        """Answers a fraction of a second in ns, rounded down, without passing 64 bits."""
+        """Returns a fraction of a second in ns, rounded down, without passing 64 bits."""
         if not self.binary:
             finer = self.power - 9
             return fraction // np.uint64(10 ** finer) if finer > 0 else fraction * np.uint64(10 ** -finer)
@@ -75,12 +75,12 @@ class Pcapng(Form):
 
     @classmethod
     def of(cls, begin: bytes, name: str) -> Self | None:
-        """Answers the reader of a recording that begins so, if it is pcapng."""
+        """Returns the reader of a recording that begins so, if it is pcapng."""
         return cls(name) if begin[:4] == MAGIC else None
 
     @property
     def dropped(self) -> dict[int, int]:
-        """Answers how many frames the recording says were dropped, by the place of the interface: what statistics say
+        """Returns how many frames the recording says were dropped, by the place of the interface: what statistics say
         and what packets say are the same frames, so the greater of both."""
         places = self.dropped_in_all.keys() | self.dropped_before.keys()
         return {place: max(self.dropped_in_all.get(place, 0), self.dropped_before.get(place, 0)) for place in places}
@@ -100,7 +100,7 @@ class Pcapng(Form):
         yield from joined(parts)
 
     def parts(self, data: bytes) -> Iterator[Batch]:
-        """Answers the packets between blocks that are taken in turn, up to the first fault, which it raises."""
+        """Returns the packets between blocks that are taken in turn, up to the first fault, which it raises."""
         at = self.passed(data)
         origin = Origin(self.place, self.count + 1, self.offset - (at or 0))
         while at is not None:
@@ -112,7 +112,7 @@ class Pcapng(Form):
             at = self.in_turn(data, at)
 
     def packets(self, data: bytes, origin: Origin, at: Column) -> Batch:
-        """Answers the packets of these blocks."""
+        """Returns the packets of these blocks."""
         where = wheres(at) + (self.count + 1 - origin.number << HALF)
         head = words(data, at, 2, self.order).astype(np.int64)
         kind, size = head[:, 0], head[:, 1]
@@ -144,7 +144,7 @@ class Pcapng(Form):
         return Batch(data, origin, where, at + BEFORE_FRAME, captured, original, stamp, interface, sender)
 
     def stamps(self, fields: Column, interface: Column) -> Column:
-        """Answers the packets' stamps, each by its interface's clock."""
+        """Returns the packets' stamps, each by its interface's clock."""
         units = (fields[:, 3].astype(np.uint64) << np.uint64(32)) | fields[:, 4].astype(np.uint64)
         stamp = np.empty(len(units), np.int64)
         for place in np.unique(interface):
@@ -153,7 +153,7 @@ class Pcapng(Form):
         return stamp
 
     def in_turn(self, data: bytes, at: int) -> int | None:
-        """Takes the block at this place; answers where the next one begins, or None if more bytes are needed."""
+        """Takes the block at this place; returns where the next one begins, or None if more bytes are needed."""
         if len(data) - at < LEAST:
             return None
         if data[at:at + 4] == MAGIC:
@@ -242,7 +242,7 @@ class Pcapng(Form):
         self.clocks.append(clock)
 
     def options(self, text: bytes) -> dict[int, bytes]:
-        """Answers a block's options, of a repeated one the first."""
+        """Returns a block's options, of a repeated one the first."""
         found: dict[int, bytes] = {}
         at = 0
         while at + 4 <= len(text):
@@ -267,7 +267,7 @@ class Pcapng(Form):
             self.used += there
 
     def passed(self, data: bytes) -> int | None:
-        """Goes on passing over a long block; answers where the next one begins, or None if more bytes are needed."""
+        """Goes on passing over a long block; returns where the next one begins, or None if more bytes are needed."""
         self.used = min(self.passing, len(data))
         self.passing -= self.used
         if not self.long:
@@ -287,13 +287,13 @@ class Pcapng(Form):
 
 
 def halves(word: Column, order: str) -> tuple[Column, Column]:
-    """Answers the halves of words as they follow each other in the recording."""
+    """Returns the halves of words as they follow each other in the recording."""
     low, high = word & 0xFFFF, word >> 16
     return (low, high) if order == "<" else (high, low)
 
 
 def walk(data: bytes, at: int, order: str) -> tuple[list[int], int]:
-    """Answers where blocks begin that lie whole in data, up to one that is taken in turn or has a wrong length."""
+    """Returns where blocks begin that lie whole in data, up to one that is taken in turn or has a wrong length."""
     head = struct.Struct(f"{order}II").unpack_from
     end = len(data)
     last = end - LEAST

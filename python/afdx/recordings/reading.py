@@ -29,11 +29,11 @@ class Recording:
 
     @property
     def dropped(self) -> dict[int, int]:
-        """Answers how many frames the recording says were dropped, by the place of the interface."""
+        """Returns how many frames the recording says were dropped, by the place of the interface."""
         return self.form.dropped if self.form else {}
 
     def batches(self) -> Iterator[Batch]:
-        """Answers all records in their order. Raises RecordingFault, and OSError with the file's name if it fails."""
+        """Returns all records in their order. Raises RecordingFault, and OSError with the file's name if it fails."""
         try:
             yield from self.all_batches()
         except OSError as error:
@@ -58,7 +58,7 @@ class Recording:
                 self.broken = self.next_place()
 
     def longer(self, unpacked: Unpacked, rest: bytes) -> bytes:
-        """Answers the rest of a piece with the next piece at its end."""
+        """Returns the rest of a piece with the next piece at its end."""
         try:
             return unpacked.read(self.piece, rest)
         except Damaged as damaged:
@@ -66,7 +66,7 @@ class Recording:
             raise RecordingFault(f"damaged compressed bytes ({damaged})", place) from damaged
 
     def place(self, number: int, offset: int) -> Place:
-        """Answers the place of a record that was read."""
+        """Returns the place of a record that was read."""
         assert self.form is not None
         return self.form.place(number, offset)
 
@@ -75,7 +75,7 @@ class Recording:
 
 
 def form_of(begin: bytes, name: str) -> Form | None:
-    """Answers the reader of a recording that begins so; None if it breaks off before its format can be told."""
+    """Returns the reader of a recording that begins so; None if it breaks off before its format can be told."""
     form = Pcap.of(begin, name) or Pcapng.of(begin, name)
     if form is None and (len(begin) >= HEADER or not any(magic.startswith(begin[:4]) for magic in [*MAGICS, MAGIC])):
         raise RecordingFault("neither pcap nor pcapng", Place(name, "header", 0))

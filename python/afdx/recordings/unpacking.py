@@ -24,7 +24,7 @@ class Unpacker(Protocol):
     def unused_data(self) -> bytes: ...
 
     def unpack(self, packed: bytes, most: int) -> tuple[bytes, bytes]:
-        """Answers what was unpacked and what is left of the packed bytes."""
+        """Returns what was unpacked and what is left of the packed bytes."""
 
 
 class Gzip:
@@ -127,7 +127,7 @@ class Unpacked:
         self.ended = False
 
     def read(self, most: int, rest: bytes) -> bytes:
-        """Answers the rest of what was read last, and the next bytes: as many as were asked for, fewer only at the
+        """Returns the rest of what was read last, and the next bytes: as many as were asked for, fewer only at the
         end."""
         if self.format is None:
             before, self.packed = rest or self.packed, b""
@@ -141,7 +141,7 @@ class Unpacked:
         return b"".join(parts)
 
     def unpacked(self, most: int) -> bytes:
-        """Answers some bytes, or none while more has to be read."""
+        """Returns some bytes, or none while more has to be read."""
         assert self.member is not None
         if self.member.eof:
             self.next_member()
@@ -174,5 +174,5 @@ class Unpacked:
 
 
 def member_of(form: Format, packed: bytes) -> Unpacker | None:
-    """Answers what unpacks the member that begins so; None if none of this format does."""
+    """Returns what unpacks the member that begins so; None if none of this format does."""
     return next((made() for magic, made in form.items() if packed.startswith(magic)), None)

@@ -17,7 +17,7 @@ MANY = 64  # records of one length that are worth a look whether all are
 
 
 def records_of(data: bytes, order: str) -> tuple[Column, int]:
-    """Answers where the records begin whose headers are there, and where the one after them would."""
+    """Returns where the records begin whose headers are there, and where the one after them would."""
     places, at = of_one_length(data, order)
     if not len(places):
         places, at = in_lanes(data, order)
@@ -26,7 +26,7 @@ def records_of(data: bytes, order: str) -> tuple[Column, int]:
 
 
 def of_one_length(data: bytes, order: str) -> tuple[Column, int]:
-    """Answers the records if they are many and all of one length, otherwise none."""
+    """Returns the records if they are many and all of one length, otherwise none."""
     if len(data) >= RECORD:
         size = RECORD + struct.unpack_from(f"{order}I", data, 8)[0]
         lengths = at_any(data, f"{order}u4", 8)[:len(data) - RECORD + 1:size]
@@ -73,7 +73,7 @@ def in_lanes(data: bytes, order: str) -> tuple[Column, int]:
 
 
 def guesses(data: bytes, order: str) -> Column:
-    """Answers the first record and then one that seems to begin in each lane, where one does: the first place that has
+    """Returns the first record and then one that seems to begin in each lane, where one does: the first place that has
     the upper half of the first record's second, if it fits."""
     first, after = one_by_one(data[:FIRST], order, 0)
     lane = IN_A_LANE * after // max(len(first), 1)
@@ -86,7 +86,7 @@ def guesses(data: bytes, order: str) -> Column:
 
 
 def are_likely(data: bytes, at: Column, order: str) -> npt.NDArray[np.bool_]:
-    """Answers where a record seems to begin: its lengths and the next record's second fit."""
+    """Returns where a record seems to begin: its lengths and the next record's second fit."""
     second, _, captured, original = words(data, at, 4, order).T
     after = at + RECORD + captured
     fits = (captured <= original) & (after + RECORD <= len(data))

@@ -41,14 +41,14 @@ def options_of(arguments: Sequence[str]) -> argparse.Namespace:
 
 
 def ports_of(folder: Path) -> set[str]:
-    """Answers the captures that lie in a folder and in those below it, also where a link leads to one."""
+    """Returns the captures that lie in a folder and in those below it, also where a link leads to one."""
     if not folder.is_dir():
         raise Failure(INPUT, f"{COMMAND}: no folder {folder}")
     return {name.removesuffix(".pcap") for name in glob("**/port-*.pcap", root_dir=folder, recursive=True)}
 
 
 def in_order(port: str) -> tuple[str, int, str]:
-    """Answers what ports are sorted by: their folder, then their number."""
+    """Returns what ports are sorted by: their folder, then their number."""
     folder, _, number = port.rpartition("-")
     return folder, int(number) if number.isdecimal() else 0, number
 
@@ -62,7 +62,7 @@ def refuse_falling(batch: Batch, newest: int | None) -> None:
 
 
 def copies_of(network: int, path: Path) -> Iterator[Copy]:
-    """Answers the frames of a capture; those without addresses are left out. Raises RecordingFault if stamps fall."""
+    """Returns the frames of a capture; those without addresses are left out. Raises RecordingFault if stamps fall."""
     recording = Recording(path, str(path))
     newest: int | None = None
     for batch in recording.batches():
@@ -94,7 +94,7 @@ def odd_line(port: str, odd: Odd) -> str:
 
 
 def lines_of(port: str, pairing: Pairing) -> list[str]:
-    """Answers a port's lines: for each link, and for each frame that is odd."""
+    """Returns a port's lines: for each link, and for each frame that is odd."""
     return [*(line(port, number, link) for number, link in sorted(pairing.links.items())),
             *(odd_line(port, odd) for odd in sorted(pairing.odd, key=lambda odd: (odd.stamp, odd.link)))]
 
@@ -122,7 +122,7 @@ def compared(port: str, folders: Sequence[Path], options: argparse.Namespace) ->
 
 
 def main(arguments: Sequence[str]) -> int:
-    """Runs the command; answers its exit status."""
+    """Runs the command; returns its exit status."""
     options = options_of(arguments)
     folders = [options.a, options.b]
     first, second = map(ports_of, folders)

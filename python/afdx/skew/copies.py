@@ -59,7 +59,7 @@ class Odd:
 
 
 def copy_of(stamp: int, network: int, frame: bytes) -> Copy | None:
-    """Answers the copy that a frame is; None if it has no addresses."""
+    """Returns the copy that a frame is; None if it has no addresses."""
     if len(frame) < ADDRESSES:
         return None
     return Copy(stamp, network, int.from_bytes(frame[LINK:LINK + 2], "big"), frame[:NETWORK] + frame[NETWORK + 1:])

@@ -25,7 +25,7 @@ class Asked:
     options: list[str]
 
     def offsets(self) -> dict[int, int]:
-        """Answers what is added to the stamps of each port, in ns, of options that the program has taken."""
+        """Returns what is added to the stamps of each port, in ns, of options that the program has taken."""
         given = [option.removeprefix("--offset=") for option in self.options if option.startswith("--offset=")]
         pairs = [pair.split("=") for text in given for pair in text.split(",")]
         return {int(port): int(offset) for port, offset in pairs}
@@ -94,7 +94,7 @@ def asked(program: Program, size: str, table: str, folder: str, unchecked: bool 
 
 
 def kept(command: str, folder: Path, recordings: Asked | None) -> Answers:
-    """Answers what a folder has of an earlier run: size.csv and measure.csv with what these commands printed, the files
+    """Returns what a folder has of an earlier run: size.csv and measure.csv with what these commands printed, the files
     of `trace`, and of recordings compare.csv and the file of `compare`."""
     size, measured = (text_of(command, folder / name) for name in PRINTED)
     said, rows = (folder / name for name in COMPARED)

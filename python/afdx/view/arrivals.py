@@ -50,7 +50,7 @@ class Fates:
         return [int(link) for link in numpy.flatnonzero(self.by_link["policed"])]
 
     def span(self) -> int:
-        """Answers the time from the first frame to the last one; 1 ns if there is no such time."""
+        """Returns the time from the first frame to the last one; 1 ns if there is no such time."""
         return max(1, self.last - self.first) if self.first is not None and self.last is not None else 1
 
 

@@ -21,7 +21,7 @@ def bar(what: str, need: int, limit: int, unit: str, kind: str = "") -> Bar:
 
 
 def delay_bars(need: printed.Row) -> list[Bar]:
-    """Answers a bar for the bound of each priority that the port has links of."""
+    """Returns a bar for the bound of each priority that the port has links of."""
     bars = []
     for priority in PRIORITIES:
         bound, limit = printed.number(need[priority]), printed.number(need[f"{priority}_limit"])
@@ -33,7 +33,7 @@ def delay_bars(need: printed.Row) -> list[Bar]:
 
 
 def bars_of(need: printed.Row, occupied: printed.Row) -> list[Bar]:
-    """Answers the bars of a port, from its row of `size` and its row of `measure`."""
+    """Returns the bars of a port, from its row of `size` and its row of `measure`."""
     return [bar("rate", int(need["rate"]), int(need["rate_limit"]), "parts"),
             bar("buffer needed", int(need["buffer"]), int(need["buffer_limit"]), "bytes"),
             bar("buffer used", int(occupied["occupied"]), int(occupied["buffer"]), "bytes", "used"),

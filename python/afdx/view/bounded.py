@@ -12,7 +12,7 @@ class Bounded:
 
     @property
     def share(self) -> float | None:
-        """Answers which part of its bound the greatest delay took."""
+        """Returns which part of its bound the greatest delay took."""
         return None if self.bound is None or self.greatest is None else self.greatest / self.bound
 
 

@@ -33,7 +33,7 @@ def add_comparison(parser: argparse.ArgumentParser) -> None:
 
 
 def recordings_of(parser: argparse.ArgumentParser, options: argparse.Namespace) -> Asked | None:
-    """Answers what is to be compared, if anything is."""
+    """Returns what is to be compared, if anything is."""
     given = vars(options)
     handed = [f"{name}={value}" for name in VALUED for value in given[name]] + ([REST] if given[REST] else [])
     if options.recorded is None and handed:

@@ -47,7 +47,7 @@ class Differences:
     """Counts differences, and keeps of them what is shown."""
 
     def __init__(self, ports: Sequence[int], shown: Sequence[Pair], offsets: dict[int, int], place: Place) -> None:
-        """Answers room for the differences at these ports, some of whose links have pictures; `offsets` are in ns, by
+        """Makes room for the differences at these ports, some of whose links have pictures; `offsets` are in ns, by
         port."""
         self.ports = list(ports)
         self.offsets = offsets
@@ -59,7 +59,7 @@ class Differences:
         self.places = {pair.port * LINKS + pair.link: number for number, pair in enumerate(shown)}
 
     def group(self, port: int, kind: str) -> int:
-        """Answers the number of a port's marks of a kind."""
+        """Returns the number of a port's marks of a kind."""
         return self.ports.index(port) * len(KINDS) + KINDS.index(kind)
 
     def add(self, rows: Any) -> None:
@@ -97,7 +97,7 @@ class Differences:
 
 
 def stamps_of(rows: Any, offsets: dict[int, int]) -> Ints:
-    """Answers when differences were, by the clock of the frames that came in."""
+    """Returns when differences were, by the clock of the frames that came in."""
     left = rows.stamp_out.notna()
     stamps: Ints = rows.stamp_out.fillna(rows.stamp_in).astype("int64").to_numpy(numpy.int64)
     added: Ints = rows.port.map(offsets).fillna(0).to_numpy(numpy.int64)

@@ -7,7 +7,7 @@ Floats = NDArray[numpy.float64]
 
 
 def part_of(instants: Ints, parts: int, span: int) -> Ints:
-    """Answers in which of so many equal parts of the time each instant is, from 0 to `span`."""
+    """Returns in which of so many equal parts of the time each instant is, from 0 to `span`."""
     part: Ints = (instants * (parts / (span + 1))).astype(numpy.int64)
     return numpy.minimum(part, parts - 1)  # to which the last instants of a very long time are rounded up
 
@@ -32,7 +32,7 @@ class Greatest:
         self.instants[places[best][::-1]] = instants[best][::-1]
 
     def points(self, group: int) -> tuple[Ints, Floats]:
-        """Answers the instants of a group's points, in order, and their values."""
+        """Returns the instants of a group's points, in order, and their values."""
         own = slice(group * self.parts, (group + 1) * self.parts)
         there = self.values[own] >= 0
         return self.instants[own][there], self.values[own][there]
@@ -53,7 +53,7 @@ class Cover:
         self.edges -= numpy.bincount(last + 1, minlength=self.parts + 1)
 
     def ranges(self) -> list[tuple[float, float]]:
-        """Answers where each run of touched parts begins and ends, as instants."""
+        """Returns where each run of touched parts begins and ends, as instants."""
         touched = numpy.cumsum(self.edges) > 0
         turns = numpy.flatnonzero(numpy.diff(touched, prepend=False, append=False))
         return [(begin * self.span / self.parts, end * self.span / self.parts)

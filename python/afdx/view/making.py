@@ -47,7 +47,7 @@ def check_place(command: str, out: Path) -> None:
 
 
 def rows_beside(out: Path) -> Path:
-    """Answers the name of the file of all differences."""
+    """Returns the name of the file of all differences."""
     return out.with_name(f"{out.stem}-differences.csv")
 
 
@@ -67,7 +67,7 @@ def captures_of(folder: str, ports: Sequence[int]) -> list[str]:
 
 
 def words_of(options: argparse.Namespace) -> list[str]:
-    """Answers the arguments in one order, whatever the order in which they were given."""
+    """Returns the arguments in one order, whatever the order in which they were given."""
     unchecked = ["--unchecked"] if options.unchecked else []
     kept = ["--answers", options.answers] if options.answers else []
     asked = options.recordings
@@ -76,7 +76,7 @@ def words_of(options: argparse.Namespace) -> list[str]:
 
 
 def comparing_of(options: argparse.Namespace) -> list[str]:
-    """Answers the words of the comparison."""
+    """Returns the words of the comparison."""
     asked = options.recordings
     return ["afdx", "compare", options.table, options.folder, asked.folder, *asked.options] if asked else []
 
@@ -120,7 +120,7 @@ def drawn(options: argparse.Namespace, run: "Run", origin: provenance.Provenance
 
 def origin_of(command: str, program: Program | None, options: argparse.Namespace, run: "Run",
               inputs: Sequence[str]) -> provenance.Provenance:
-    """Answers where the page comes from: of recordings those that were read."""
+    """Returns where the page comes from: of recordings those that were read."""
     recorded = recorded_of(options, run.recordings.differences.ports if run.recordings else [])
     comparison = provenance.Comparison(comparing_of(options), recorded)
     return provenance.provenance_of(command, program, words_of(options), inputs, comparison)

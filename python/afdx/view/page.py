@@ -112,7 +112,7 @@ def template(name: str) -> Any:
 
 
 def parts_of(run: Run, progress: Progress, depth: int = 2, mark: str = "") -> dict[str, Any]:
-    """Answers what the templates show of a run: below headings of this depth, with names that begin with the mark."""
+    """Returns what the templates show of a run: below headings of this depth, with names that begin with the mark."""
     first = run.fates.first
     return {
         "depth": depth, "mark": mark, "run": run, "first": first, "verdict": verdict_of(run),
@@ -123,7 +123,7 @@ def parts_of(run: Run, progress: Progress, depth: int = 2, mark: str = "") -> di
 
 
 def page(run: Run, title: str, provenance: Provenance, progress: Progress, rows: str) -> str:
-    """Answers the text of the page; `rows` is the name of the file that has all differences."""
+    """Returns the text of the page; `rows` is the name of the file that has all differences."""
     text = template("page.html").render(
         **parts_of(run, progress), title=title, provenance=provenance, marked=marked(run), kinds=differences.KINDS,
         rows_shown=differences.SHOWN, rows_file=rows)

@@ -28,7 +28,7 @@ class Pair(Sender):
 
 
 def pairs_of(measured: str, table: Table, fates: Fates) -> list[Pair]:
-    """Answers the delays that `afdx measure` printed, with what the frames' fates say of each link."""
+    """Returns the delays that `afdx measure` printed, with what the frames' fates say of each link."""
     pairs = []
     for row in printed.rows_of(measured, "delays"):
         link, port = int(row["link"]), int(row["port"])

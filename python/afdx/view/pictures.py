@@ -68,7 +68,7 @@ def shares(axes: Any, groups: Groups, checked: bool) -> None:
 
 
 def panel(figure: Any, bottom: float, height: float) -> Any:
-    """Answers axes of this place and height in inches, almost as wide as the figure."""
+    """Returns axes of this place and height in inches, almost as wide as the figure."""
     width, high = figure.get_size_inches()
     axes = figure.add_axes((0.85 / width, bottom / high, 1 - 1.2 / width, height / high))
     axes.locator_params(axis="x", nbins=max(3, int(width * 0.8)))
@@ -155,5 +155,5 @@ def differing(differences: Differences, width: float) -> Any:
 
 
 def first_of(differences: Differences, kind: str) -> tuple[int, str] | None:
-    """Answers the first port that has differences of a kind, and the kind."""
+    """Returns the first port that has differences of a kind, and the kind."""
     return min((pair for pair in differences.many if pair[1] == kind), default=None)

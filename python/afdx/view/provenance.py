@@ -23,17 +23,17 @@ class Provenance:
 
     @property
     def program(self) -> str:
-        """Answers its number and the kit that it is proved with."""
+        """Returns its number and the kit that it is proved with."""
         return " · ".join(self.version[:2]) or "not run"
 
     @property
     def proofs(self) -> str:
-        """Answers whether this program was built with its proofs, and of which commit."""
+        """Returns whether this program was built with its proofs, and of which commit."""
         return self.version[2] if len(self.version) > 2 else "the program does not say whether it is proved"
 
 
 def shown(name: str) -> str:
-    """Answers a name as the page shows it: of one that begins at the root only the last part, since the folders above
+    """Returns a name as the page shows it: of one that begins at the root only the last part, since the folders above
     it are the host's; what is not UTF-8 is replaced."""
     path = Path(name)
     return os.fsencode(path.name if path.is_absolute() else name).decode("utf-8", "replace")
@@ -52,7 +52,7 @@ def sums_of(command: str, names: Sequence[str]) -> list[tuple[str, str]]:
 
 
 def now(command: str) -> str:
-    """Answers the time, or that of SOURCE_DATE_EPOCH, by which a page can be made again byte by byte."""
+    """Returns the time, or that of SOURCE_DATE_EPOCH, by which a page can be made again byte by byte."""
     fixed = os.environ.get("SOURCE_DATE_EPOCH")
     try:
         return words.utc((int(fixed) if fixed else int(time.time())) * words.SECOND).removesuffix(".000000000") + " UTC"
@@ -73,7 +73,7 @@ class Comparison:
 
 def provenance_of(command: str, asked: program.Program | None, arguments: Sequence[str], names: Sequence[str],
                   comparison: Comparison = Comparison()) -> Provenance:
-    """Answers where a page of these arguments comes from, which was made of these files and of this comparison."""
+    """Returns where a page of these arguments comes from, which was made of these files and of this comparison."""
     version, sums = [], sums_of(command, names)
     sums += [(f"{name}, recorded", found) for name, found in sums_of(command, comparison.recorded)]
     if asked:

@@ -14,7 +14,7 @@ AT_LINKS = KINDS[:-1]  # kinds of differences that are of a link
 
 
 def word_of(conforms: bool) -> str:
-    """Answers the word that `afdx compare` has for it."""
+    """Returns the word that `afdx compare` has for it."""
     return next(word for word, means in VERDICTS.items() if means == conforms)
 
 
@@ -42,7 +42,7 @@ class Recorded(Bounded):
 
     @property
     def between(self) -> tuple[int, int] | None:
-        """Answers the least and the greatest delay."""
+        """Returns the least and the greatest delay."""
         return None if self.least is None or self.greatest is None else (self.least, self.greatest)
 
 
@@ -72,33 +72,33 @@ class Recordings:
 
     @property
     def paired(self) -> int:
-        """Answers how many frames were paired with a record at a port."""
+        """Returns how many frames were paired with a record at a port."""
         return sum(link.paired for link in self.links)
 
     @property
     def kind(self) -> str:
-        """Answers which colour the verdict has; recordings that have no pair conform and say nothing."""
+        """Returns which colour the verdict has; recordings that have no pair conform and say nothing."""
         return "bad" if not self.conforms else "good" if self.paired else "empty"
 
     @property
     def unsure(self) -> int:
-        """Answers for how many frames an account may have decided either way; a link counts once."""
+        """Returns for how many frames an account may have decided either way; a link counts once."""
         return sum({link.model.link: link.unsure for link in self.links}.values())
 
     @property
     def nearest(self) -> Recorded | None:
-        """Answers the link that came nearest to its bound, at the port where it did; None if nothing was paired."""
+        """Returns the link that came nearest to its bound, at the port where it did; None if nothing was paired."""
         paired = [link for link in self.links if link.share is not None]
         return max(paired, key=lambda link: link.share or 0) if paired else None
 
     def totals(self) -> dict[str, int]:
-        """Answers how many differences of each kind there are, where there are some."""
+        """Returns how many differences of each kind there are, where there are some."""
         sums = {kind: sum(port.differences[kind] for port in self.ports) for kind in KINDS}
         return {kind: many for kind, many in sums.items() if many}
 
 
 def links_of(said: str, pairs: list[Pair]) -> list[Recorded]:
-    """Answers what `afdx compare` says of links. KeyError is raised if one is of no pair."""
+    """Returns what `afdx compare` says of links. KeyError is raised if one is of no pair."""
     models = {(pair.link, pair.port): pair for pair in pairs}
     links = []
     for row in printed.rows_of(said, "link"):
@@ -111,7 +111,7 @@ def links_of(said: str, pairs: list[Pair]) -> list[Recorded]:
 
 
 def ports_of(said: str, links: list[Recorded]) -> list[RecordedPort]:
-    """Answers what `afdx compare` says of ports, with the sums of the port's links."""
+    """Returns what `afdx compare` says of ports, with the sums of the port's links."""
     ports = []
     for row in printed.rows_of(said, "out"):
         own = [link for link in links if link.model.port == int(row["port"])]

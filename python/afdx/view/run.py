@@ -47,7 +47,7 @@ class Run:
 
 
 def shown_of(pairs: list[Timed], checked: bool, runs: int) -> list[Timed]:
-    """Answers the pairs that have a picture: those that sent, or of very many those nearest to their bounds. So many
+    """Returns the pairs that have a picture: those that sent, or of very many those nearest to their bounds. So many
     runs share the room of a page."""
     sent, strips = [pair for pair in pairs if pair.sent], STRIPS // runs
     if len(sent) <= strips:
@@ -58,13 +58,13 @@ def shown_of(pairs: list[Timed], checked: bool, runs: int) -> list[Timed]:
 
 
 def parts_of(strips: int, runs: int) -> int:
-    """Answers into how many parts the time is cut in so many strips, where so many runs share the room of a page."""
+    """Returns into how many parts the time is cut in so many strips, where so many runs share the room of a page."""
     least, most = STRIP_PARTS
     return max(least, min(most, POINTS // runs // max(1, strips)))
 
 
 def drawn_of(pairs: list[Pair], shown: list[Pair], parts: int, span: int) -> Drawn:
-    """Answers room for the points."""
+    """Returns room for the points."""
     ports = {port: place for place, port in enumerate(sorted({pair.port for pair in pairs}))}
     return Drawn(shown, Greatest(len(shown), parts, span), Greatest(len(ports) * len(PRIORITIES), PORT_PARTS, span),
                  Greatest(len(PRIORITIES), RUN_PARTS, span), ports)

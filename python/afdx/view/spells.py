@@ -33,7 +33,7 @@ class Babbling:
     greatest: int = 0
 
     def add(self, instants: Ints, early: Floats) -> tuple[Ints, Ints]:
-        """Adds policed frames, one at least, in their order; answers the stretches by which the spells have grown."""
+        """Adds policed frames, one at least, in their order; returns the stretches by which the spells have grown."""
         least, greatest = int(early.min()), int(early.max())
         if self.frames == 0:
             self.begin = int(instants[0])

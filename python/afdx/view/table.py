@@ -17,7 +17,7 @@ class Table:
 
 
 def table_of(content: dict[str, Any]) -> Table:
-    """Answers the table of a text that the program has accepted as one; of another text KeyError, TypeError or
+    """Returns the table of a text that the program has accepted as one; of another text KeyError, TypeError or
     ValueError may be raised."""
     links = {int(row["id"]): Link(int(row["bag_ms"]) * 1_000_000, str(row["priority"]))
              for row in content.get("link", [])}

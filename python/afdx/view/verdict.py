@@ -40,7 +40,7 @@ def broken_of(run: Run) -> list[str]:
 
 
 def nearest_of(pairs: list[Pair]) -> Pair | None:
-    """Answers the link that came nearest to its bound, at the port where it did."""
+    """Returns the link that came nearest to its bound, at the port where it did."""
     shares = [(pair.share, -place) for place, pair in enumerate(pairs) if pair.share is not None]
     return pairs[-max(shares)[1]] if shares else None
 

@@ -33,7 +33,7 @@ Engine = Callable[[Sequence[Task], Sequence[int], Options], None]
 
 
 def engine_of(address: str) -> Engine:
-    """Answers the engine of an address."""
+    """Returns the engine of an address."""
     for form, name in ENGINES.items():
         if re.fullmatch(form, address):
             if name == "dask":

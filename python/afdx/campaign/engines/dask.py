@@ -41,7 +41,7 @@ def run(tasks: Sequence[Task], left: Sequence[int], options: Options) -> None:
 
 
 def connected(options: Options) -> Client:
-    """Answers a client of the scheduler, whose versions are those of the driver."""
+    """Returns a client of the scheduler, whose versions are those of the driver."""
     security = Security()
     if options.address.startswith("tls:") and security.get_connection_args("client")["ssl_context"] is None:
         raise failure(DEVICE, f"{options.address} needs certificates, as distributed.comm.tls of Dask's configuration")
@@ -82,7 +82,7 @@ class Window:
                 self.options.note(None, None)
 
     def step(self) -> set[Future]:
-        """Submits what there is room for, and waits a moment; answers the futures that came to an end.
+        """Submits what there is room for, and waits a moment; returns the futures that came to an end.
 
         Never by `as_completed`, which waits for ever once the scheduler is gone. `wait` asks the default client, and
         fails at once if there is none. A client that gave up raises a bare Exception, so it is not the kind of error

@@ -43,12 +43,12 @@ def run(tasks: Sequence[Task], left: Sequence[int], options: Options) -> None:
 
 
 def unanswered(tasks: Sequence[Task], numbers: Iterable[int]) -> list[int]:
-    """Answers those of these tasks that have no answer."""
+    """Returns those of these tasks that have no answer."""
     return [number for number in numbers if not tasks[number].answer.exists()]
 
 
 def chunks(tasks: Sequence[Task], left: Sequence[int], jobs: int) -> list[list[int]]:
-    """Parts what is left, one part for each job: tasks enough that its start counts little, and some for all jobs."""
+    """Splits what is left, one part for each job: tasks enough that its start counts little, and some for all jobs."""
     most = max(1, min(JOB_TASKS, len(left) // (2 * jobs)))
     parts: list[list[int]] = []
     size = 0
@@ -86,7 +86,7 @@ class Round:
         self.file.unlink()
 
     def submit(self) -> str:
-        """Has Slurm queue the array; answers its number. A percent sign of a path is no pattern, and a path that is not
+        """Has Slurm queue the array; returns its number. A percent sign of a path is no pattern, and a path that is not
         UTF-8 goes there as it is."""
         need = max(self.tasks[number].memory for number in self.waiting)
         partition = self.options.address.partition(":")[2]
@@ -104,13 +104,13 @@ class Round:
         return said.stdout.strip().partition(";")[0]
 
     def script(self) -> str:
-        """Answers what a job runs."""
+        """Returns what a job runs."""
         python, package, file = (shlex.quote(str(path)) for path in (sys.executable, PACKAGE, self.file))
         return (f"#!/bin/sh\nexport PYTHONPATH={package} PYTHONDONTWRITEBYTECODE=1\n"
                 f"exec {python} -m afdx.campaign.worker {file} \"$SLURM_ARRAY_TASK_ID\"\n")
 
     def is_queued(self, array: str) -> bool:
-        """Answers whether a job of the array waits or runs. Slurm may be away, and forgets what has ended."""
+        """Returns whether a job of the array waits or runs. Slurm may be away, and forgets what has ended."""
         said = subprocess.run(["squeue", "--noheader", "--format=%T", f"--jobs={array}"], capture_output=True,
                               text=True, check=False)
         if said.returncode == 0 or "Invalid job id" in said.stderr:

@@ -74,7 +74,7 @@ class Program:
 
 
 def limits(memory: int) -> list[str]:
-    """Answers the command that sets a child's limits.
+    """Returns the command that sets a child's limits.
 
     It dies with the thread that started it, leaves no core, and gets no more address space than this. By util-linux,
     since code of ours between fork and exec may hang a process with threads.

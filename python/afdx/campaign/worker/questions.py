@@ -16,7 +16,7 @@ CSV = "--csv"
 
 
 def ask(task: Task, program: Program, scratch: Path) -> Said:
-    """Answers the question of a task; outputs that are to be kept are put, in place of those of an earlier answer."""
+    """Returns the question of a task; outputs that are to be kept are put, in place of those of an earlier answer."""
     if task.keep != "none":
         clear(folders_in(task, kept_place(task)))
     of_networks = ("network",) if task.table.switches else ()
@@ -45,23 +45,23 @@ def run(task: Task, program: Program, scratch: Path, arguments: tuple[str, ...],
 
 
 def polices(report: str) -> bool:
-    """Answers whether a report says of a link that its frames were policed."""
+    """Returns whether a report says of a link that its frames were policed."""
     rows = csv.DictReader(report.splitlines())
     return any(row["kind"] == "link" and row["policed"] != "0" for row in rows)
 
 
 def wanted(keeps: str, policed: bool) -> bool:
-    """Answers whether the outputs of a recording are kept."""
+    """Returns whether the outputs of a recording are kept."""
     return keeps == "all" or keeps == "policed" and policed
 
 
 def kept_place(task: Task) -> Path:
-    """Answers where the outputs of a recording are kept."""
+    """Returns where the outputs of a recording are kept."""
     return Path(task.root, "kept", task.table.name, task.recording.name)
 
 
 def folders_in(task: Task, place: Path) -> list[Path]:
-    """Answers the folders of a place in which outputs lie: one for each switch of a network."""
+    """Returns the folders of a place in which outputs lie: one for each switch of a network."""
     return [place / switch for switch in task.table.switches or (".",)]
 
 

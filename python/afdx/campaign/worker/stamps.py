@@ -11,12 +11,12 @@ MAGICS = {  # byte order, and ns in a part of the stamp's fraction
 
 
 def first_stamp(paths: Iterable[str]) -> int | None:
-    """Answers the least of the first stamps, in ns; none if no capture has one."""
+    """Returns the least of the first stamps, in ns; none if no capture has one."""
     return min((stamp for stamp in map(stamp_of, paths) if stamp is not None), default=None)
 
 
 def stamp_of(path: str) -> int | None:
-    """Answers the stamp of the first record; none if there is none."""
+    """Returns the stamp of the first record; none if there is none."""
     try:
         with open(path, "rb") as file:
             head = file.read(32)

@@ -50,19 +50,19 @@ class Task:
 
     @property
     def key(self) -> str:
-        """Answers the name of the answer: all that the answer is a function of, and nothing else."""
+        """Returns the name of the answer: all that the answer is a function of, and nothing else."""
         parts = [FORM, self.program_identity, self.recording.identity, self.table.identity, self.table.unchecked,
                  self.ask, self.keep]
         return hashlib.sha256(json.dumps(parts).encode()).hexdigest()
 
     @property
     def answer(self) -> Path:
-        """Answers the file of the answer."""
+        """Returns the file of the answer."""
         return Path(self.root, "answers", self.key[:2], f"{self.key}.json.gz")
 
 
 def task_of(fields: dict[str, Any]) -> Task:
-    """Answers the task of an object of JSON."""
+    """Returns the task of an object of JSON."""
     fields = dict(fields)
     for name, kind in (("recording", Recording), ("table", Table)):
         values = {key: tuple(value) if isinstance(value, list) else value for key, value in fields[name].items()}

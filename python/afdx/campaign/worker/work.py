@@ -115,19 +115,19 @@ def asked(task: Task, program: Program) -> Said:
 
 
 def fault_of(said: Said) -> str:
-    """Answers the kind of a fault; empty if there is none."""
+    """Returns the kind of a fault; empty if there is none."""
     kinds = {0: "", 3: "capture", DEVICE: "memory" if said.line == "afdx: memory" else "device", TIMED_OUT: "timeout",
              126: "program", 127: "program"}
     return kinds.get(said.status, "signal" if said.status > 128 else "refused")
 
 
 def address_space(memory: int) -> int:
-    """Answers the most address space of a child of so much expected memory: it is more than what is touched."""
+    """Returns the most address space of a child of so much expected memory: it is more than what is touched."""
     return 2 * memory + (256 << 20)
 
 
 def program_identity(path: str) -> str:
-    """Answers the hash of the program, taken once as long as the file has the same size and time of change."""
+    """Returns the hash of the program, taken once as long as the file has the same size and time of change."""
     status = os.stat(path)
     version = (path, status.st_size, status.st_mtime_ns)
     if version not in PROGRAMS:
@@ -164,5 +164,5 @@ def answer_at(path: Path) -> Answer:
 
 
 def status_of(path: Path) -> int:
-    """Answers the status of an answer."""
+    """Returns the status of an answer."""
     return answer_at(path)["status"]

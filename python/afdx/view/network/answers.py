@@ -42,7 +42,7 @@ class NetworkAnswers:
 
 
 def sizes_of(said: str) -> dict[str, str]:
-    """Answers the heading and the rows of each switch."""
+    """Returns the heading and the rows of each switch."""
     heading, *rows = said.splitlines(keepends=True)
     sizes: dict[str, str] = {}
     for row in rows:
@@ -78,7 +78,7 @@ def given(asked: Asked, folder: str) -> list[str]:
 
 
 def later(command: str, batch: Batch, nanoseconds: int) -> memoryview:
-    """Answers the records of a batch that the program has written, one at least, so much later."""
+    """Returns the records of a batch that the program has written, one at least, so much later."""
     stamps, at = batch.stamp + nanoseconds, batch.start - RECORD
     if not are_stamps(stamps):
         raise Failure(INPUT, f"{command}: a frame goes over a wire in the last second that stamps have")
@@ -109,7 +109,7 @@ def silence(command: str, put: Path, end: Path) -> None:
 
 
 def gather(command: str, asked: Asked, switch: str, folder: str, room: Path) -> Path:
-    """Answers a folder with the captures of all ports of a switch, once the network has run into the room."""
+    """Returns a folder with the captures of all ports of a switch, once the network has run into the room."""
     came, wired = room / "in" / switch, asked.layout.into()
     came.mkdir(parents=True)
     for number in asked.tables[switch].ports:

@@ -65,7 +65,7 @@ def sent(answers: NetworkAnswers, switch: str) -> Iterator[Any]:
 
 
 def over_wires(answers: NetworkAnswers, layout: Layout, frames: Frames) -> Iterator[tuple[Port, Ints]]:
-    """Answers of each output port with a wire that is not down the frames whose copies it sent, in their order."""
+    """Returns of each output port with a wire that is not down the frames whose copies it sent, in their order."""
     wired = layout.going_on()
     for switch in frames.switches:
         found: dict[Port, list[Ints]] = {port: [] for port in wired if port.switch == switch}
@@ -77,7 +77,7 @@ def over_wires(answers: NetworkAnswers, layout: Layout, frames: Frames) -> Itera
 
 
 def came_at(frames: Frames, port: Port) -> Ints:
-    """Answers the frames that came in at a port, in their order."""
+    """Returns the frames that came in at a port, in their order."""
     place = frames.switches.index(port.switch)
     begin, end = frames.begins[place:place + 2]
     found: Ints = numpy.flatnonzero(frames.ports[begin:end] == port.number) + begin
@@ -85,7 +85,7 @@ def came_at(frames: Frames, port: Port) -> Ints:
 
 
 def origins_of(answers: NetworkAnswers, layout: Layout, frames: Frames) -> Ints:
-    """Answers of each frame that which an end system sent. ValueError is raised if the switches' answers do not fit
+    """Returns of each frame that which an end system sent. ValueError is raised if the switches' answers do not fit
     together."""
     wired = layout.going_on()
     before = numpy.arange(len(frames.stamps))
@@ -98,19 +98,19 @@ def origins_of(answers: NetworkAnswers, layout: Layout, frames: Frames) -> Ints:
 
 
 def roots_of(before: Ints) -> Ints:
-    """Answers where one comes to from each place, if one goes to that before it as long as it is another one."""
+    """Returns where one comes to from each place, if one goes to that before it as long as it is another one."""
     while not numpy.array_equal(further := before[before], before):
         before = further
     return before
 
 
 def way_number(link: Number, start: Number, port: Number, end: Number, last: Number) -> Number:
-    """Numbers a way: by its link, the places of its first and its last switch, and a port of each."""
+    """Gives a way its number: by its link, the places of its first and its last switch, and a port of each."""
     return (((link * SWITCHES + start) * PORTS + port) * SWITCHES + end) * PORTS + last
 
 
 def way_of(frames: Frames, number: int) -> tuple[int, Port, Port]:
-    """Answers link, start and end of a way of this number."""
+    """Returns link, start and end of a way of this number."""
     number, last = divmod(number, PORTS)
     number, end = divmod(number, SWITCHES)
     number, port = divmod(number, PORTS)

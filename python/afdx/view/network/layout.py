@@ -14,7 +14,7 @@ class Port:
 
 
 def port_of(text: str) -> Port:
-    """Answers the port of a text such as `A.3`."""
+    """Returns the port of a text such as `A.3`."""
     switch, _, number = text.partition(".")
     return Port(switch, int(number))
 
@@ -34,27 +34,27 @@ class Layout:
     down: frozenset[str] = frozenset()  # the switches at which nothing comes in
 
     def into(self) -> dict[Port, Wire]:
-        """Answers the wire to each ingress port that has one."""
+        """Returns the wire to each ingress port that has one."""
         return {wire.end: wire for wire in self.wires}
 
     def out_of(self) -> dict[Port, Wire]:
-        """Answers the wire from each output port that has one."""
+        """Returns the wire from each output port that has one."""
         return {wire.start: wire for wire in self.wires}
 
     def going_on(self) -> dict[Port, Wire]:
-        """Answers the wire from each output port that has one which is not down."""
+        """Returns the wire from each output port that has one which is not down."""
         return {wire.start: wire for wire in self.wires if not wire.down}
 
 
 def wire_of(row: dict[str, Any], down: frozenset[str]) -> Wire:
-    """Answers a wire, which is down if a switch at one of its ends is."""
+    """Returns a wire, which is down if a switch at one of its ends is."""
     start, end = port_of(row["from"]), port_of(row["to"])
     said = bool(row.get("down", False))
     return Wire(start, end, int(row.get("delay_ns", 0)), said or not down.isdisjoint((start.switch, end.switch)))
 
 
 def layout_of(content: dict[str, Any], folder: Path) -> Layout:
-    """Answers the network of a text that the program has accepted as one, in a file of this folder; of another text
+    """Returns the network of a text that the program has accepted as one, in a file of this folder; of another text
     KeyError, TypeError, ValueError or AttributeError may be raised."""
     switches = content.get("switch", [])
     tables = {str(row["name"]): folder / str(row["table"]) for row in switches}

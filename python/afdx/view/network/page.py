@@ -29,7 +29,7 @@ class Section:
 
 
 def mark_of(switch: str) -> str:
-    """Answers how names of a switch's section begin: with what no other name has."""
+    """Returns how names of a switch's section begin: with what no other name has."""
     return f"{switch}."
 
 
@@ -71,7 +71,7 @@ def sections(run: NetworkRun, progress: Progress) -> Iterator[Section]:
 
 
 def page(run: NetworkRun, title: str, provenance: Provenance, progress: Progress) -> str:
-    """Answers the text of the page."""
+    """Returns the text of the page."""
     progress.say("pictures of the network")
     strips = list(way_strips(run))
     text = template("network.html").render(

@@ -55,7 +55,7 @@ class Drawing:
 
 
 def neighbours_of(layout: Layout) -> dict[str, list[str]]:
-    """Answers the switches to which wires lead from each or come from, in the order of the network file."""
+    """Returns the switches to which wires lead from each or come from, in the order of the network file."""
     found: dict[str, set[str]] = {switch: set() for switch in layout.tables}
     for wire in layout.wires:
         found[wire.start.switch].add(wire.end.switch)
@@ -65,7 +65,7 @@ def neighbours_of(layout: Layout) -> dict[str, list[str]]:
 
 
 def columns_from(start: str, neighbours: dict[str, list[str]]) -> list[list[str]]:
-    """Answers the switches by how many wires they are away from one."""
+    """Returns the switches by how many wires they are away from one."""
     columns, seen = [[start]], {start}
     while True:
         further = list(dict.fromkeys(other for switch in columns[-1] for other in neighbours[switch]
@@ -77,7 +77,7 @@ def columns_from(start: str, neighbours: dict[str, list[str]]) -> list[list[str]
 
 
 def columns_of(layout: Layout) -> list[list[str]]:
-    """Answers the switches in columns: from one that is as far as can be from another, by how many wires they are away.
+    """Returns the switches in columns: from one that is as far as can be from another, by how many wires they are away.
     Parts of a network without a wire between them lie below one another."""
     neighbours, columns, seen = neighbours_of(layout), list[list[str]](), set[str]()
     for switch in layout.tables:
@@ -131,7 +131,7 @@ def placed(columns: list[list[str]], said: dict[str, list[str]], down: frozenset
 
 
 def border(box: Box, x: float, y: float, toward: tuple[float, float]) -> tuple[float, float]:
-    """Answers where a line from within a box leaves it, which goes on in this direction."""
+    """Returns where a line from within a box leaves it, which goes on in this direction."""
     turns = [((box.x + box.width if way > 0 else box.x) - x) / way for way in toward[:1] if way]
     turns += [((box.y + box.height if way > 0 else box.y) - y) / way for way in toward[1:] if way]
     part = min(turns)
@@ -159,7 +159,7 @@ def bent(start: Box, end: Box, aside: float, bow: float) -> str:
 
 
 def bow_of(drawing: Drawing, start: Box, end: Box) -> float:
-    """Answers by how much a wire stands out, so that it does not lie on those of boxes between."""
+    """Returns by how much a wire stands out, so that it does not lie on those of boxes between."""
     between = sum(box.x == start.x and min(start.y, end.y) < box.y < max(start.y, end.y) for box in drawing.boxes)
     return min(BEND + STEP * between, MOST)
 

@@ -63,7 +63,7 @@ def totals_of(asked: Asked, report: str) -> Totals:
 
 
 def loads_of(asked: Asked, runs: dict[str, Run], report: str) -> list[Load]:
-    """Answers the loads of the ports that have links, in the order of the network file."""
+    """Returns the loads of the ports that have links, in the order of the network file."""
     sent: Counter[Port] = Counter()
     for row in printed.rows_of(report, "out"):
         sent[Port(row["switch"], int(row["port"]))] += int(row["sent"])
@@ -78,7 +78,7 @@ def loads_of(asked: Asked, runs: dict[str, Run], report: str) -> list[Load]:
 
 
 def share_time(fates: dict[str, Fates]) -> tuple[int | None, int]:
-    """Has all switches count from the network's first frame to its last; answers its stamp, and the time between."""
+    """Has all switches count from the network's first frame to its last; returns its stamp, and the time between."""
     own = [one for one in fates.values() if one.first is not None]
     first = min((one.first for one in own if one.first is not None), default=None)
     last = max((one.last for one in own if one.last is not None), default=None)

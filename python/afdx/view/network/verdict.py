@@ -24,14 +24,14 @@ class NetworkVerdict:
 
 
 def babblers_of(run: NetworkRun) -> list[NetworkBabbler]:
-    """Answers the links that were policed, those with most policed frames first."""
+    """Returns the links that were policed, those with most policed frames first."""
     found = [NetworkBabbler(switch, Babbler(link, own.policed.spells[link], int(own.fates.by_link["passed"][link])))
              for switch, own in run.runs.items() for link in own.policed.links]
     return sorted(found, key=lambda one: -one.babbler.babbling.frames)
 
 
 def refused_of(run: NetworkRun) -> list[str]:
-    """Answers the lines of a refusal; of many the first ones."""
+    """Returns the lines of a refusal; of many the first ones."""
     more = len(run.asked.refused) - NAMED
     return [*run.asked.refused[:NAMED], f"{more:,} more line{'' if more == 1 else 's'}"] if more > 0 else \
         run.asked.refused

@@ -70,7 +70,7 @@ def measured_of(deliveries: Iterable[Delivered]) -> Measured:
 
 
 def checked_ways(asked: Asked) -> list[Way]:
-    """Answers the ways that `check` printed, but for those over which nothing comes."""
+    """Returns the ways that `check` printed, but for those over which nothing comes."""
     ways = []
     for row in printed.rows_of(asked.said):
         if not row["ways"]:
@@ -84,12 +84,12 @@ def checked_ways(asked: Asked) -> list[Way]:
 
 
 def lost_ends(asked: Asked) -> list[LostEnd]:
-    """Answers the ends that get nothing: their rows have no way."""
+    """Returns the ends that get nothing: their rows have no way."""
     return [LostEnd(int(row["link"]), port_of(row["to"])) for row in printed.rows_of(asked.said) if not row["ways"]]
 
 
 def seen_ways(asked: Asked, frames: Frames, measured: Measured) -> list[Way]:
-    """Answers the ways that frames took."""
+    """Returns the ways that frames took."""
     found = (way_of(frames, int(number)) for number in measured.numbers)
     return [Way(link, start, end, asked.tables[end.switch].links[link].priority, [], [], None, None)
             for link, start, end in found]
@@ -101,7 +101,7 @@ def number_of(frames: Frames, way: Way) -> int:
 
 
 def ways_of(asked: Asked, frames: Frames, measured: Measured) -> list[Way]:
-    """Answers all ways with what was measured of them. ValueError is raised if a frame took another way than those that
+    """Returns all ways with what was measured of them. ValueError is raised if a frame took another way than those that
     the program knows."""
     ways = seen_ways(asked, frames, measured) if asked.refused else checked_ways(asked)
     by_number = {number_of(frames, way): way for way in ways}
