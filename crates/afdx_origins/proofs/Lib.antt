@@ -7,4 +7,5 @@ pub mod Bounded
 pub mod Noting
 pub mod Found
 pub mod Starting
+pub mod Telling
 pub mod Lacking

@@ -14,11 +14,12 @@ use Rattle.afdx_origins.specs.declared.at_link.Coming.{Coming}
 use Rattle.afdx_origins.specs.declared.at_link.AtLink.{AtLink}
 use Rattle.afdx_origins.specs.declared.at_switch.AtSwitch.{AtSwitch}
 use Rattle.afdx_origins.specs.Origins.{sent_from, of_link, CameFirst}
-use Rattle.afdx_origins.specs.Inner.Known.{IsOnItsWay, IsRowAt, IsComing, AreComing, AreKnown, Leaves, KeepDelays, HaveDelayMore, HasDelay}
+use Rattle.afdx_origins.specs.Inner.Known.{IsOnItsWay, IsRowAt, IsComing, AreComing, AreKnown, IsCarried, Leaves, KeepDelays, HaveDelayMore, HasDelay}
 use Rattle.afdx_origins.proofs.Copies.{copies_more, one_more, still_first}
 use Rattle.afdx_origins.proofs.Rows.{leads_there, end_same}
 use Rattle.afdx_origins.proofs.Coming.{still_coming}
 use Rattle.afdx_origins.proofs.Delaying.{kept_delays, delayed_more}
+use Rattle.afdx_origins.proofs.Telling.{frames_stay, told_more}
 
 -- the copy is one of those that its port sent
 left_now : (all : List Departure) (d : Departure) → Contains (of_link d.copy.item.link (sent_from (all ++ d ∷ []) d.from)) d.copy
@@ -73,8 +74,9 @@ pub known_more : (net : Network) (all : List Departure) (d : Departure) (place p
     → IsRowAt net d.from.switch d.copy.item.link place l → position (λ to. to == d.from.port) l.to ≡ Some port
     → CameFirst net all (record { switch = d.from.switch; link = l }) d.copy first → delay ≡ d.copy.end - first
     → (Leaves net (all ++ d ∷ []) d.from d.copy.item.link d.copy.end first → AreComing net (all ++ d ∷ []) old → AreComing net (all ++ d ∷ []) over)
+    → (Leaves net (all ++ d ∷ []) d.from d.copy.item.link d.copy.end first → AreComing net (all ++ d ∷ []) old → IsCarried net (all ++ d ∷ []) d.from d.copy.item.link d.copy.end old over)
     → KeepDelays old over → HaveDelayMore d.from.switch place port delay over new → AreKnown net all old → AreKnown net (all ++ d ∷ []) new
-known_more net all d place port first delay l old over new own there came is carried keeps more known = record {
+known_more net all d place port first delay l old over new own there came is carried over_all keeps more known = record {
   coming = coming_stays net (all ++ d ∷ []) d.from.switch place port delay over new more
       (carried (leaves_now net all d place port first l own there came) (still_coming net all d old known.coming));
   delays = delayed_more net all d place port delay l over new own there (record {
@@ -84,6 +86,8 @@ known_more net all d place port first delay l old over new own there came is car
     came = still_first net all d (record { switch = d.from.switch; link = l }) d.copy first came;
     delay_is = is;
   }) more (kept_delays net all old over keeps known.delays);
+  told = told_more net all d old over new (frames_stay d.from.switch place port delay over new more)
+      (over_all (leaves_now net all d place port first l own there came) (still_coming net all d old known.coming)) known.told;
 }
 
 -- what a list holds that was lent for a while

@@ -30,6 +30,7 @@ known_fresh net switches many each = record {
         let within = position-Some (λ to. to == port) l.to at 0 here in
         ([], tt, ((fresh n is.table s is.table_is).each place l a is.at).no_delays at d within.0);
   };
+  told = record { each = λ n link place l s a w x is wire has. absurd (let lt = has.1 in omega (arith, lt)) };
 } where
   fresh : (n : ℕ) (t : Content) (s : AtSwitch) → slice_get net.tables n ≡ Some t → IsFreshSwitch t (get_or switches n s)
   fresh n t s there = each n s (let lt = slice_get_within net.tables n t there in omega (arith, lt, many)) t there

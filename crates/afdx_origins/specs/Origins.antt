@@ -1,7 +1,8 @@
 -- Where the frames of a network came from, and the delays of links from end to end (profile): from the stamp at the first switch to the end
 -- on the last line.
-use Rattle.std.specs.Prelude.{◌≡◌, ℕ, ◌+◌, ◌-◌, ◌==◌, List, [], ◌∷◌, ◌++◌, map, filter, Some, None, option_and_then, Contains}
+use Rattle.std.specs.Prelude.{◌≡◌, ◌⊎◌, ℕ, ◌+◌, ◌-◌, ◌<◌, ◌≤◌, ◌==◌, true, List, [], ◌∷◌, ◌++◌, length, map, filter, Some, None, option_and_then, Contains}
 use Rattle.std.specs.List.{AllZip}
+use Rattle.afdx_units.specs.Time.{stamp_end}
 use Rattle.afdx_port.specs.declared.Sent.{Sent}
 use Rattle.afdx_measure.specs.declared.delays.Delays.{Delays}
 use Rattle.afdx_measure.specs.Delays.{summary_of}
@@ -11,6 +12,8 @@ use Rattle.afdx_wiring.specs.File.{is_end}
 use Rattle.afdx_network_check.specs.Net.{Network, Row, ingress, wire_to, row_at, IsSource}
 use Rattle.afdx_network_check.specs.Order.{leading, row_before}
 use Rattle.afdx_origins.specs.declared.departure.Departure.{Departure}
+use Rattle.afdx_origins.specs.declared.fault.OriginsFault.{OriginsFault}
+use Rattle.afdx_origins.specs.declared.fault.OriginsFault.TheVariants as fault
 
 -- a network, and the copies that its ports sent so far
 pub record Origins : Type 0 where
@@ -71,3 +74,33 @@ HasNoRow net link e = option_and_then (leading e.port) (row_at net e.switch link
 -- what is reported of the delays of a link at a port
 abbrev pub IsSummary : Network → List Departure → ℕ → End → Delays → Type 0
 IsSummary net sent link e d = (delays : List ℕ) × AreDelays net sent link e delays × (d ≡ summary_of delays)
+
+-- ---- what is not noted
+
+-- for so many nanoseconds a copy of a frame that came over a wire may still leave: one that is older than half a second is discarded, and the
+-- rest is longer than any latency, line time, wire and window
+abbrev pub kept_for : ℕ
+kept_for = 600000000
+
+-- a copy of the link came over a wire more than so long after an instant
+abbrev pub IsForgotten : List Departure → ℕ → Wire → ℕ → Type 0
+IsForgotten sent link w at = (later : Sent) × Contains (of_link link (sent_from sent w.from)) later × (at + kept_for < later.end + w.delay)
+
+-- a wire goes to the port of the link's row, and if a copy of the link came over it at the stamp of this one's frame, it is forgotten
+pub record IsUntold (net : Network) (sent : List Departure) (switch link : ℕ) (x : Sent) : Type 0 where
+  pub row : Row
+  pub wire : Wire
+  pub row_is : row_at net switch link ≡ Some row
+  pub wire_is : wire_to net (ingress row) ≡ Some wire
+  pub none : (copy : Sent) → Contains (of_link link (sent_from sent wire.from)) copy → copy.end + wire.delay ≡ x.item.stamp → IsForgotten sent link wire x.item.stamp
+
+-- a wire that begins at the port would bring a frame that ends at an instant after the last instant
+abbrev pub ComesLate : Network → End → ℕ → Type 0
+ComesLate net e end = (w : Wire) × Contains net.layout.wires w × (is_end w.from e ≡ true) × (stamp_end ≤ end + w.delay)
+
+-- why a copy that a port sent is not noted
+abbrev pub IsNotNoted : Origins → End → Sent → OriginsFault → Type 0
+IsNotNoted o e x fault.Memory = Unit {0}
+IsNotNoted o e x fault.Unknown = HasNoRow o.net x.item.link e ⊎ IsUntold o.net o.sent e.switch x.item.link x
+IsNotNoted o e x fault.Late = ComesLate o.net e x.end
+IsNotNoted o e x fault.Count = length (of_link x.item.link (sent_from o.sent e)) ≡ 18446744073709551615

@@ -1,9 +1,11 @@
 //! What is known of one link at one switch.
 
-ghost use Rattle.std.specs.Prelude.{◌≡◌, false, List, [], ◌∷◌, ◌++◌, slice_index_or, IfOk, IfSome, IsTrue, OnOk, Contains};
+ghost use Rattle.std.specs.Prelude.{◌≡◌, ◌↔◌, ◌+◌, ◌<◌, false, List, [], ◌∷◌, ◌++◌, length, slice_index_or, IfNone, IfOk, IfSome, IsTrue, OnErr, OnOk, Contains};
+ghost use Rattle.afdx_measure.specs.declared.delays.Delays.{Delays as Summary};
 ghost use Rattle.afdx_measure.specs.Delays.{summary_of};
+ghost use Rattle.afdx_origins.specs.Origins.{kept_for};
 ghost use Rattle.afdx_origins.specs.declared.at_link.Coming.{Coming as Seen};
-ghost use Rattle.afdx_origins.specs.Inner.Known.{IsFreshLink, HasJoined, HasMore};
+ghost use Rattle.afdx_origins.specs.Inner.Known.{ArePast, NoneCame, IsFreshLink, HasJoined, HasMore};
 
 use afdx_measure::Delays;
 use afdx_units::Stamp;
@@ -30,14 +32,17 @@ pub(crate) struct AtLink {
 }
 
 /// Returns whether so much time has gone from an instant to another one that no copy of a frame that came at the former can leave any more.
-fn is_past(at: Stamp, now: Stamp) -> bool {
+fn is_past(at: Stamp, now: Stamp) -> bool
+    ensures { IsTrue result ↔ (at + kept_for < now) }
+{
     at.ns().saturating_add(KEPT) < now.ns()
 }
 
 /// Returns when the one of these frames that came at an instant had come to its first switch, if there is one. They are looked through from
 /// the last one back, since copies do not wait for long. O(frames that came later).
 fn first_in(frames: &[Coming], at: Stamp) -> Option<Stamp>
-    ensures { IfSome result (λ first. Contains frames.now (record { at = at; first = first })) }
+    ensures came { IfSome result (λ first. Contains frames.now (record { at = at; first = first })) }
+    ensures none { IfNone result (NoneCame frames.now at) }
 {
     let mut place = frames.len();
     while place > 0 {
@@ -66,7 +71,8 @@ impl AtLink {
     /// Returns when the frame that came at an instant had come to its first switch; none if no such frame is known. O(frames that came
     /// later).
     pub(crate) fn first_of(&self, at: Stamp) -> Option<Stamp>
-        ensures { IfSome result (λ first. Contains self.now.coming.items (record { at = at; first = first })) }
+        ensures came { IfSome result (λ first. Contains self.now.coming.items (record { at = at; first = first })) }
+        ensures none { IfNone result (NoneCame self.now.coming.items at) }
     {
         let (front, back) = self.coming.as_slices();
         match first_in(back, at) {
@@ -78,7 +84,7 @@ impl AtLink {
     /// Forgets the first frame, if no copy of it can leave after an instant. Returns whether it did.
     fn forget_one(&mut self, now: Stamp) -> bool
         ensures delays { self.new.delays ≡ self.old.delays }
-        ensures some { IsTrue result → (gone : Seen) × (self.old.coming.items ≡ gone ∷ self.new.coming.items) }
+        ensures some { IsTrue result → (gone : Seen) × (self.old.coming.items ≡ gone ∷ self.new.coming.items) × (gone.at + kept_for < now) }
         ensures none { result ≡ false → self.new.coming.items ≡ self.old.coming.items }
     {
         let Some(first) = self.coming.front() else {
@@ -94,7 +100,7 @@ impl AtLink {
     /// Forgets the frames of which no copy can leave after an instant.
     fn forget(&mut self, now: Stamp)
         ensures delays { self.new.delays ≡ self.old.delays }
-        ensures coming { (gone : List Seen) × (self.old.coming.items ≡ gone ++ self.new.coming.items) }
+        ensures coming { (gone : List Seen) × (self.old.coming.items ≡ gone ++ self.new.coming.items) × ArePast now gone }
     {
         while self.forget_one(now) {}
     }
@@ -118,6 +124,7 @@ impl AtLink {
     pub(crate) fn note(&mut self, place: usize, delay: u64) -> Result<(), AllocError>
         ensures coming { self.new.coming ≡ self.old.coming }
         ensures delays { OnOk result (HasMore place delay self.old.delays.items self.new.delays.items) }
+        ensures full { OnErr result ((d : Summary) → place < length self.old.delays.items → (slice_index_or self.old.delays.items place d).count ≡ 18446744073709551615) }
     {
         if place >= self.delays.len() {
             return Err(AllocError);

@@ -1,9 +1,10 @@
 //! What is known at one switch.
 
-ghost use Rattle.std.specs.Prelude.{◌≡◌, ◌<◌, [], length, slice_index_or, IfOk, IfSome, OnOk, Contains};
+ghost use Rattle.std.specs.Prelude.{◌≡◌, ◌<◌, [], length, slice_index_or, IfNone, IfOk, IfSome, OnErr, OnOk, Contains};
+ghost use Rattle.afdx_measure.specs.declared.delays.Delays.{Delays as Summary};
 ghost use Rattle.afdx_measure.specs.Delays.{summary_of};
 ghost use Rattle.afdx_origins.specs.declared.at_link.AtLink.{AtLink as Seen};
-ghost use Rattle.afdx_origins.specs.Inner.Known.{IsFreshSwitch, HasComing, HasDelay};
+ghost use Rattle.afdx_origins.specs.Inner.Known.{NoneCame, IsFreshSwitch, HasComing, HasDelay};
 
 use crate::at_link::{AtLink, Coming};
 use afdx_measure::Delays;
@@ -35,7 +36,8 @@ impl AtSwitch {
     /// Returns when the frame of the link at a place that came at an instant had come to its first switch; none if no such frame is
     /// known.
     pub(crate) fn first_of(&self, place: usize, at: Stamp) -> Option<Stamp>
-        ensures { (a : Seen) → IfSome result (λ first. Contains (slice_index_or self.now.links.items place a).coming.items (record { at = at; first = first })) }
+        ensures came { (a : Seen) → IfSome result (λ first. Contains (slice_index_or self.now.links.items place a).coming.items (record { at = at; first = first })) }
+        ensures none { (a : Seen) → place < length self.now.links.items → IfNone result (NoneCame (slice_index_or self.now.links.items place a).coming.items at) }
     {
         self.links.get(place)?.first_of(at)
     }
@@ -56,7 +58,9 @@ impl AtSwitch {
     ///
     /// An error says that a count would pass 2^64 - 1, or that there is no such link or port.
     pub(crate) fn note(&mut self, place: usize, port: usize, delay: u64) -> Result<(), AllocError>
-        ensures { OnOk result (HasDelay place port delay self.old.links.items self.new.links.items) }
+        ensures delays { OnOk result (HasDelay place port delay self.old.links.items self.new.links.items) }
+        ensures full { OnErr result ((a : Seen) (d : Summary) → place < length self.old.links.items → port < length (slice_index_or self.old.links.items place a).delays.items
+            → (slice_index_or (slice_index_or self.old.links.items place a).delays.items port d).count ≡ 18446744073709551615) }
     {
         if place >= self.links.len() {
             return Err(AllocError);

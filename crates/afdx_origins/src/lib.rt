@@ -26,8 +26,10 @@
 mod at_link;
 mod at_switch;
 mod departure;
+mod fault;
 pub mod laws;
 mod origins;
 
 pub use departure::Departure;
+pub use fault::OriginsFault;
 pub use origins::Origins;

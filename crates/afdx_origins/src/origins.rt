@@ -1,17 +1,16 @@
 //! The delays of a network's links from end to end.
 
-ghost use Rattle.std.specs.Prelude.{◌≡◌, ◌<◌, ℕ, [], ◌==◌, List, length, slice_get, position, option_map, option_copied, IfOk, IfSome, MatchOption, OnOk, Some, None, Contains};
-ghost use Rattle.afdx_port.specs.declared.Sent.{Sent as Copy};
-ghost use Rattle.afdx_table.specs.Link.{Link};
-ghost use Rattle.afdx_network_check.specs.Net.{Row as Line, row_at, wire_to};
-ghost use Rattle.afdx_network_check.specs.Order.{row_before};
+ghost use Rattle.std.specs.Prelude.{◌≡◌, ◌<◌, ◌+◌, [], ◌==◌, true, List, slice_get, position, option_copied, IfErr, IfNone, IfOk, IfSome, MatchOption, MatchResult, OnErr, OnOk, Some, None};
+ghost use Rattle.afdx_network_check.specs.Net.{row_at, wire_to};
+ghost use Rattle.afdx_wiring.specs.File.{is_end};
 ghost use Rattle.afdx_origins.specs.declared.departure.Departure.{Departure as Went};
-ghost use Rattle.afdx_origins.specs.Origins.{CameFirst, HasNoRow, IsSummary, after_sending, of_link, sent_from};
-ghost use Rattle.afdx_origins.specs.Inner.Known.{IsRowAt, AreComing, AreKnown, KeepDelays, HaveDelayMore, Leaves};
+ghost use Rattle.afdx_origins.specs.Origins.{CameFirst, HasNoRow, IsNotNoted, IsSummary, IsUntold, after_sending};
+ghost use Rattle.afdx_origins.specs.Inner.Known.{IsRowAt, AreComing, AreKnown, KeepDelays, HaveDelayMore, HasCome, IsCarried, IsFull, IsNotCarried, Leaves, StayHeld};
 
 use crate::at_link::Coming;
 use crate::at_switch::AtSwitch;
 use crate::departure::Departure;
+use crate::fault::OriginsFault;
 use afdx_measure::Delays;
 use afdx_network_check::Network;
 use afdx_past::Gone;
@@ -83,8 +82,9 @@ fn first_of(
     sent: &Sent,
 ) -> Option<Stamp>
     requires { IsRowAt network.now switch link.now.id place link.now }
-    ensures { (all : List Went) → AreComing network.now all switches.now
+    ensures came { (all : List Went) → AreComing network.now all switches.now
         → IfSome result (CameFirst network.now all (record { switch = switch; link = link.now }) sent.now) }
+    ensures none { (all : List Went) → AreKnown network.now all switches.now → IfNone result (IsUntold network.now all switch link.now.id sent.now) }
 {
     let from = End {
         switch,
@@ -105,10 +105,13 @@ fn bring(
     link: u16,
     end: Stamp,
     first: Stamp,
-) -> Result<(), AllocError>
+) -> Result<(), OriginsFault>
     requires { wire_to network.now wire.now.to ≡ Some wire.now }
     ensures coming { (all : List Went) → Leaves network.now all wire.now.from link end first → AreComing network.now all switches.old → OnOk result (AreComing network.now all switches.new) }
     ensures delays { OnOk result (KeepDelays switches.old switches.new) }
+    ensures told { (all : List Went) → Leaves network.now all wire.now.from link end first → AreComing network.now all switches.old
+        → OnOk result (StayHeld network.now all switches.old switches.new × HasCome network.now all link wire.now (end + wire.now.delay) switches.new) }
+    ensures fault { IfErr result (IsNotCarried network.now wire.now.from end) }
 {
     let Some((place, row)) = row_at(network, wire.to.switch, link) else {
         return Ok(());
@@ -117,9 +120,10 @@ fn bring(
         return Ok(());
     }
     let Some(at) = end.plus(u64::from(wire.delay)) else {
-        return Err(AllocError);
+        return Err(OriginsFault::Late);
     };
-    switches[wire.to.switch].add(place, Coming { at, first })
+    switches[wire.to.switch].add(place, Coming { at, first })?;
+    Ok(())
 }
 
 /// Notes as `bring` does that a frame is on its way over a wire, if the wire begins at a port and is the first that goes to its end.
@@ -132,9 +136,13 @@ fn bring_from(
     link: u16,
     end: Stamp,
     first: Stamp,
-) -> Result<(), AllocError>
+) -> Result<(), OriginsFault>
     ensures coming { (all : List Went) → Leaves network.now all from link end first → AreComing network.now all switches.old → OnOk result (AreComing network.now all switches.new) }
     ensures delays { OnOk result (KeepDelays switches.old switches.new) }
+    ensures told { (all : List Went) → Leaves network.now all from link end first → AreComing network.now all switches.old
+        → OnOk result (StayHeld network.now all switches.old switches.new × (is_end wire.now.from from ≡ true → wire_to network.now wire.now.to ≡ Some wire.now
+        → HasCome network.now all link wire.now (end + wire.now.delay) switches.new)) }
+    ensures fault { IfErr result (IsNotCarried network.now from end) }
 {
     if !is_end(wire.from, from) {
         return Ok(());
@@ -153,9 +161,12 @@ fn carry(
     link: u16,
     end: Stamp,
     first: Stamp,
-) -> Result<(), AllocError>
+) -> Result<(), OriginsFault>
     ensures coming { (all : List Went) → Leaves network.now all from link end first → AreComing network.now all switches.old → OnOk result (AreComing network.now all switches.new) }
     ensures delays { OnOk result (KeepDelays switches.old switches.new) }
+    ensures told { (all : List Went) → Leaves network.now all from link end first → AreComing network.now all switches.old
+        → OnOk result (IsCarried network.now all from link end switches.old switches.new) }
+    ensures fault { IfErr result (IsNotCarried network.now from end) }
 {
     for wire in network.layout().wires.as_slice() {
         bring_from(network, switches, wire, from, link, end, first)?;
@@ -171,7 +182,8 @@ fn note_delay(
     port: usize,
     delay: u64,
 ) -> Result<(), AllocError>
-    ensures { OnOk result (HaveDelayMore switch place port delay switches.old switches.new) }
+    ensures delays { OnOk result (HaveDelayMore switch place port delay switches.old switches.new) }
+    ensures full { OnErr result (IsFull switch place port switches.old) }
 {
     if switch >= switches.len() {
         return Err(AllocError);
@@ -207,10 +219,16 @@ impl<'n> Origins<'n> {
 
     /// Notes that a port sent a copy.
     ///
-    /// An error says that memory ran out, that a count would pass 2^64 - 1, or that the copy's frame is none of which it was told; what was
-    /// noted is of no use then. O(wires), and O(frames of the link that are on their way).
-    pub fn note(self, from: End, sent: &Sent) -> Result<Origins<'n>, AllocError>
-        ensures { IfOk result (λ o. o ≡ after_sending from sent.now self.entry) }
+    /// What was noted is of no use after an error. O(wires), and O(frames of the link that are on their way).
+    ///
+    /// # Errors
+    ///
+    /// `Unknown` if the switch has no row of the copy's link that leads to the port; or if a wire goes to the row's port, and no copy of the
+    /// link came over it at the stamp of this one's frame, or another one came over it more than 600,000,000 ns later. `Late` if the frame
+    /// would come at the end of a wire after the last instant; `Count` if the port had sent 2^64 - 1 copies of the link; `Memory` if memory
+    /// ran out.
+    pub fn note(self, from: End, sent: &Sent) -> Result<Origins<'n>, OriginsFault>
+        ensures { MatchResult result (λ o. o ≡ after_sending from sent.now self.entry) (IsNotNoted self.entry from sent.now) }
     {
         let Origins {
             network,
@@ -219,17 +237,19 @@ impl<'n> Origins<'n> {
         } = self;
         let link = sent.item.link;
         let Some((place, row)) = row_at(network, from.switch, link) else {
-            return Err(AllocError);
+            return Err(OriginsFault::Unknown);
         };
         let Some(port) = place_in(row, from.port) else {
-            return Err(AllocError);
+            return Err(OriginsFault::Unknown);
         };
         let Some(first) = first_of(network, &switches, from.switch, place, row, sent) else {
-            return Err(AllocError);
+            return Err(OriginsFault::Unknown);
         };
         carry(network, &mut switches, from, link, sent.end, first)?;
         let delay = sent.end.ns().saturating_sub(first.ns());
-        note_delay(&mut switches, from.switch, place, port, delay)?;
+        if note_delay(&mut switches, from.switch, place, port, delay).is_err() {
+            return Err(OriginsFault::Count);
+        }
         let departure = Departure { from, copy: *sent };
         Ok(Origins {
             network,
