@@ -90,7 +90,7 @@ def after(link: Link, watch: Watch, levels: Levels, frame: Record, passes: bool)
     cost, edge = price(link, frame), 2 * slack(link, watch)
     if passes:
         return Levels(min(cap(link), max(levels.least, cost)) - cost, min(cap(link) + edge, levels.most) - cost, levels.since)
-    return Levels(min(levels.least, cap(link)), min(levels.most, cost + edge - 1), levels.since)
+    return Levels(levels.least, min(levels.most, cost + edge - 1), levels.since)
 
 
 def allowed(link: Link, watch: Watch, levels: Levels, frames: list[Record]) -> Iterator[list[bool]]:

@@ -76,7 +76,7 @@ still_known t size l same fits = by (nat_le (t.price size) l.most) refl (nat_lt 
       → (after t 0 size (fate_told (outlook_by passes polices) false) l).least ≡ (after t 0 size (fate_told (outlook_by passes polices) false) l).most
   by false passes polices may =
       let less = leb-false (t.price size) l.most passes in
-      let is : min l.least t.cap ≡ min l.most (t.price size + 2 * slack_of t 0 - 1) = omega (arith, same, fits, less) in is
+      let is : l.least ≡ min l.most (t.price size + 2 * slack_of t 0 - 1) = omega (arith, same, fits, less) in is
   by true passes false may =
       let enough = leb-true (t.price size) l.most passes in
       let is : min t.cap (max l.least (t.price size)) - t.price size ≡ min (t.cap + 2 * slack_of t 0) l.most - t.price size = omega (arith, same, fits, enough) in is

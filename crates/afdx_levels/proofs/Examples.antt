@@ -25,6 +25,10 @@ second_seen = refl
 first_seen : fates_told terms 0 (λ f. true) (unknown terms 0 1000000) (at 1000000 ∷ at 1500000 ∷ at 2500000 ∷ []) ≡ true ∷ false ∷ true ∷ []
 first_seen = refl
 
+-- none is seen of frames that come closer together than twice the tolerance: the credit of all gaps together tells that the fourth must pass
+none_seen : fates_told terms 300000 (λ f. false) (unknown terms 300000 0) (at 500000 ∷ at 1000000 ∷ at 1500000 ∷ at 2000000 ∷ []) ≡ false ∷ false ∷ false ∷ true ∷ []
+none_seen = refl
+
 -- at rest nothing is unsure
 all_known : fates_told terms 0 (λ f. true) (at_rest terms 0) four ≡ true ∷ false ∷ true ∷ false ∷ []
 all_known = refl

@@ -80,7 +80,7 @@ noise t tolerance level from l (f ∷ fs) (g ∷ gs) within order seen_order fit
           rw lacks (
             lt-ltb (l.least + t.rate * (g.stamp - l.since)) (q + 2 * slack_of t tolerance) (omega (arith, less, short, small)),
             noise t tolerance now f.stamp (after t tolerance g.size false (credited t l g.stamp)) fs gs
-                (record { late = late; early = early; known = inr (omega (arith, less, low), omega (arith, less, high, small)) }) order.1 seen_order.1 fit.1 near.1,
+                (record { late = late; early = early; known = inr (short, omega (arith, less, high, small)) }) order.1 seen_order.1 fit.1 near.1,
           ))
       | inr more ↦ (let has : nat_le (t.price f.size) now ≡ true = le-leb _ _ (omega (arith, more, price)) in
           rw (has, price) (

@@ -41,7 +41,7 @@ outlook_of t tolerance size l =
     else if may_be t tolerance size l false then Unsure
     else Must
 
--- what is known of the level once a frame was passed (true), or policed
+-- what is known of the level once a frame was passed (true), or policed: then it was below the price, so no cap was met since
 abbrev pub after : Terms → ℕ → ℕ → Bool → Levels → Levels
 after t tolerance size true l = record {
   least = min t.cap (max l.least (t.price size)) - t.price size;
@@ -49,7 +49,7 @@ after t tolerance size true l = record {
   since = l.since;
 }
 after t tolerance size false l = record {
-  least = min l.least t.cap;
+  least = l.least;
   most = min l.most (t.price size + 2 * slack_of t tolerance - 1);
   since = l.since;
 }

@@ -105,7 +105,7 @@ impl Levels {
             };
         } else {
             *self = Levels {
-                least: least.min(cap),
+                least,
                 most: most.min(price + edge - 1),
                 since: at,
             };
