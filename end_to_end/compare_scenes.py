@@ -3,7 +3,7 @@
 
 Links 9 and 7 lead from ports 3 and 1 to port 2, with a frame of 64 bytes in each millisecond and no jitter. Such a frame takes 6720 ns on
 the line, and both at once take 13,440, which is the bound. A letter fills a frame; a small one also gives it another constant field. The
-last recording has a table of its own. Run as a script with a program or the model, it says what of their answers differs.
+sixth recording has a table of its own. Run as a script with a program or the model, it says what of their answers differs.
 """
 import argparse
 import subprocess
@@ -163,7 +163,23 @@ SLOWER = Scene(
     [],
     LINES)
 
-SCENES = [FAULTY, CUT, PAST, STRANGE, FIRST, SLOWER]
+# Frames half a gap apart, of which none leaves, and stamps that may be off by more than a quarter of a gap: the level is credited from
+# 1,300,000 on, the tolerance after the beginning. At E it is no less than 1.7 gaps by the stamps, and of these 0.6 are in doubt.
+CLOSE = Scene(
+    "a link of which nothing leaves, with frames closer together than twice the tolerance",
+    {1: [(stamp * 500_000, 7, letter) for stamp, letter in enumerate("ABCDEFG", 2)]},
+    {},
+    ["--tolerance", "300000"],
+    ["span 1000000 to 4000000",
+     "link 9 out 2 passed 0 seen 0 missing 0 extra 0 early 0 late 0 before 0 after 0 unsure 0 least - greatest - bound 13440",
+     "link 7 out 2 passed 1 seen 0 missing 1 extra 0 early 0 late 0 before 0 after 0 unsure 5 least - greatest - bound 13440",
+     "out 1 seen 0 foreign 0",
+     "out 2 seen 0 foreign 0",
+     "out 3 seen 0 foreign 0",
+     "differs"],
+    ["2,7,missing,5,3000000,,,,13440"])
+
+SCENES = [FAULTY, CUT, PAST, STRANGE, FIRST, SLOWER, CLOSE]
 
 
 def answer_of(command: list[str], scene: Scene, folder: Path) -> tuple[list[str], list[str], int]:
