@@ -236,7 +236,9 @@ def test_other_headings_of_columns_that_have_to_be_there(tmp_path: Path) -> None
 @pytest.mark.parametrize("order, column, heading", [
     (0, "police", "Police\n[byte/frame]"), (0, "police", "police mode"), (0, "police", "policing"), (0, "via", "Route"),
     (2, "delay_ns", "delay [ns]"), (2, "delay_ns", "delay\nns"), (2, "delay_ns", "DELAY-ns"), (2, "delay_ns", "delay"),
-    (2, "delay_ns", "delay_ns/ns"), (2, "delay_ns", "delay_ns*")])
+    (2, "delay_ns", "delay_ns/ns"), (2, "delay_ns", "delay_ns*"), (2, "delay_ns", "DelayNs"), (2, "delay_ns", "delays"),
+    (0, "police", "Policer"), (0, "police", "PoliceMode"), (0, "police", "policed by"), (0, "police", "POLICY"),
+    (0, "via", "Vias"), (0, "via", "viaSwitches"), (0, "via", "VIA1"), (0, "via", "routes"), (0, "via", "Routing")])
 def test_another_heading_of_a_column_that_may_be_missing(tmp_path: Path, order: int, column: str, heading: str) -> None:
     """Checks that the mapping has to name such a column, or to say that there is none: without it all links would be
     policed by bytes, all cables without delay."""
@@ -251,6 +253,58 @@ def test_another_heading_of_a_column_that_may_be_missing(tmp_path: Path, order: 
         complaints = Complaints()
         found = lists_of("afdx-icd", paths, mapping.read("afdx-icd", path), complaints)
         assert (column in found[order].places) == (says != "")
+
+
+@pytest.mark.parametrize("order, section", [(1, "ends"), (2, "wires")])
+@pytest.mark.parametrize("column, heading", [
+    ("buffer", "Buffers [byte]"), ("buffer", "BufferSize"), ("buffer", "Buffering"), ("buffer", "buffer-size"),
+    ("max_delay_us", "MaxDelay"), ("max_delay_us", "max delay us"), ("max_delay_us", "Max. delay (us)"),
+    ("max_delay_us", "Maximum delay")])
+def test_another_heading_of_what_ports_have(tmp_path: Path, order: int, section: str, column: str,
+                                            heading: str) -> None:
+    """Checks that the buffer and the greatest delay that stand for missing columns are not taken without a word, and
+    are if the mapping says so."""
+    lists = [worked_lists.LINKS, worked_lists.ENDS, worked_lists.WIRES]
+    first, *rows = lists[order].splitlines()
+    lists[order] = "\n".join([f"{first},{heading}", *(f"{row},1000" for row in rows)])
+    paths, path = worked_lists.write(tmp_path, *lists), tmp_path / "map.toml"
+    what = f'"{heading}" may be this column: the mapping has to name it, or "" for none'
+    assert refusal(paths).lines == (f"afdx-icd: {what}, {paths[order]} line 1, column {column}",)
+    path.write_text(f'[columns.{section}]\n{column} = ""\n', encoding="utf-8")
+    found = lists_of("afdx-icd", paths, mapping.read("afdx-icd", path), Complaints())
+    assert column not in found[order].places
+
+
+def test_a_column_that_a_default_stands_for_is_not_passed_over(tmp_path: Path) -> None:
+    """Checks that it is one that may be missing: its heading too has to begin with no more than the same letters."""
+    paths = worked_lists.write(tmp_path, worked_lists.LINKS.replace("jitter_us", "Jitters"))
+    path = tmp_path / "map.toml"
+    path.write_text("[defaults]\njitter_us = 0\n", encoding="utf-8")
+    what = '"Jitters" may be this column: the mapping has to name it, or "" for none'
+    assert refusal(paths, "--mapping", str(path)).lines == (
+        f"afdx-icd: {what}, {paths[0]} line 1, column jitter_us",)
+
+
+def test_no_likely_heading_of_a_column_that_has_to_be_there(tmp_path: Path) -> None:
+    """Checks that words are compared there: `total` is no `to`."""
+    heading = worked_lists.LINKS.splitlines()[0].replace(",to,", ",total,")
+    paths = worked_lists.write(tmp_path, worked_lists.LINKS.replace(worked_lists.LINKS.splitlines()[0], heading))
+    assert refusal(paths).lines == (
+        f"afdx-icd: no such column: the mapping has to name it, {paths[0]} line 1, column to",)
+
+
+@pytest.mark.parametrize("heading", [
+    "remark", "Remarks", "comment", "description", "status", "ICD rev", "port buffer", "cable delay", "partition",
+    "UDP port", "max. rate", "maximum rate", "sub-VL", "network", "period", "rate", "owner", "ATA", "ROM", "pol."])
+def test_headings_of_other_meanings(tmp_path: Path, heading: str) -> None:
+    """Checks that columns that lists have beside those that are read stay there without a mapping."""
+    lists = [worked_lists.LINKS.replace("police", heading).replace(",via", ",note"),
+             worked_lists.ENDS.replace("mbit", f"mbit,{heading}").replace("0\n", "0,x\n"),
+             worked_lists.WIRES.replace("delay_ns", heading)]
+    paths = worked_lists.write(tmp_path, *lists)
+    complaints = Complaints()
+    lists_of("afdx-icd", paths, mapping.read("afdx-icd", None), complaints)
+    assert not complaints.found
 
 
 def test_headings_that_are_no_column(tmp_path: Path) -> None:

@@ -16,7 +16,7 @@ class Unfit(Exception):
 @dataclass(frozen=True)
 class Column(Generic[T]):
     """A column: its key in the mapping, what reads its cells, what stands for an empty one, if one may be empty, and
-    how it may be called too: such a heading is not passed over in silence."""
+    what its heading may begin with too: such a heading is not passed over in silence."""
     key: str
     reader: Callable[[str], T]
     default: str | None = None

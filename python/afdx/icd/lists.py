@@ -16,6 +16,24 @@ UNITS = {"ms", "us", "ns"}  # at the ends of keys
 UNSAVED = "a formula whose value was not saved with it"
 
 
+def names_of(column: Column[Any]) -> list[list[str]]:
+    """Returns what headings of a column may begin with, in words: its key less its unit, and how it may be called
+    too."""
+    own = words_of(column.key)
+    return [own[:-1] if own[-1] in UNITS else own, *map(words_of, column.also)]
+
+
+def begins_with_words(heading: str, name: list[str]) -> bool:
+    """Returns whether the first words of a heading are a name: `Port [1..24]` is so of `port`, `total` not of `to`."""
+    return words_of(heading)[:len(name)] == name
+
+
+def begins_with_letters(heading: str, name: list[str]) -> bool:
+    """Returns whether the letters and digits of a heading, in small letters, begin with those of a name: `BufferSize`
+    and `Buffers [byte]` do so of `buffer`."""
+    return "".join(words_of(heading)).startswith("".join(name))
+
+
 class List:
     """A list with its columns. What is wrong with it goes to the complaints."""
 
@@ -58,12 +76,12 @@ class List:
         return column.default is not None or column.key in self.mapping.defaults
 
     def likely(self, column: Column[Any]) -> str:
-        """Returns a heading by which a column seems to be there, quoted, or nothing: `delay [ns]` for `delay_ns`, its
-        name, or that without its unit, with or without words behind it. A link's name is but a comment."""
-        own = words_of(column.key)
-        names = [own[:-1] if own[-1] in UNITS else own, *map(words_of, column.also)]
+        """Returns the first heading by which a column seems to be there, quoted, or nothing. Of a column that has to be
+        there, which is refused anyway, it begins with the words; of one that may be missing with the letters alone, so
+        that none is passed over. A link's name is but a comment."""
+        alike = begins_with_words if not self.may_be_missing(column) else begins_with_letters
         others = [heading for at, heading in enumerate(self.sheet.heading.cells) if at not in self.places.values()]
-        likely = [heading for heading in others if any(words_of(heading)[:len(name)] == name for name in names)]
+        likely = [heading for heading in others if any(alike(heading, name) for name in names_of(column))]
         return json.dumps(one_line(likely[0]), ensure_ascii=False) if likely and column is not NAME else ""
 
     def complain_of_missing(self, column: Column[Any]) -> None:
