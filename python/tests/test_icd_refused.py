@@ -184,16 +184,20 @@ id = 3
 ends = "ES"
 [defaults]
 jitter_us = 20000
+police = true
 [defaults.wires]
 mbit = "fast"
 [switches]
 latency_us = 101
+least_latency_us = 5.5
 constant = "00000000"
 """
 BAD_KEYS = [
     "no such key, columns.number", "no such section, rows",
     "not 8 hexadecimal digits whose first byte has its two lowest bits set, switches.constant",
-    "not a section, columns.ends", "not a text, columns.id", "not a whole number, defaults.wires.mbit",
+    "not a section, columns.ends", "not a text or a whole number, defaults.police",
+    "not a text or a whole number, switches.least_latency_us", "not a text, columns.id",
+    "not a whole number, defaults.wires.mbit",
     "not from 0 to 100, switches.latency_us", "not from 0 to 10000, defaults.jitter_us"]
 
 

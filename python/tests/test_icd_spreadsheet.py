@@ -163,6 +163,9 @@ def test_a_heading_of_merged_cells_is_above_each_of_their_columns(tmp_path: Path
 
 UTF_16 = "zero bytes, as UTF-16 has them: it has to be UTF-8"
 NO_XLSX = "a spreadsheet that is no .xlsx: save it as .xlsx or .csv"
+XLSX = "an .xlsx by its bytes: its name has to end so"
+KIND = b"application/vnd.openxmlformats-officedocument.spreadsheetml.sheet.main+xml"
+MACROS = {KIND: b"application/vnd.ms-excel.sheet.macroEnabled.main+xml"}
 
 
 def test_a_workbook_with_lists_to_choose_from_is_read_without_a_warning(
@@ -181,7 +184,11 @@ def test_a_workbook_with_lists_to_choose_from_is_read_without_a_warning(
     ("list.csv", "id,to\n1,A\n".encode("utf-16-be"), f"{UTF_16}, {{}} line 1"),
     ("list.csv", b"id,to\n1,A\0", f"{UTF_16}, {{}} line 2"),
     ("list.csv", b'id,"to"x\n', "not separated values: ',' expected after '\"', {}"),
-    ("list.ods", workbook([["id"]]), f"{NO_XLSX}, {{}}"),
+    ("list.csv", workbook([["id"]]), f"{XLSX}, {{}}"),
+    ("list", workbook([["id"]]), f"{XLSX}, {{}}"),
+    ("list.xlsm", changed(workbook([["id"]]), "[Content_Types].xml", MACROS), f"{NO_XLSX}, {{}}"),
+    ("list.csv", workbook([["id"]])[:200], f"{NO_XLSX}, {{}}"),
+    ("list.ods", b"PK\3\4" + bytes(504), f"{NO_XLSX}, {{}}"),
     ("list.xls", b"\xd0\xcf\x11\xe0\xa1\xb1\x1a\xe1" + bytes(504), f"{NO_XLSX}, {{}}"),
     ("list.xlsx", b"id,to\n", "not a workbook that can be read, {}")])
 def test_files_that_are_no_lists(tmp_path: Path, name: str, text: bytes, line: str) -> None:

@@ -311,6 +311,16 @@ def test_late_by_the_window_and_later(folder: Folder) -> None:
     assert folder.captures() == before
 
 
+def test_a_pipe_is_no_recording(folder: Folder) -> None:
+    """Checks that a pipe is not waited for, and is passed over if a pattern names a recording too."""
+    raw = folder.path / "raw"
+    raw.mkdir()
+    os.mkfifo(raw / "b.pcap")
+    assert folder.run(TWO) == (3, [], [f"afdx-import: no regular file b.pcap, source 1, {raw}"])
+    assert folder.run(ONE.replace("a.pcap", "*.pcap"), a_pcap=captures.pcap(A))[0] == 0
+    assert folder.captures() == {"port-1.pcap": captures.pcap(A)}
+
+
 def test_each_faulty_recording_is_named_and_nothing_is_put(folder: Folder) -> None:
     broken = captures.pcap([Record(AT, frame())]) + captures.words(1, 10**9, 0, 0)
     rules = '[[source]]\nfile = "*.pcap"\nto = "SW1/port-1"\n'
@@ -351,7 +361,7 @@ def test_each_faulty_recording_is_named_and_nothing_is_put(folder: Folder) -> No
       "top: silent names port-3, which source 2 names too, {}/rules.toml"]),
     ("source = [", 3, ["no TOML: Invalid value (at end of document), {}/rules.toml"]),
     (TWO, 3, ["no recording b.pcap, source 1, {}/raw"]),
-    (ONE.replace("a.pcap", "."), 3, ["no recording ., source 1, {}/raw"]),
+    (ONE.replace("a.pcap", "."), 3, ["no regular file ., source 1, {}/raw"]),
     (ONE.replace("port-1", "port-25"), 3,
      ['source 1: to has to be a port from 1 to 24, as "port-1" or "SW1/port-1", {}/rules.toml']),
     (ONE + "drift_ppb = 100000000\n" + "offset_ns = 4294967295000000000\n", 3,

@@ -57,7 +57,8 @@ class Reading:
             self.wrong.append(f"no such section, {name}")
 
     def values(self, place: str, known: columns.Columns, number: bool) -> dict[str, str]:
-        """Returns the values of a section as texts; other keys are wrong, but for the sections of lists in it."""
+        """Returns the values of a section as texts; other values are wrong, and other keys, but for the sections of
+        lists in it."""
         section: Any = self.sections
         for name in place.split("."):
             section = section.get(name, {}) if isinstance(section, dict) else {}
@@ -66,12 +67,15 @@ class Reading:
             return {}
         keys = {column.key for column in known}
         found = {key: value for key, value in section.items() if "." in place or key not in LISTS}
+        texts = {}
         for key, value in found.items():
             if key not in keys:
                 self.wrong.append(f"no such key, {place}.{key}")
-            elif not isinstance(value, str) and not (number and type(value) is int):
-                self.wrong.append(f"not a text{' or a number' if number else ''}, {place}.{key}")
-        return {key: str(value) for key, value in found.items() if key in keys}
+            elif isinstance(value, str) or number and type(value) is int:
+                texts[key] = str(value)
+            else:
+                self.wrong.append(f"not a text{' or a whole number' if number else ''}, {place}.{key}")
+        return texts
 
     def fit(self, place: str, known: columns.Columns) -> dict[str, str]:
         """Returns the values of a section that are cells; one that its column cannot hold is wrong."""

@@ -19,6 +19,7 @@ from afdx.failure import INPUT, Failure
 SEPARATORS = (",", "\t", ";")
 SAID = re.compile(r"sep=([,;\t])[,;\t]*\r?\n")
 WORKBOOK, CHAIN = "xl/workbook.xml", "xl/calcChain.xml"  # parts of an .xlsx: the second is Excel's, if it computed
+TYPES, XLSX = "[Content_Types].xml", b"spreadsheetml.sheet.main+xml"  # the part with its kind; .xlsm has another kind
 BOOKS = (b"PK\3\4", b"\xd0\xcf\x11\xe0")  # what .xlsm and .ods begin with, and what .xls does
 UNCOMPUTED = "0"  # the value of a formula that XlsxWriter did not compute
 PARTS = "{http://schemas.openxmlformats.org/spreadsheetml/2006/main}"  # before the tag of each part of a workbook
@@ -161,6 +162,15 @@ def separated_rows(text: str) -> list[Row]:
     return rows
 
 
+def is_xlsx(text: bytes) -> bool:
+    """Returns whether bytes are an .xlsx, whatever the file is called."""
+    try:
+        with ZipFile(io.BytesIO(text)) as parts:
+            return XLSX in parts.read(TYPES)
+    except Exception:  # what the reader of ZIP raises is nowhere listed
+        return False
+
+
 def rows_of(command: str, path: Path) -> list[Row]:
     """Returns all rows of a file, read by its ending."""
     text = files.get(command, path)
@@ -171,6 +181,8 @@ def rows_of(command: str, path: Path) -> list[Row]:
                 return workbook_rows(text)
         except Exception as error:  # what the readers of ZIP and XML below openpyxl raise is nowhere listed
             raise Failure(INPUT, f"{command}: not a workbook that can be read, {path}") from error
+    if is_xlsx(text):
+        raise Failure(INPUT, f"{command}: an .xlsx by its bytes: its name has to end so, {path}")
     if text.startswith(BOOKS):
         raise Failure(INPUT, f"{command}: a spreadsheet that is no .xlsx: save it as .xlsx or .csv, {path}")
     if b"\0" in text:

@@ -50,10 +50,10 @@ def recordings_of(rules: Rules, raw: Path) -> list[list[Path]]:
     """Returns the files of each source, by name."""
     if not raw.is_dir():
         raise Failure(DEVICE, f"{COMMAND}: no folder {raw}")
-    found = [[raw / name for name in sorted(glob(source.file, root_dir=raw)) if (raw / name).is_file()]
-             for source in rules.sources]
-    missing = [f"{COMMAND}: no recording {source.file}, source {number}, {raw}"
-               for number, (source, paths) in enumerate(zip(rules.sources, found), 1) if not paths]
+    named = [[raw / name for name in sorted(glob(source.file, root_dir=raw))] for source in rules.sources]
+    found = [[path for path in paths if path.is_file()] for paths in named]
+    missing = [f"{COMMAND}: no {'regular file' if named[at] else 'recording'} {source.file}, source {at + 1}, {raw}"
+               for at, source in enumerate(rules.sources) if not found[at]]
     if missing:
         raise Failure(INPUT, *missing)
     return found
