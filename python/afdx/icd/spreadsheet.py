@@ -181,10 +181,11 @@ def rows_of(command: str, path: Path) -> list[Row]:
                 return workbook_rows(text)
         except Exception as error:  # what the readers of ZIP and XML below openpyxl raise is nowhere listed
             raise Failure(INPUT, f"{command}: not a workbook that can be read, {path}") from error
-    if is_xlsx(text):
-        raise Failure(INPUT, f"{command}: an .xlsx by its bytes: its name has to end so, {path}")
     if text.startswith(BOOKS):
-        raise Failure(INPUT, f"{command}: a spreadsheet that is no .xlsx: save it as .xlsx or .csv, {path}")
+        what = "a spreadsheet that is no .xlsx: save it as .xlsx or .csv"
+        if is_xlsx(text):
+            what = "an .xlsx by its bytes: its name has to end so"
+        raise Failure(INPUT, f"{command}: {what}, {path}")
     if b"\0" in text:
         line = text.count(b"\n", 0, text.index(b"\0")) + 1
         raise Failure(INPUT, f"{command}: zero bytes, as UTF-16 has them: it has to be UTF-8, {path} line {line}")
