@@ -6,13 +6,14 @@ byte by byte, it keeps.
 import struct
 import zlib
 from collections.abc import Iterable, Iterator
-from dataclasses import dataclass
+from dataclasses import dataclass, field
 from fractions import Fraction
 
 SECOND = 10**9
 END = (2**32 - 1) * SECOND
 CHECK_SEQUENCE = 4
 GREATEST_RECORD = 262_144
+ETHERNET = 1
 SECTION = bytes.fromhex("0a0d0d0a")  # the kind of block with which a pcapng recording begins
 MAGICS = {("<", 1): "4d3cb2a1", (">", 1): "a1b23c4d", ("<", 1000): "d4c3b2a1", (">", 1000): "a1b2c3d4"}  # by order and ns of a unit
 
@@ -23,6 +24,7 @@ class Record:
     frame: bytes
     original: int = -1  # as long as the frame, if it is below that
     interface: int = 0
+    link_type: int = field(default=ETHERNET, compare=False, repr=False)
 
     @property
     def length(self) -> int:
@@ -144,6 +146,7 @@ def read_pcap(text: bytes) -> tuple[list[Record], bool]:
     order, unit = form_of(text)
     if struct.unpack_from(f"{order}HH", text, 4) != (2, 4):
         raise Faulty("version")
+    link_type = struct.unpack_from(f"{order}I", text, 20)[0] % 2**26  # above that is the check sequences' length
     records: list[Record] = []
     at = len(HEADER)
     for seconds, fraction, captured, original, data in rows_of(text, order):
@@ -153,7 +156,7 @@ def read_pcap(text: bytes) -> tuple[list[Record], bool]:
             return records, True
         if fraction * unit >= SECOND or seconds == 2**32 - 1:
             raise Faulty("stamp")
-        records.append(Record(seconds * SECOND + fraction * unit, data, original))
+        records.append(Record(seconds * SECOND + fraction * unit, data, original, 0, link_type))
         at += 16 + captured
     return records, at < len(text)
 
@@ -161,7 +164,7 @@ def read_pcap(text: bytes) -> tuple[list[Record], bool]:
 def read_pcapng(text: bytes) -> tuple[list[Record], bool]:
     records: list[Record] = []
     order, at = "<", 0
-    clocks: list[tuple[int, int]] = []  # units of a second, seconds later
+    clocks: list[tuple[int, int, int]] = []  # units of a second, seconds later, and the link type
     before = 0  # interfaces of earlier sections
     while at + 12 <= len(text):
         if text[at:at + 4] == SECTION:
@@ -181,7 +184,7 @@ def read_pcapng(text: bytes) -> tuple[list[Record], bool]:
                 raise Faulty("section")
             before = len(clocks)
         elif kind == 1:
-            clocks.append(clock_of(order, body))
+            clocks.append((*clock_of(order, body), struct.unpack_from(f"{order}H", body)[0]))
         elif kind == 3:
             raise Faulty("no stamp")
         elif kind in (2, 6):
@@ -213,14 +216,14 @@ def clock_of(order: str, body: bytes) -> tuple[int, int]:
     return int((2 if binary else 10)**power), int(seconds)
 
 
-def packet_of(order: str, kind: int, body: bytes, clocks: list[tuple[int, int]], before: int) -> Record:
+def packet_of(order: str, kind: int, body: bytes, clocks: list[tuple[int, int, int]], before: int) -> Record:
     if len(body) < 20:
         raise Faulty("packet")
     number, high, low, captured, original = struct.unpack_from(f"{order}{'I' if kind == 6 else 'Hxx'}4I", body)
     if captured > GREATEST_RECORD or captured > len(body) - 20 or before + number >= len(clocks):
         raise Faulty("packet")
-    units, later = clocks[before + number]
+    units, later, link_type = clocks[before + number]
     stamp = int(Fraction((high << 32 | low) * SECOND, units) // 1) + later * SECOND
     if not 0 <= stamp < END:
         raise Faulty("stamp")
-    return Record(stamp, body[20:20 + captured], original, before + number)
+    return Record(stamp, body[20:20 + captured], original, before + number, link_type)

@@ -526,6 +526,8 @@ def imported_plainly(text: bytes) -> dict[str, bytes] | None:
         records, _ = captures.read(text)
     except Faulty:
         return None
+    if any(one.link_type != captures.ETHERNET for one in records):
+        return None
     ports: dict[str, list[Record]] = {"port-1.pcap": [], "port-2.pcap": []}
     for one in records:
         number = int.from_bytes(one.frame[9:11], "big") if len(one.frame) >= 12 else 0
