@@ -13,6 +13,7 @@ from unittest.mock import Mock
 import cloudpickle
 import pytest
 
+import campaign_recordings
 from afdx import files
 from afdx.campaign import worker
 from afdx.campaign.engines import Options, dask, local, slurm
@@ -113,6 +114,24 @@ def test_no_more_threads_than_tasks(tmp_path: Path, monkeypatch: pytest.MonkeyPa
     monkeypatch.setattr(local, "work_hard", work)
     local.run([task(tmp_path)], [0], Options(tmp_path, "local", 10**6, 1.0, lambda *_: None))
     assert most <= before + 1
+
+
+def test_two_drivers_of_one_campaign_keep_all(tmp_path: Path) -> None:
+    """Checks that both end well, and that each recording's captures are those of a driver alone."""
+    for number in range(12):
+        campaign_recordings.write_recording(tmp_path / f"recordings/r{number:02}", number, 12, 40)
+    (tmp_path / "table.toml").write_text(campaign_recordings.table(campaign_recordings.links()))
+    for root in ("alone", "both"):
+        (tmp_path / f"{root}.toml").write_text(
+            f'recordings = ["recordings/*"]\nroot = "{root}"\nask = "run"\nkeep = "all"\n'
+            f'scratch = "{tmp_path}/scratch"\n[[table]]\nname = "one"\nfile = "table.toml"\n')
+    for drivers in (["alone"], ["both", "both"]):
+        started = [subprocess.Popen([COMMAND, "run", str(tmp_path / f"{root}.toml"), "-j", "2"]) for root in drivers]
+        assert [driver.wait(PATIENCE) for driver in started] == [0] * len(drivers)
+    alone, both = ({path.relative_to(tmp_path / root): path.read_bytes()
+                    for path in (tmp_path / root / "kept").rglob("*") if path.is_file()} for root in ("alone", "both"))
+    assert len(alone) == 12 * campaign_recordings.PORTS
+    assert alone == both
 
 
 def test_an_interrupt_ends_the_driver_and_its_children_at_once(tmp_path: Path) -> None:

@@ -1,17 +1,23 @@
 """What a worker answers, over a stand-in for afdx."""
+import fcntl
 import os
+import shutil
 import signal
 import subprocess
 import sys
 import threading
+from collections.abc import Callable
 from dataclasses import replace
 from pathlib import Path
+from typing import BinaryIO
 
 import pytest
 
 from afdx.campaign.worker.files import scratch_folder
-from afdx.campaign.worker.program import TIMED_OUT, Program
+from afdx.campaign.worker.program import TIMED_OUT, Program, Said
+from afdx.campaign.worker.questions import ask
 from afdx.campaign.worker.stamps import first_stamp
+from afdx.campaign.worker.task import Task
 from afdx.campaign.worker.work import answer_at, work, work_hard
 from captures import header, words
 from tests.campaign_samples import DELAYS, HEADING, PASSED, PATIENCE, QUIET, SEEN, await_number, ends, row, task
@@ -122,6 +128,86 @@ def test_what_is_kept_is_of_the_newest_answer(tmp_path: Path, keep: str, kept: l
     (folder / "old.pcap").write_text("text")
     work_hard(task(tmp_path, f'echo >"$out/port-1.pcap"\n{QUIET}', ask="run", keep=keep))
     assert sorted(path.name for path in folder.glob("*")) == kept
+
+
+@pytest.mark.parametrize("act, kept", [
+    ("exit 3", []), ("kill -KILL $$", ["old.pcap"]),
+    (f'touch -d 2001-01-01 "$folder/port-2.pcap"\n{QUIET}', ["old.pcap"]),
+    (f'echo >"$out/port-1.pcap"\n{QUIET}', ["port-1.pcap"])])
+def test_faults_that_may_pass_leave_what_is_kept(tmp_path: Path, act: str, kept: list[str]) -> None:
+    folder = tmp_path / "campaign/kept/t/r1"
+    folder.mkdir(parents=True)
+    (folder / "old.pcap").write_text("text")
+    work_hard(task(tmp_path, act, ask="run", keep="all"))
+    assert [path.name for path in folder.glob("*")] == kept
+
+
+@pytest.mark.parametrize("act", ["", "kill -KILL $$", "exit 3"])
+def test_what_another_worker_kept_stays(tmp_path: Path, monkeypatch: pytest.MonkeyPatch, act: str) -> None:
+    """Checks that a worker which began before another one had answered takes nothing of that one's, however it ends."""
+    asked = task(tmp_path, f"""[ ! -e "$folder/again" ] || {{ {act or ":"}; }}
+    : >"$folder/again"; echo text >"$out/port-1.pcap"; echo text >"$out/port-2.pcap"
+    {QUIET}""", ask="run", keep="all")
+    first = asked_after(monkeypatch, lambda: work(asked, 1))
+    assert work_hard(asked).status == 0
+    assert first.done
+    kept = sorted((tmp_path / "campaign/kept/t/r1").glob("*"))
+    assert [(path.name, path.read_text()) for path in kept] == [("port-1.pcap", "text\n"), ("port-2.pcap", "text\n")]
+    assert answer_at(asked.answer)["status"] == 0
+
+
+class Once:
+    """Does something once, when it is called first."""
+
+    def __init__(self, do: Callable[[], object]) -> None:
+        self.do, self.done = do, False
+
+    def __call__(self) -> None:
+        if not self.done:
+            self.done = True
+            self.do()
+
+
+def asked_after(monkeypatch: pytest.MonkeyPatch, do: Callable[[], object]) -> Once:
+    """Has this done when a task's question is about to be asked, that is when its worker has seen no answer."""
+    once = Once(do)
+
+    def hooked(asked: Task, program: Program, scratch: Path) -> Said:
+        once()
+        return ask(asked, program, scratch)
+
+    monkeypatch.setattr("afdx.campaign.worker.work.ask", hooked)
+    return once
+
+
+def test_two_workers_put_the_same_files_at_once(tmp_path: Path, monkeypatch: pytest.MonkeyPatch) -> None:
+    """Checks that what a worker is putting is no file of an earlier answer to another one, which goes on meanwhile."""
+    asked = task(tmp_path, f'echo text >"$out/port-1.pcap"\n{QUIET}', ask="run", keep="all")
+    folder, copy = tmp_path / "campaign/kept/t/r1", shutil.copyfileobj
+    other = Once(lambda: work(asked, 1))
+
+    def hooked(source: BinaryIO, file: BinaryIO, length: int) -> None:
+        copy(source, file, length)
+        file.flush()
+        other()
+
+    monkeypatch.setattr(shutil, "copyfileobj", hooked)
+    assert work(asked, 1).status == 0
+    assert other.done
+    assert [(path.name, path.read_text()) for path in folder.glob("*")] == [("port-1.pcap", "text\n")]
+
+
+def test_parts_that_a_killed_worker_left_do_not_stay(tmp_path: Path) -> None:
+    folder = tmp_path / "campaign/kept/t/r1"
+    folder.mkdir(parents=True)
+    left, held, begun = (folder / f".port-1.pcap.0000000{number}" for number in range(3))
+    left.write_text("text")
+    begun.write_text("")
+    with open(held, "w") as file:
+        file.write("text")
+        fcntl.flock(file, fcntl.LOCK_EX)
+        work_hard(task(tmp_path, f'echo >"$out/port-1.pcap"\n{QUIET}', ask="run", keep="all"))
+    assert sorted(folder.glob("*")) == sorted((held, begun, folder / "port-1.pcap"))
 
 
 @pytest.mark.parametrize("ask, kept", [

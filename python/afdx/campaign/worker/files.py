@@ -27,9 +27,26 @@ def put_text(path: Path, text: str) -> None:
 
 
 def put_copy(source: Path, path: Path) -> None:
-    """Puts a copy of a file."""
-    with open(source, "rb") as read:
-        put(path, lambda file: shutil.copyfileobj(read, file, 1 << 20))
+    """Puts a copy of a file. The lock of what is not whole yet is held until that has its name."""
+    with contextlib.ExitStack() as stack:
+        read = stack.enter_context(open(source, "rb"))
+
+        def write(file: BinaryIO) -> None:
+            held = os.dup(file.fileno())
+            stack.callback(os.close, held)
+            with contextlib.suppress(OSError):  # a file system may have no locks: then nobody gets this one either
+                fcntl.flock(held, fcntl.LOCK_EX)
+            shutil.copyfileobj(read, file, 1 << 20)
+
+        put(path, write)
+
+
+def remove_left(path: Path) -> None:
+    """Removes what `put_copy` left when it was killed: its lock is free. An empty one may not be locked yet."""
+    with contextlib.suppress(OSError), open(path, "r+b") as file:
+        fcntl.flock(file, fcntl.LOCK_EX | fcntl.LOCK_NB)
+        if os.fstat(file.fileno()).st_size:
+            path.unlink()
 
 
 @contextlib.contextmanager

@@ -2,23 +2,21 @@
 from __future__ import annotations
 
 import csv
-import os
 import shutil
 from pathlib import Path
 
-from afdx.campaign.worker.files import put_copy
+from afdx.campaign.worker.files import put_copy, remove_left
 from afdx.campaign.worker.program import Program, Said
 from afdx.campaign.worker.task import Task
 
 ASKS = ("survey", "run", "trace")
 KEEPS = ("none", "policed", "all")
 CSV = "--csv"
+OUT = "kept"  # the outputs that are to be kept, in a task's folder for temporary files
 
 
 def ask(task: Task, program: Program, scratch: Path) -> Said:
-    """Returns the question of a task; outputs that are to be kept are put, in place of those of an earlier answer."""
-    if task.keep != "none":
-        clear(folders_in(task, kept_place(task)))
+    """Returns the answer to the question of a task; outputs that are to be kept are below `scratch` then."""
     of_networks = ("network",) if task.table.switches else ()
     files = (task.table.files[0], task.recording.folder)
     options = ("--unchecked",) if task.table.unchecked else ()
@@ -33,14 +31,13 @@ def ask(task: Task, program: Program, scratch: Path) -> Said:
 
 def run(task: Task, program: Program, scratch: Path, arguments: tuple[str, ...], options: tuple[str, ...],
         policed: bool | None = None) -> Said:
-    """Runs a command that puts files, and keeps these if the task asks for it."""
-    out = scratch / "kept"
+    """Runs a command that puts files, and leaves these there if the task asks to keep them."""
+    out = scratch / OUT
     for folder in folders_in(task, out):
         folder.mkdir(parents=True)
     said = program(*arguments, str(out), *options)
-    if said.status == 0 and wanted(task.keep, polices(said.text) if policed is None else policed):
-        keep(out, kept_place(task))
-    shutil.rmtree(out)
+    if said.status or not wanted(task.keep, polices(said.text) if policed is None else policed):
+        shutil.rmtree(out)
     return said
 
 
@@ -65,17 +62,27 @@ def folders_in(task: Task, place: Path) -> list[Path]:
     return [place / switch for switch in task.table.switches or (".",)]
 
 
-def clear(folders: list[Path]) -> None:
-    """Removes the files in folders, but not what lies in folders of these: a recording may lie in another one's."""
-    for folder in folders:
-        for path in folder.glob("*"):
-            if not path.is_dir():
-                path.unlink()
+def keep(task: Task, scratch: Path) -> None:
+    """Puts the outputs of a task, if some are to be kept, in place of those of an earlier answer.
+
+    Each file comes by a rename over what is there, and then alone that is removed which only the earlier answer has. So
+    two workers that do one task, whose files are the same, take none from each other, whenever one of them is killed.
+    """
+    out, place = scratch / OUT, kept_place(task)
+    names = sorted(path.relative_to(out) for path in out.rglob("*") if path.is_file())
+    for name in names:
+        put_copy(out / name, place / name)
+    for folder in folders_in(task, place):
+        clear(folder, {place / name for name in names})
 
 
-def keep(out: Path, place: Path) -> None:
-    """Puts all files of a folder into another one, each whole."""
-    for folder, _, names in os.walk(out):
-        for name in names:
-            source = Path(folder, name)
-            put_copy(source, place / source.relative_to(out))
+def clear(folder: Path, kept: set[Path]) -> None:
+    """Removes the files in a folder but for these, and what another worker is putting, whose name begins with a dot.
+
+    What lies in folders of it stays: a recording may lie in another one's.
+    """
+    for path in folder.glob("*"):
+        if path.name.startswith("."):
+            remove_left(path)
+        elif path not in kept and not path.is_dir():
+            path.unlink(missing_ok=True)

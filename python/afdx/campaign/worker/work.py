@@ -14,7 +14,7 @@ from typing import TypedDict
 
 from afdx.campaign.worker.files import put, scratch_folder
 from afdx.campaign.worker.program import TIMED_OUT, Program, Said, Used
-from afdx.campaign.worker.questions import ask
+from afdx.campaign.worker.questions import ask, keep
 from afdx.campaign.worker.stamps import first_stamp
 from afdx.campaign.worker.task import FORM, Task, content_of, identity_of, table_identity
 
@@ -22,6 +22,7 @@ DEVICE = 5  # the program's status if a file or memory fails
 CHANGED = 75
 LOST = 137  # as of a process that was killed
 AGAIN = ("device", "memory", "timeout", "signal", "program")  # faults of which another try may rid the task
+PASSING = (*AGAIN, "changed")  # faults that another worker of the task may not meet: they leave what is kept
 
 PROGRAMS: dict[tuple[str, int, int], str] = {}  # the hash of each, by size and time of change
 
@@ -68,17 +69,25 @@ class Refused(Exception):
 
 
 def work(task: Task, attempt: int) -> Outcome:
-    """Does a task unless its answer is there. A fault that may pass is an answer in the last try alone."""
+    """Does a task unless its answer is there. A fault that may pass is an answer in the last try alone.
+
+    Outputs are kept before the answer is put, so an answer that is there has all of them.
+    """
     if task.answer.exists():
         return Outcome(status_of(task.answer), True)
     program = Program(task.program, task.timeout, address_space(task.memory))
-    try:
-        said = asked(task, program)
-        fault = fault_of(said)
-    except Refused as refused:
-        fault, said = refused.fault, Said(refused.status, "", refused.line)
-    if fault in AGAIN and attempt < task.tries:
-        return Outcome(said.status, False)
+    with scratch_folder(task.scratch) as scratch:
+        try:
+            said = asked(task, program, scratch)
+            fault = fault_of(said)
+        except Refused as refused:
+            fault, said = refused.fault, Said(refused.status, "", refused.line)
+        if fault in AGAIN and attempt < task.tries:
+            return Outcome(said.status, False)
+        if task.answer.exists():  # another worker's, as what is kept is
+            return Outcome(status_of(task.answer), True)
+        if task.keep != "none" and fault not in PASSING:
+            keep(task, scratch)
     put_answer(task, said, fault, program.used, attempt)
     return Outcome(said.status, True)
 
@@ -93,14 +102,13 @@ def work_hard(task: Task) -> Outcome:
     return work(task, task.tries)
 
 
-def asked(task: Task, program: Program) -> Said:
+def asked(task: Task, program: Program, scratch: Path) -> Said:
     """Asks of a recording that is whole and stays as it is, as program and table do that the plan has."""
     recording = task.recording
     missing = [file for file in recording.files if not os.path.isfile(os.path.join(recording.folder, file))]
     if missing:
         raise Refused("missing", DEVICE, f"no {', '.join(missing)} in {recording.folder}")
-    with scratch_folder(task.scratch) as scratch:
-        said = ask(task, program, scratch)
+    said = ask(task, program, scratch)
     if identity_of(recording.name, recording.folder, recording.files, recording.by_content) != recording.identity:
         raise Refused("changed", CHANGED, f"the recording {recording.folder} changed since it was listed")
     try:
@@ -149,8 +157,9 @@ def put_answer(task: Task, said: Said, fault: str, used: Used, tries: int) -> No
 
 
 def put_lost(task: Task, line: str) -> None:
-    """Puts the fault of a task that ended each worker which tried it."""
-    put_answer(task, Said(LOST, "", line), "lost", Used(), task.tries)
+    """Puts the fault of a task that ended each worker which tried it, unless one of another driver answered it."""
+    if not task.answer.exists():
+        put_answer(task, Said(LOST, "", line), "lost", Used(), task.tries)
 
 
 def answer_at(path: Path) -> Answer:
