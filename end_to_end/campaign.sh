@@ -123,7 +123,7 @@ before,r0033,3,capture,1,\"afdx: capture P3 Magic, port 2\"
 before,r0044,5,missing,1,no port-5.pcap in $room/recordings/recordings/r0044"
 check "those in which a link babbles" is "$(column $made/csv/babblers.csv 4)" "r0011 r0036"
 check "the step, by the clearest link" is "$(sed -n 2p $made/csv/trends.csv | cut -d, -f6)" r0027
-check "are on the page" page_says '42 of 45 tasks are answered, 3 are faults' '2 links were policed, in 2 recordings' 'from r0027 on'
+check "are on the page" page_says '45 of 45 tasks are answered, 3 of them are faults' 'Recordings with a fault' '2 links were policed, in 2 recordings' 'from r0027 on'
 check "the page in a browser" /usr/bin/python3 "$top/end_to_end/campaign_page.py" "$made"
 check "two tables, and their page in a browser" compares
 check "what changed is asked anew" asks_anew

@@ -90,7 +90,7 @@ def overview(course: Course, babblers: Rows) -> Figure:
         below.plot(places, medians, "-", color=INK, linewidth=1.4, label="median of the recordings")
     if course.faults:
         below.plot(course.faults, [0] * len(course.faults), "X", color=POLICED, markersize=8, markeredgewidth=0,
-                   clip_on=False, label="without an answer", zorder=5)
+                   clip_on=False, label="with a fault", zorder=5)
     below.set_ylim(0, 1.1 * max((part[1] for part in parts), default=1.0))
     below.yaxis.set_major_formatter(PercentFormatter(1, decimals=0))
     head(below, "Greatest delays of the recordings, against their bounds")

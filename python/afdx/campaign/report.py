@@ -61,9 +61,9 @@ def verdict(base: sqlite3.Connection, sums: Sums) -> list[Markup]:
     recordings, size = base.execute(
         "select count(*), sum(size) from (select max(size) as size from runs group by recording)").fetchone()
     said = [bold(f"{count(recordings, 'recording')}, {(size or 0) / 1e9:,.2f} GB."),
-            Markup.escape(f"{sums.answers - sums.faults:,} of {count(sums.tasks, 'task')} are answered")]
-    said[-1] += bold(f", {count(sums.faults, 'is a fault', 'are faults')}.") if sums.faults else "."
-    return said + ([bold(f"{sums.left:,} are left.")] if sums.left else [])
+            Markup.escape(f"{sums.answers:,} of {count(sums.tasks, 'task')} are answered")]
+    said[-1] += bold(f", {count(sums.faults, 'of them is a fault', 'of them are faults')}.") if sums.faults else "."
+    return said + ([bold(f"{count(sums.left, 'is left', 'are left')}.")] if sums.left else [])
 
 
 def bold(text: str) -> Markup:
