@@ -15,7 +15,7 @@ import pytest
 
 from afdx.campaign.worker.files import scratch_folder
 from afdx.campaign.worker.program import TIMED_OUT, Program, Said
-from afdx.campaign.worker.questions import ask
+from afdx.campaign.worker.questions import ask, remove_parts
 from afdx.campaign.worker.stamps import first_stamp
 from afdx.campaign.worker.task import Task
 from afdx.campaign.worker.work import answer_at, work, work_hard
@@ -207,7 +207,15 @@ def test_parts_that_a_killed_worker_left_do_not_stay(tmp_path: Path) -> None:
         file.write("text")
         fcntl.flock(file, fcntl.LOCK_EX)
         work_hard(task(tmp_path, f'echo >"$out/port-1.pcap"\n{QUIET}', ask="run", keep="all"))
-    assert sorted(folder.glob("*")) == sorted((held, begun, folder / "port-1.pcap"))
+        assert sorted(folder.glob("*")) == sorted((held, begun, folder / "port-1.pcap"))
+        left.write_text("text")
+        remove_parts(tmp_path / "campaign")
+        assert sorted(folder.glob("*")) == sorted((held, begun, folder / "port-1.pcap"))
+    remove_parts(tmp_path / "campaign")
+    assert sorted(folder.glob("*")) == sorted((begun, folder / "port-1.pcap"))
+    os.utime(begun, (0, 0))
+    remove_parts(tmp_path / "campaign")
+    assert list(folder.glob("*")) == [folder / "port-1.pcap"]
 
 
 @pytest.mark.parametrize("ask, kept", [

@@ -13,6 +13,7 @@ from afdx.campaign.failures import COMMAND, gone
 from afdx.campaign.plan import get_plan, put_plan, tasks_of
 from afdx.campaign.progress import Progress, speed
 from afdx.campaign.settings import Campaign, read_campaign
+from afdx.campaign.worker.questions import remove_parts
 from afdx.campaign.worker.task import Task
 from afdx.failure import Failure, failing_of, tell
 
@@ -92,6 +93,7 @@ def run(campaign: Campaign, options: argparse.Namespace) -> int:
                                         progress.note))
     except (Failure, OSError) as error:  # an engine's threads may be at work
         end_at_once(error if isinstance(error, Failure) else failing_of(COMMAND, error))
+    remove_parts(campaign.root)
     return report(campaign, tasks)
 
 

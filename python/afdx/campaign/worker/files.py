@@ -6,6 +6,7 @@ import fcntl
 import os
 import shutil
 import tempfile
+import time
 from collections.abc import Callable, Iterator
 from pathlib import Path
 from typing import BinaryIO
@@ -13,6 +14,7 @@ from typing import BinaryIO
 from afdx.files import put_by
 
 SCRATCH = ".afdx-campaign-scratch-"  # no user's own folder begins so: what no maker holds is removed
+NEW = 3600  # seconds, by clocks that may differ
 
 
 def put(path: Path, write: Callable[[BinaryIO], object]) -> None:
@@ -42,10 +44,11 @@ def put_copy(source: Path, path: Path) -> None:
 
 
 def remove_left(path: Path) -> None:
-    """Removes what `put_copy` left when it was killed: its lock is free. An empty one may not be locked yet."""
+    """Removes what `put_copy` left when it was killed: its lock is free. A new one that is empty may get it yet."""
     with contextlib.suppress(OSError), open(path, "r+b") as file:
         fcntl.flock(file, fcntl.LOCK_EX | fcntl.LOCK_NB)
-        if os.fstat(file.fileno()).st_size:
+        status = os.fstat(file.fileno())
+        if status.st_size or status.st_mtime < time.time() - NEW:
             path.unlink()
 
 

@@ -86,3 +86,9 @@ def clear(folder: Path, kept: set[Path]) -> None:
             remove_left(path)
         elif path not in kept and not path.is_dir():
             path.unlink(missing_ok=True)
+
+
+def remove_parts(root: Path) -> None:
+    """Removes the parts of outputs that killed workers left anywhere in a campaign."""
+    for path in (root / "kept").rglob(".*"):
+        remove_left(path)
