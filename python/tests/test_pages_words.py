@@ -35,6 +35,12 @@ def test_no_other_part_than_the_whole_is_100_percent(part: float, whole: float, 
     assert words.percent(part, whole) == text
 
 
+def test_no_other_share_than_the_whole_is_100_in_tenths() -> None:
+    shares = (0, 0.0004, 0.99944, 0.9996, 1.0, 1.0004, 1.0006, 2.5)
+    assert [words.tenths(share) for share in shares] == [
+        "0.0", "0.0", "99.9", "99.9", "100.0", "100.1", "100.1", "250.0"]
+
+
 def test_counts() -> None:
     assert words.count(1, "copy", "copies") == "1 copy"
     assert words.count(958, "copy", "copies") == "958 copies"

@@ -4,7 +4,7 @@ from dataclasses import dataclass
 from typing import Any
 
 from afdx.campaign.findings import LOST_NAMES, Rows
-from afdx.pages.words import number, utc
+from afdx.pages.words import number, tenths, utc
 
 MOST = 300  # rows of a table on the page
 
@@ -38,7 +38,7 @@ def same(row: Cells) -> Cells:
 def worst(row: Cells) -> Cells:
     """Returns a row of the greatest delays."""
     switch, link, port, sent, greatest, bound, share, recording = row
-    percent = "-" if share is None else f"{100 * share:.1f}"
+    percent = "-" if share is None else tenths(share)
     return switch, link, port, number(sent), number(greatest), number(bound), percent, recording
 
 

@@ -19,6 +19,13 @@ def percent(part: float, whole: float = 1) -> str:
     return f"{share:.1f} %" if 0 < share < 10 or is_near else f"{share:.0f} %"
 
 
+def tenths(share: float) -> str:
+    """Writes a share in percent, to a tenth; what is less or more than the whole is not rounded to 100.0."""
+    if share != 1 and abs(100 * share - 100) <= 0.05:
+        return "99.9" if share < 1 else "100.1"
+    return f"{100 * share:.1f}"
+
+
 def since(ns: int) -> str:
     """Writes a time after the first frame."""
     return f"{ns / 1e6:,.3f} ms"
