@@ -207,18 +207,20 @@ is_ready t r s from keeping c formed sources begun = record {
   begun = subst (λ (x : Content). IsBegun x r from keeping c) (sym begun.table) begun;
 }
 
-pub is_found : {R : Type 0} (remaining : R → Option (List ℕ)) (t : Content) (r : Recordings) (s : Sources) (keeping : Bool) (first : List R) (from until : ℕ) (least greatest : Option ℕ)
+pub is_found : {R : Type 0} (remaining : R → Option (List ℕ)) (t : Content) (r : Recordings) (s : Sources) (keeping : Bool) (first : List R) (from until : ℕ) (stamp least greatest : Option ℕ)
     (waits : List Arrival) (start c last : Comparison) → IsWellFormed t → s ≡ sources_of t r → IsBegun t r from keeping start → IsReadOut remaining r s first least greatest waits start c
-    → from ≡ instant_of (option_or r.from least) → until ≡ instant_of (option_or r.until greatest) → last ≡ with_end (with_arrivals s.captures waits (with_until until c))
-    → IsFound remaining t r keeping first from until last
-is_found remaining t r s keeping first from until least greatest waits start c last formed sources begun out from_is until_is last_is =
+    → stamp ≡ least → from ≡ instant_of (option_or r.from least) → until ≡ instant_of (option_or r.until greatest) → last ≡ with_end (with_arrivals s.captures waits (with_until until c))
+    → IsFound remaining t r keeping first from until stamp greatest last
+is_found remaining t r s keeping first from until stamp least greatest waits start c last formed sources begun out stamp_is from_is until_is last_is =
     let ready = is_ready t r s from keeping start formed sources begun in
     record {
       arrivals = out.came;
-      first = start;
+      start = start;
       are_merged = subst (λ (x : Sources). AreMerged remaining x.clocks first out.came) sources out.merged;
       from_is = from_is ∙ ap (λ (o : Option ℕ). instant_of (option_or r.from o)) (sym out.least_is);
       until_is = until_is ∙ ap (λ (o : Option ℕ). instant_of (option_or r.until o)) out.greatest_is;
+      first_is = stamp_is ∙ sym out.least_is;
+      last_is = out.greatest_is;
       begun = begun;
       found_is = last_is ∙ ap (λ (at : ℕ). with_end (with_arrivals s.captures waits (with_until at c))) until_is
           ∙ end_told remaining r s first least greatest waits start c ready out

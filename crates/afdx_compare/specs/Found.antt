@@ -10,19 +10,22 @@ use Rattle.afdx_compare.specs.declared.sources.CompareFault.{CompareFault}
 use Rattle.afdx_compare.specs.declared.sources.CompareFault.TheVariants as fault
 use Rattle.afdx_compare.specs.Comparison.{Comparison, IsBegun, with_until, with_end}
 use Rattle.afdx_compare.specs.Sources.{sources_of}
-use Rattle.afdx_compare.specs.Arrivals.{with_arrivals, begin_of, end_of}
+use Rattle.afdx_compare.specs.Arrivals.{with_arrivals, least_of, greatest_of, begin_of, end_of}
 
 -- ---- what is found out
 
--- what is known of a table's links and ports after all of these captures were read, and from when to when they are
-pub record IsFound {R : Type 0} (remaining : R → Option (List ℕ)) (t : Content) (r : Recordings) (keeping : Bool) (readers : List R) (from until : ℕ) (found : Comparison) : Type 0 where
+-- what is known of a table's links and ports after all of these captures were read, from when to when they count, and their first and their last stamp
+pub record IsFound {R : Type 0} (remaining : R → Option (List ℕ)) (t : Content) (r : Recordings) (keeping : Bool) (readers : List R) (from until : ℕ) (first last : Option ℕ)
+    (found : Comparison) : Type 0 where
   pub arrivals : List Arrival
-  pub first : Comparison
+  pub start : Comparison
   pub are_merged : AreMerged remaining (sources_of t r).clocks readers arrivals
   pub from_is : from ≡ begin_of r arrivals
   pub until_is : until ≡ end_of r arrivals
-  pub begun : IsBegun t r from keeping first
-  pub found_is : found ≡ with_end (with_arrivals (sources_of t r).captures arrivals (with_until until first))
+  pub first_is : first ≡ least_of arrivals
+  pub last_is : last ≡ greatest_of arrivals
+  pub begun : IsBegun t r from keeping start
+  pub found_is : found ≡ with_end (with_arrivals (sources_of t r).captures arrivals (with_until until start))
 
 -- ---- faults
 

@@ -32,6 +32,8 @@ pub struct Findings<'t, A: Allocator> {
     pub(crate) recordings: Recordings,
     pub(crate) from: Stamp,
     pub(crate) until: Stamp,
+    pub(crate) first: Option<Stamp>,
+    pub(crate) last: Option<Stamp>,
 }
 
 impl<'t, A: Allocator + Copy> Findings<'t, A> {
@@ -47,6 +49,20 @@ impl<'t, A: Allocator + Copy> Findings<'t, A> {
         ensures { result ≡ self.now.until }
     {
         self.until
+    }
+
+    /// Returns the first stamp of all that was recorded, whether it counts or not; none if nothing was. O(1).
+    pub fn first(&self) -> Option<Stamp>
+        ensures { result ≡ self.now.first }
+    {
+        self.first
+    }
+
+    /// Returns the last stamp of all that was recorded, whether it counts or not; none if nothing was. O(1).
+    pub fn last(&self) -> Option<Stamp>
+        ensures { result ≡ self.now.last }
+    {
+        self.last
     }
 
     /// Returns whether nothing speaks against the switch. O(ports of links).
@@ -248,7 +264,7 @@ pub fn compare<'t, R: Read, A: Allocator + Copy>(
 ) -> Result<Findings<'t, A>, CompareFault>
     requires { length readers.old ≡ length (sources_of table.now recordings.now).clocks }
     ensures ok { IfOk result (λ f. (f.recordings ≡ recordings.now)
-        × IsFound R.remaining table.now recordings.now keeps readers.old f.from f.until f.comparison) }
+        × IsFound R.remaining table.now recordings.now keeps readers.old f.from f.until f.first f.last f.comparison) }
     ensures err { IfErr result (λ fault. IsCompareFault R.remaining (sources_of table.now recordings.now).captures readers.old fault) }
 {
     is_formed(table);
@@ -258,6 +274,7 @@ pub fn compare<'t, R: Read, A: Allocator + Copy>(
         Ok(merging) => merging,
         Err(fault) => return Err(sources.fault(fault)),
     };
+    let first = merging.least();
     let from = recordings.from.or(merging.least()).unwrap_or(Stamp::ZERO);
     let mut comparison = Comparison::new(alloc, table, recordings, from, keeps)?;
     let held = read_all(
@@ -268,6 +285,7 @@ pub fn compare<'t, R: Read, A: Allocator + Copy>(
         recordings,
         readers,
     )?;
+    let last = held.greatest;
     let until = recordings.until.or(held.greatest).unwrap_or(Stamp::ZERO);
     comparison.set_until(until);
     take_all(&mut comparison, &sources, held.records)?;
@@ -276,5 +294,7 @@ pub fn compare<'t, R: Read, A: Allocator + Copy>(
         recordings: *recordings,
         from,
         until,
+        first,
+        last,
     })
 }

@@ -100,8 +100,9 @@ returns-clause-ok g c =
     let held = c.in_ok-held.held in
     let last = c.in_ok-take_all.ensures ∙ ap (λ (x : Comparison). with_end (with_arrivals s.captures held.records.items x)) c.set_until.ensures in (
       refl,
-      is_found rem t r s c.args.keeps first c.unwrap_or-from.result c.unwrap_or-until.result (least_of c.in-Ok.merging.lanes.items) held.greatest held.records.items c.in_ok-comparison.comparison
-          c.read_all.new.comparison c.take_all.new.comparison c.is_formed.ensures c.in_ok-sources.ensures c.in_ok-comparison.ensures (c.in_ok-held.ensures.ok first merged)
+      is_found rem t r s c.args.keeps first c.unwrap_or-from.result c.unwrap_or-until.result c.least-first.result (least_of c.in-Ok.merging.lanes.items) held.greatest held.records.items
+          c.in_ok-comparison.comparison c.read_all.new.comparison c.take_all.new.comparison c.is_formed.ensures c.in_ok-sources.ensures c.in_ok-comparison.ensures
+          (c.in_ok-held.ensures.ok first merged) c.least-first.ensures
           (c.unwrap_or-from.ensures ∙ is_instant c.or.result ∙ ap instant_of (c.or.ensures ∙ ap (λ (o : Option ℕ). option_or r.from o) c.least.ensures))
           (c.unwrap_or-until.ensures ∙ is_instant c.or-2.result ∙ ap instant_of c.or-2.ensures) last,
     )

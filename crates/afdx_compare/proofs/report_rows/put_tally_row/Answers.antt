@@ -2,7 +2,7 @@ use Rattle.std.proofs.Common.{◌≡◌, ◌++◌, ◌∙◌, ℕ, List, [], ◌
 use Rattle.std.specs.Prelude.{OnOk}
 use Rattle.afdx_csv.specs.Csv.{optional, row}
 use Rattle.afdx_csv.specs.Slack.{slack_text, share_text}
-use Rattle.afdx_compare.specs.ReportRows.{greatest_of, report_columns}
+use Rattle.afdx_compare.specs.ReportRows.{report_columns}
 use Rattle.afdx_compare.proofs.report_rows.put_tally_row.Goals as goal
 
 pub returns : goal.returns
