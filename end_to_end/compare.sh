@@ -120,6 +120,37 @@ fails() {
     [ $? -eq "$status" ] && [ "$(cat said.txt)" = "$line" ] && [ ! -s lines.txt ]
 }
 
+# over FROM UNTIL: a span in which nothing is judged, as the model says too.
+over() {
+    local line="afdx: argument A4 Span, --from $1, --until $2"
+    fails 2 "$line" "$table" "$network/in" out --stamps free --from "$1" --until "$2" &&
+        ! python3 "$top/end_to_end/compare_answers.py" "$table" "$network/in" out --stamps free --from "$1" --until "$2" 2>model.txt &&
+        [ "$(cat model.txt)" = "$line" ]
+}
+
+# over_before_all / over_after_all: up to the first of all stamps, or from the last one on, something is judged; a nanosecond away nothing is.
+over_before_all() {
+    local first
+    first=$(sed -n 's/^span \([0-9]*\) .*/\1/p' whole.txt)
+    over 1768471200 1768471201 && over 0 $((first - 1)) && conforms "$table" "$network/in" out --stamps free --from 0 --until "$first"
+}
+
+over_after_all() {
+    local last
+    last=$(sed -n 's/^span .* to //p' whole.txt)
+    over 2000000000000000000 2000000000000000001 && over $((last + 1)) 2000000000000000000 &&
+        conforms "$table" "$network/in" out --stamps free --from "$last" --until 2000000000000000000
+}
+
+# no_records: of recordings without any the span is what is given.
+no_records() {
+    mkdir nothing
+    for port in 1 2 3 4; do
+        head -c 24 "out/port-$port.pcap" >"nothing/port-$port.pcap"
+    done
+    conforms "$table" nothing nothing --stamps free --from 5 --until 6 && [ "$(head -n 1 lines.txt)" = "span 5 to 6" ]
+}
+
 # ends_before_all / begins_after_all: the first or the last of all stamps stands for the instant that is not given.
 ends_before_all() {
     fails 2 "afdx: argument A4 Span, --from $(sed -n 's/^span \([0-9]*\) .*/\1/p' whole.txt), --until 1768471200" "$table" "$network/in" out --stamps free --until 1768471200
@@ -158,6 +189,9 @@ check "a port that the table lacks, before an output is looked for" fails 2 "afd
 check "an offset of a port that is left out" fails 2 "afdx: argument A3 LeftOut, --offset 1" "$table" "$network/in" out --ports 3 --offset 1=5
 check "an end in seconds, before all stamps" ends_before_all
 check "a beginning after all stamps" begins_after_all
+check "a span in seconds, and one that ends right before all stamps" over_before_all
+check "a span after all stamps, and one that begins right after them" over_after_all
+check "a span of recordings without a record" no_records
 check "a least latency above the table's" fails 2 "afdx: argument A1 Latency, --least-latency 17, limit 16" "$network/faster.toml" "$network/in" faster \
     --stamps free --least-latency 17
 check "no output" fails 5 "afdx: device get nowhere/port-1.pcap" "$table" "$network/in" nowhere

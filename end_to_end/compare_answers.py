@@ -1,8 +1,8 @@
 #!/usr/bin/env python3
 """What `afdx compare` answers, by the plain model in compare_model.py: slowly. It can stand in the program's place.
 
-Of a refused load or capture it prints a line on standard error, with status 3 or 4; the table is taken to be in order, and the options
-to fit it.
+Of a refused load or capture it prints a line on standard error, with status 3 or 4, and with status 2 of a span in which nothing is judged;
+the table is taken to be in order, and the options to fit it.
 """
 import argparse
 import dataclasses
@@ -109,6 +109,9 @@ class Comparison:
         stamps = [record.stamp for records in [*self.came.values(), *self.left.values()] for record in records]
         self.start = options.start if options.start is not None else min(stamps, default=0)
         self.until = options.until if options.until is not None else max(stamps, default=0)
+        apart = stamps and (max(stamps) < self.start or self.until < min(stamps))
+        if self.until < self.start or apart:
+            raise model.Refused(f"afdx: argument A4 Span, --from {self.start}, --until {self.until}", 2)
         self.watch = compare_model.Watch(least, scatter, options.tolerance, GAPS[options.stamps],
                                          None if options.rest else self.start, self.until)
 

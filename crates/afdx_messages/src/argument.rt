@@ -17,7 +17,7 @@ pub enum ArgumentFault {
     Offset(u8),
     /// A3: `--offset` names this port, which `--ports` leaves out.
     LeftOut(u8),
-    /// A4: the first, of `--from`, is after the second, of `--until`; both in nanoseconds.
+    /// A4: nothing is judged from the first, of `--from`, to the second, of `--until`; both in nanoseconds.
     Span(u64, u64),
 }
 

@@ -16,8 +16,8 @@ Remedy: `afdx --help` has the commands, `afdx network --help` those of networks;
     (
         "A1",
         "A1 Latency: (`compare`) the option is above `latency_us` of the table, the
-limit: the most that the switch takes
-Remedy: mend one of the two
+limit: the most that the switch takes; 0 if the table has none
+Remedy: mend one of the two; `latency_us` needs `version = 3`
 ",
     ),
     (
@@ -36,10 +36,12 @@ Remedy: name the port in `--ports` too, or leave out its offset
     ),
     (
         "A4",
-        "A4 Span: (`compare`) `--from` is after `--until`, so that nothing would be
-judged; if one of them is not given, the first or the last of all stamps stands
-in its place
-Remedy: mend one of the two; both are stamps in ns, of 19 digits today
+        "A4 Span: (`compare`) `--from` is after `--until` or after all stamps, or
+`--until` is before all, so that nothing would be judged; if one of them is not
+given, the first or the last of all stamps stands in its place, 0 if no frame
+was recorded
+Remedy: mend one of the two; both are stamps in ns, of 19 digits today; if no
+frame was recorded, look for the right folders
 ",
     ),
     (

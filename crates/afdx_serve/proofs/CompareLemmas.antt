@@ -1,5 +1,5 @@
 -- What is found out of recordings, and why nothing is.
-use Rattle.std.proofs.Common.{◌≡◌, ℕ, zero, suc, ◌+◌, ◌<◌, ◌≤◌, Bool, true, false, List, [], ◌∷◌, ◌++◌, map, length, take, slice_get, Option, Some, None, get_or, refl, sym, ap, subst}
+use Rattle.std.proofs.Common.{◌≡◌, ℕ, zero, suc, ◌+◌, ◌<◌, Bool, true, false, List, [], ◌∷◌, ◌++◌, map, length, take, slice_get, Option, Some, None, get_or, refl, sym, ap, subst}
 use Rattle.std.proofs.Common.{◌∙◌, inl, inr, String, Global, string_bytes, arith, append_assoc, append-nil, length-append}
 use Rattle.std.specs.Prelude.{◌⊎◌, Result, Ok, Err, MatchResult, IfSome, is_some, option_map, if◌then◌else◌}
 use Rattle.std.proofs.lemmas.List.{length-map, take_more}
@@ -28,8 +28,8 @@ use Rattle.afdx_messages.specs.declared.failure.Failure.{Failure}
 use Rattle.afdx_messages.specs.declared.failure.Failure.TheVariants as failure
 use Rattle.afdx_serve.specs.Runs.{capture_name, HasTable, GetsNamed, FailsToGet, FailsToRead, FailsToPut}
 use Rattle.afdx_serve.specs.Fits.{first_argument_fault}
-use Rattle.afdx_serve.specs.Compares.{scatter_of, HasFittingTable, HasVaryingTable, HasFaultyTable, HasUnfitTable, output_names, recording_names, IsFoundUnder, IsFoundIn, rows_names, rows_texts, PutsRows}
-use Rattle.afdx_serve.specs.Compares.{FailsToGetFitting, FailsToGetVarying, IsOver, IsFaultyUnder, FailsUnder, FailsToFind, StopsRows, EndsRows}
+use Rattle.afdx_serve.specs.Compares.{scatter_of, HasFittingTable, HasVaryingTable, HasFaultyTable, HasUnfitTable, output_names, recording_names, IsFoundUnder, is_over, IsFoundIn}
+use Rattle.afdx_serve.specs.Compares.{rows_names, rows_texts, PutsRows, FailsToGetFitting, FailsToGetVarying, IsOver, IsFaultyUnder, FailsUnder, FailsToFind, StopsRows, EndsRows}
 use Rattle.afdx_serve.specs.Inner.Leading.{AreOpened}
 use Rattle.afdx_serve.specs.Inner.NotGot.{FailsToGetNamed}
 use Rattle.afdx_csv.specs.declared.form.Form.{Form}
@@ -126,18 +126,21 @@ all_shown remaining (Some f) names readers texts opened read = shown remaining f
 
 -- what is found out of captures that were opened
 pub found_under : {R : Type 0} (remaining : R → Option (List ℕ)) (a : Option Files) (names : List (List ℕ)) (readers : List R) (t : Content) (r : Recordings) (keeping : Bool) (from until : ℕ)
-    (found : Comparison) → AreOpened remaining a names readers → IsFound remaining t r keeping readers from until found → IsFoundUnder names t r keeping a from until found
-found_under remaining a names readers t r keeping from until found opened is =
+    (first last : Option ℕ) (found : Comparison) → AreOpened remaining a names readers → IsFound remaining t r keeping readers from until first last found
+    → IsFoundUnder names t r keeping a from until first last found
+found_under remaining a names readers t r keeping from until first last found opened is =
     let merged = is.are_merged in
     record {
       texts = merged.texts;
       shown = all_shown remaining a names readers merged.texts opened merged.read;
       is_found = record {
         arrivals = is.arrivals;
-        first = is.first;
+        start = is.start;
         are_merged = record { texts = merged.texts; captures = merged.captures; read = read_whole merged.texts; are = merged.are; merge = merged.merge };
         from_is = is.from_is;
         until_is = is.until_is;
+        first_is = is.first_is;
+        last_is = is.last_is;
         begun = is.begun;
         found_is = is.found_is;
       };
@@ -161,18 +164,21 @@ faulty_under remaining files names readers t r leaves port why opened is =
       };
     }
 
--- what was found out is answered if it does not end before it begins, and else why not
+-- what was found out is answered if something is judged, and else why not
 pub answered_in_span : (first : Findings Global) (names : List (List ℕ)) (t : Content) (r : Recordings) (keeping : Bool) (files : Option Files) (before after : DeviceLog)
-    (result : Result (Findings Global) Failure) → first.recordings ≡ r → IsFoundUnder names t r keeping files first.from first.until first.comparison → after ≡ before
-    → MatchResult result (λ f. (f ≡ first) × (f.from ≤ f.until)) (λ f. (f ≡ failure.Argument (Span first.from first.until)) × (first.until < first.from))
-    → MatchResult result (λ f. ((f.recordings ≡ r) × IsFoundUnder names t r keeping files f.from f.until f.comparison × (f.from ≤ f.until)) × (after ≡ before))
+    (result : Result (Findings Global) Failure) → first.recordings ≡ r → IsFoundUnder names t r keeping files first.from first.until first.first first.last first.comparison
+    → after ≡ before → MatchResult result (λ f. (f ≡ first) × (is_over f.from f.until f.first f.last ≡ false))
+    (λ f. (f ≡ failure.Argument (Span first.from first.until)) × (is_over first.from first.until first.first first.last ≡ true))
+    → MatchResult result
+    (λ f. ((f.recordings ≡ r) × IsFoundUnder names t r keeping files f.from f.until f.first f.last f.comparison × (is_over f.from f.until f.first f.last ≡ false)) × (after ≡ before))
     (λ f. FailsUnder f names t r files before after)
 answered_in_span first names t r keeping files before after (Ok f) of_these found same h =
-    let le : first.from ≤ first.until = subst (λ (x : Findings Global). x.from ≤ x.until) h.0 h.1 in
-    subst (λ (x : Findings Global). ((x.recordings ≡ r) × IsFoundUnder names t r keeping files x.from x.until x.comparison × (x.from ≤ x.until)) × (after ≡ before)) (sym h.0)
-    ((of_these, found, le), same)
+    let judged : is_over first.from first.until first.first first.last ≡ false = subst (λ (x : Findings Global). is_over x.from x.until x.first x.last ≡ false) h.0 h.1 in
+    subst (λ (x : Findings Global). ((x.recordings ≡ r) × IsFoundUnder names t r keeping files x.from x.until x.first x.last x.comparison × (is_over x.from x.until x.first x.last ≡ false))
+    × (after ≡ before)) (sym h.0)
+    ((of_these, found, judged), same)
 answered_in_span first names t r keeping files before after (Err f) of_these found same h =
-    subst (λ (x : Failure). FailsUnder x names t r files before after) (sym h.0) ((first.from, first.until, keeping, first.comparison, found, h.1, refl), same)
+    subst (λ (x : Failure). FailsUnder x names t r files before after) (sym h.0) ((first.from, first.until, first.first, first.last, keeping, first.comparison, found, h.1, refl), same)
 
 -- ---- why nothing is found out
 
@@ -210,8 +216,8 @@ faulty_before a b names t r leaves port why keeps is = record { texts = is.texts
 
 over_before : (fault : ArgumentFault) (a b : Option Files) (names : List (List ℕ)) (t : Content) (r : Recordings) → KeepsFiles a b → IsOver fault names t r b → IsOver fault names t r a
 over_before fault a b names t r keeps is =
-    let under = is.4 in
-    (is.0, is.1, is.2, is.3, record { texts = under.texts; shown = ShowsAll-before a b _ _ keeps under.shown; is_found = under.is_found }, is.5, is.6)
+    let under = is.6 in
+    (is.0, is.1, is.2, is.3, is.4, is.5, record { texts = under.texts; shown = ShowsAll-before a b _ _ keeps under.shown; is_found = under.is_found }, is.7, is.8)
 
 -- nothing was put before
 under_before : (f : Failure) (names : List (List ℕ)) (t : Content) (r : Recordings) (a b : Option Files) (first before after : DeviceLog) → KeepsFiles a b → before ≡ first
@@ -314,10 +320,10 @@ not_found_under form f c r t a b d first before after w v has keeps same more no
 -- ---- what is found out is put, or not
 
 -- over a table that was got
-pub found_in : (c : Compare) (r : Recordings) (t : Content) (a b : Option Files) (from until : ℕ) (found : Comparison) → HasVaryingTable a c.table.now r t → KeepsFiles a b
-    → IsFoundUnder (recording_names c r t) t r (is_some c.rows) b from until found → from ≤ until → IsFoundIn c r a from until found
-found_in c r t a b from until found has keeps is le =
-    (t, has, record { texts = is.texts; shown = ShowsAll-before a b _ _ keeps is.shown; is_found = is.is_found }, le)
+pub found_in : (c : Compare) (r : Recordings) (t : Content) (a b : Option Files) (from until : ℕ) (first last : Option ℕ) (found : Comparison) → HasVaryingTable a c.table.now r t → KeepsFiles a b
+    → IsFoundUnder (recording_names c r t) t r (is_some c.rows) b from until first last found → is_over from until first last ≡ false → IsFoundIn c r a from until found
+found_in c r t a b from until first last found has keeps is judged =
+    (t, first, last, has, record { texts = is.texts; shown = ShowsAll-before a b _ _ keeps is.shown; is_found = is.is_found }, judged)
 
 module _ (c : Compare) (r : Recordings) (a b d : Option Files) (first before after : DeviceLog) (from until : ℕ) (found : Comparison) (is : IsFoundIn c r a from until found)
     (keeps : KeepsFiles a b) (same : before ≡ first) where

@@ -1,6 +1,7 @@
 -- What is found out from recordings in folders, and what is put of it (profile).
-use Rattle.std.specs.Prelude.{◌≡◌, ◌⊎◌, ℕ, ◌-◌, ◌<◌, ◌≤◌, Bool, true, false, codes, List, [], ◌∷◌, ◌++◌, map, flat_map, length, Option, Some, is_some, option_to_list, string_bytes}
+use Rattle.std.specs.Prelude.{◌≡◌, ◌⊎◌, ℕ, ◌-◌, nat_lt, ◌||◌, Bool, true, false, codes, List, [], ◌∷◌, ◌++◌, map, flat_map, length, Option, Some, is_some, option_to_list, string_bytes}
 use Rattle.std.specs.Prelude.{if◌then◌else◌}
+use Rattle.std.specs.Option.{option_map_or}
 use Rattle.afdx_pcap.specs.declared.fault.PcapFault.{PcapFault}
 use Rattle.afdx_table.specs.declared.rows.PortRow.{PortRow}
 use Rattle.afdx_table.specs.Content.{Content}
@@ -59,15 +60,20 @@ recording_names c r t = names_of c r.outputs t.ports
 -- ---- what is found out
 
 -- what is found out from the captures under these names, if readers give exactly their texts
-pub record IsFoundUnder (names : List (List ℕ)) (t : Content) (r : Recordings) (keeping : Bool) (files : Option Files) (from until : ℕ) (found : Comparison) : Type 0 where
+pub record IsFoundUnder (names : List (List ℕ)) (t : Content) (r : Recordings) (keeping : Bool) (files : Option Files) (from until : ℕ) (first last : Option ℕ) (found : Comparison) : Type 0 where
   pub texts : List (List ℕ)
   pub shown : ShowsAll files names texts
-  pub is_found : IsFound (λ (text : List ℕ). Some text) t r keeping texts from until found
+  pub is_found : IsFound (λ (text : List ℕ). Some text) t r keeping texts from until first last found
 
--- what is found out from the files: differences are kept if a folder is named for them; what was recorded ends no sooner than it begins
+-- A4: in this span nothing is judged: it ends before it begins, or before the first stamp of all, or begins after the last one
+abbrev pub is_over : ℕ → ℕ → Option ℕ → Option ℕ → Bool
+is_over from until first last = (nat_lt until from || option_map_or (λ at. nat_lt until at) first false) || option_map_or (λ at. nat_lt at from) last false
+
+-- what is found out from the files: differences are kept if a folder is named for them, and its span is not over
 abbrev pub IsFoundIn : Compare → Recordings → Option Files → ℕ → ℕ → Comparison → Type 0
 IsFoundIn c r files from until found =
-    (t : Content) × HasVaryingTable files c.table.now r t × IsFoundUnder (recording_names c r t) t r (is_some c.rows) files from until found × (from ≤ until)
+    (t : Content) × (first last : Option ℕ) × HasVaryingTable files c.table.now r t × IsFoundUnder (recording_names c r t) t r (is_some c.rows) files from until first last found
+    × (is_over from until first last ≡ false)
 
 -- ---- what is put
 
@@ -106,13 +112,13 @@ pub record IsFaultyUnder (names : List (List ℕ)) (t : Content) (r : Recordings
   pub shown : ShowsAll files names texts
   pub first : IsFirstAt (λ (text : List ℕ). Some text) (sources_of t r).captures texts leaves port why
 
--- what is found out from the files under these names is of no time: it begins after it ends, at an instant that is given or at the first or the last
--- stamp of all
+-- what is found out from the files under these names is of a span that is over, whose two instants are named
 abbrev pub IsOver : ArgumentFault → List (List ℕ) → Content → Recordings → Option Files → Type 0
 IsOver fault names t r files =
-    (from until : ℕ) × (keeping : Bool) × (found : Comparison) × IsFoundUnder names t r keeping files from until found × (until < from) × (fault ≡ Span from until)
+    (from until : ℕ) × (first last : Option ℕ) × (keeping : Bool) × (found : Comparison) × IsFoundUnder names t r keeping files from until first last found
+    × (is_over from until first last ≡ true) × (fault ≡ Span from until)
 
--- the captures under these names were not got, or one is faulty, or what is found out from them is of no time
+-- the captures under these names were not got, or one is faulty, or what is found out from them is of a span that is over
 abbrev pub FailsUnder : Failure → List (List ℕ) → Content → Recordings → Option Files → DeviceLog → DeviceLog → Type 0
 FailsUnder (failure.Get name) names t r files before after = GetsNamed (string_bytes name) files names × (after ≡ one_more (string_bytes name) before)
 FailsUnder (failure.PortCapture port why) names t r files before after = IsFaultyUnder names t r files false port why × (after ≡ before)

@@ -1,6 +1,6 @@
 //! The command `compare`.
 
-ghost use Rattle.std.specs.Prelude.{◌≡◌, ◌<◌, ◌≤◌, ◌∷◌, ◌++◌, [], List, length, map, string_bytes, Option, is_some, IfOk, OnOk, MatchResult};
+ghost use Rattle.std.specs.Prelude.{◌≡◌, ◌≤◌, ◌∷◌, ◌++◌, [], List, true, false, length, map, string_bytes, Option, is_some, IfOk, OnOk, MatchResult};
 ghost use Rattle.afdx_table.specs.Content.{Content};
 ghost use Rattle.afdx_recordings.specs.declared.recordings.Recordings.{Recordings as Known};
 ghost use Rattle.afdx_compare.specs.Sources.{sources_of};
@@ -10,7 +10,7 @@ ghost use Rattle.afdx_messages.specs.declared.failure.Failure.TheVariants.{Argum
 ghost use Rattle.afdx_folder.specs.Files.{Files, KeepsFiles, PutsFiles, settled_after};
 ghost use Rattle.afdx_serve.specs.Runs.{FailsToPut};
 ghost use Rattle.afdx_serve.specs.Compares.{HasFittingTable, FailsToGetFitting, HasVaryingTable, FailsToGetVarying, scatter_of};
-ghost use Rattle.afdx_serve.specs.Compares.{output_names, names_of, recording_names, IsFoundUnder, rows_name, rows_names, rows_texts, FailsUnder};
+ghost use Rattle.afdx_serve.specs.Compares.{output_names, names_of, recording_names, IsFoundUnder, is_over, rows_name, rows_names, rows_texts, FailsUnder};
 ghost use Rattle.afdx_serve.specs.Inner.Leading.{AreOpened};
 ghost use Rattle.afdx_serve.specs.Serving.{world, Compares, FailsToCompareAll};
 
@@ -132,16 +132,26 @@ fn compare_failure<F: Folder>(
     }
 }
 
-/// Returns what was found out, if it does not end before it begins.
-fn in_span(findings: Findings<'_, Global>) -> Result<Findings<'_, Global>, Failure>
-    ensures { MatchResult result
-        (λ f. (f ≡ findings.entry) × (f.from ≤ f.until))
-        (λ f. (f ≡ Argument (Span findings.entry.from findings.entry.until)) × (findings.entry.until < findings.entry.from)) }
+/// Returns whether nothing is judged: the span ends before it begins, or before the first stamp of all, or begins after the last one.
+fn is_over(findings: &Findings<'_, Global>) -> bool
+    ensures { result ≡ is_over findings.now.from findings.now.until findings.now.first findings.now.last }
 {
     let from = findings.from();
     let until = findings.until();
-    if until < from {
-        let fault = ArgumentFault::Span(from.ns(), until.ns());
+    until < from
+        || findings.first().is_some_and(|first| until < first)
+        || findings.last().is_some_and(|last| last < from)
+}
+
+/// Returns what was found out, if something is judged.
+fn in_span(findings: Findings<'_, Global>) -> Result<Findings<'_, Global>, Failure>
+    ensures { MatchResult result
+        (λ f. (f ≡ findings.entry) × (is_over f.from f.until f.first f.last ≡ false))
+        (λ f. (f ≡ Argument (Span findings.entry.from findings.entry.until))
+        × (is_over findings.entry.from findings.entry.until findings.entry.first findings.entry.last ≡ true)) }
+{
+    if is_over(&findings) {
+        let fault = ArgumentFault::Span(findings.from().ns(), findings.until().ns());
         return Err(Failure::Argument(fault));
     }
     Ok(findings)
@@ -157,7 +167,7 @@ fn find<'t, F: Folder>(
 ) -> Result<Findings<'t, Global>, Failure>
     ensures found { MatchResult result
         (λ f. ((f.recordings ≡ recordings.now) × IsFoundUnder (recording_names compare.now recordings.now table.now) table.now recordings.now (is_some compare.now.rows)
-        (F.files folder.old) f.from f.until f.comparison × (f.from ≤ f.until)) × (F.failed folder.new ≡ F.failed folder.old))
+        (F.files folder.old) f.from f.until f.first f.last f.comparison × (is_over f.from f.until f.first f.last ≡ false)) × (F.failed folder.new ≡ F.failed folder.old))
         (λ f. FailsUnder f (recording_names compare.now recordings.now table.now) table.now recordings.now
         (F.files folder.old) (F.failed folder.old) (F.failed folder.new)) }
     ensures same { KeepsFiles (F.files folder.old) (F.files folder.new) }
@@ -238,8 +248,8 @@ fn put_rows<F: Folder>(
 ///
 /// # Errors
 ///
-/// What is met first: `Get` of the table, `Table`, `Argument`, `Load`, `Get` of a capture, `PortCapture`, `OutputCapture`, `Argument` of a span that
-/// ends before it begins, `Put`, `Write`;
+/// What is met first: `Get` of the table, `Table`, `Argument`, `Load`, `Get` of a capture, `PortCapture`, `OutputCapture`, `Argument` of a span in which
+/// nothing is judged, `Put`, `Write`;
 /// `Found` if something speaks against the switch, and all else was done; `Memory` if memory ran out.
 ///
 /// O(bytes of the captures), with what `compare` of `afdx_compare` does for each record.

@@ -32,7 +32,7 @@ pub returns-in_err-put_rows : goal.returns-in_err-put_rows
 returns-in_err-put_rows g c =
     let got = c.in_ok-table.ensures.got in
     let is = c.in_ok-findings.ensures.found in
-    let found = found_in c.args.compare.now c.args.recordings.now _ _ _ _ _ _ got.0 c.in_ok-table.ensures.same is.0.1 is.0.2 in
+    let found = found_in c.args.compare.now c.args.recordings.now _ _ _ _ _ _ _ _ got.0 c.in_ok-table.ensures.same is.0.1 is.0.2 in
     let fails = subst
     (λ (r : Recordings). FailsToPut c.in_err-put_rows.field-0.0 (rows_names c.args.compare.now) (rows_texts c.args.compare.now r c.in_ok-findings.findings.comparison)
     (g.F.Folder.files c.find.new.folder) (g.F.Folder.files c.put_rows.new.folder) (g.F.Folder.failed c.find.new.folder) (g.F.Folder.failed c.put_rows.new.folder))
@@ -45,7 +45,7 @@ pub returns-in_err-write_bytes : goal.returns-in_err-write_bytes
 returns-in_err-write_bytes g c =
     let got = c.in_ok-table.ensures.got in
     let is = c.in_ok-findings.ensures.found in
-    let found = found_in c.args.compare.now c.args.recordings.now _ _ _ _ _ _ got.0 c.in_ok-table.ensures.same is.0.1 is.0.2 in
+    let found = found_in c.args.compare.now c.args.recordings.now _ _ _ _ _ _ _ _ got.0 c.in_ok-table.ensures.same is.0.1 is.0.2 in
     let put = subst
     (λ (r : Recordings). PutsFiles (g.F.Folder.files c.find.new.folder) (g.F.Folder.files c.put_rows.new.folder) (rows_names c.args.compare.now)
     (rows_texts c.args.compare.now r c.in_ok-findings.findings.comparison)
@@ -74,7 +74,7 @@ pub returns-then-conforms : goal.returns-then-conforms
 returns-then-conforms g c =
     let got = c.in_ok-table.ensures.got in
     let is = c.in_ok-findings.ensures.found in
-    let found = found_in c.args.compare.now c.args.recordings.now _ _ _ _ _ _ got.0 c.in_ok-table.ensures.same is.0.1 is.0.2 in
+    let found = found_in c.args.compare.now c.args.recordings.now _ _ _ _ _ _ _ _ got.0 c.in_ok-table.ensures.same is.0.1 is.0.2 in
     let put = subst
     (λ (r : Recordings). PutsFiles (g.F.Folder.files c.find.new.folder) (g.F.Folder.files c.put_rows.new.folder) (rows_names c.args.compare.now)
     (rows_texts c.args.compare.now r c.in_ok-findings.findings.comparison)
@@ -99,7 +99,7 @@ pub returns : goal.returns
 returns g c =
     let got = c.in_ok-table.ensures.got in
     let is = c.in_ok-findings.ensures.found in
-    let found = found_in c.args.compare.now c.args.recordings.now _ _ _ _ _ _ got.0 c.in_ok-table.ensures.same is.0.1 is.0.2 in
+    let found = found_in c.args.compare.now c.args.recordings.now _ _ _ _ _ _ _ _ got.0 c.in_ok-table.ensures.same is.0.1 is.0.2 in
     let put = subst
     (λ (r : Recordings). PutsFiles (g.F.Folder.files c.find.new.folder) (g.F.Folder.files c.put_rows.new.folder) (rows_names c.args.compare.now)
     (rows_texts c.args.compare.now r c.in_ok-findings.findings.comparison)

@@ -21,7 +21,7 @@ returns-in-Ok-clause-found g c =
     let named = rw c.ports.ensures.ports at c.in_ok-names.ensures in
     let opened = rw (c.deref.ensures.value, named) at c.in_ok-opened.ensures.opened.0 in
     let is = rw (c.deref_mut.ensures.value, c.is_some-keeps.ensures) at c.in-Ok.ensures.ok in
-    let found = found_under g.F.Opened.Read.remaining _ _ _ c.args.table.now c.args.recordings.now _ _ _ _ opened is.1 in
+    let found = found_under g.F.Opened.Read.remaining _ _ _ c.args.table.now c.args.recordings.now _ _ _ _ _ _ opened is.1 in
     answered_in_span _ _ _ _ _ _ _ _ _ is.0 found c.in_ok-opened.ensures.opened.1 c.in_span.ensures
 
 pub compare_failure-requires : goal.compare_failure-requires
