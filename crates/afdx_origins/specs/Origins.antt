@@ -100,7 +100,7 @@ ComesLate net e end = (w : Wire) × Contains net.layout.wires w × (is_end w.fro
 
 -- why a copy that a port sent is not noted
 abbrev pub IsNotNoted : Origins → End → Sent → OriginsFault → Type 0
-IsNotNoted o e x fault.Memory = Unit {0}
 IsNotNoted o e x fault.Unknown = HasNoRow o.net x.item.link e ⊎ IsUntold o.net o.sent e.switch x.item.link x
 IsNotNoted o e x fault.Late = ComesLate o.net e x.end
 IsNotNoted o e x fault.Count = length (of_link x.item.link (sent_from o.sent e)) ≡ 18446744073709551615
+IsNotNoted o e x fault.Memory = Unit {0}

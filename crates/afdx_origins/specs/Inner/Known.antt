@@ -114,10 +114,10 @@ pub record IsCarried (net : Network) (sent : List Departure) (e : End) (link end
 
 -- why it is not brought over them
 abbrev pub IsNotCarried : Network → End → ℕ → OriginsFault → Type 0
-IsNotCarried net e end fault.Memory = Unit {0}
 IsNotCarried net e end fault.Unknown = ⊥
 IsNotCarried net e end fault.Late = ComesLate net e end
 IsNotCarried net e end fault.Count = ⊥
+IsNotCarried net e end fault.Memory = Unit {0}
 
 -- ---- at first, and one delay more
 
