@@ -78,9 +78,10 @@ killed_as() {
     says_meanwhile "$1" && [ "$status" -eq 143 ]
 }
 
-# says_meanwhile LINE: the last line was this one, and is `not proved` again.
+# says_meanwhile LINE: the last line was this one, after that of the kit if there is one, and is `not proved` again.
 says_meanwhile() {
-    cat during.txt && [ "$(tail -n 1 during.txt)" = "$1\";" ] && cmp built/crates/afdx/src/version.rt "$top/crates/afdx/src/version.rt" &&
+    cat during.txt && [ "$(tail -n 1 during.txt)" = "$1\";" ] &&
+        { ! command -v rt >/dev/null || [ "$(tail -n 2 during.txt | head -n 1)" = "$(rt version)" ]; } && cmp built/crates/afdx/src/version.rt "$top/crates/afdx/src/version.rt" &&
         [ "$(tail -n 1 built/crates/afdx/src/version.rt)" = 'not proved";' ]
 }
 

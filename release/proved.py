@@ -4,9 +4,10 @@
     proved.py COMMAND..
 
 The last line of crates/afdx/src/version.rt, which `afdx --version` prints, is `not proved`. While the command runs it is `proved`
-and git's name of the commit, which ends in `-dirty` if files differ from it; `proved of no commit` where git has none. Afterwards
-it is `not proved` again, however the command has ended: ./test and ./demo --proved build the program so, and one that is built
-otherwise is not said to be proved. The status is the command's.
+and git's name of the commit, which ends in `-dirty` if files differ from it; `proved of no commit` where git has none. The line
+before it is then what `rt version` prints of the kit that proves. Afterwards both are as before, however the command has ended:
+./test and ./demo --proved build the program so, and one that is built otherwise is not said to be proved. The status is the
+command's.
 """
 
 import argparse
@@ -30,13 +31,26 @@ def proved() -> str:
     return f"proved {said.strip()}" if said else "proved of no commit"
 
 
-def say(line: str) -> None:
-    """Has the program say this line at last."""
+def kit() -> str:
+    """Says which kit is on the path, if there is one."""
+    try:
+        return subprocess.run(["rt", "version"], capture_output=True, text=True).stdout.strip()
+    except OSError:
+        return ""
+
+
+def parts() -> tuple[str, str]:
+    """Reads what comes before the program's last two lines, and the first of them, which names the kit."""
     text = FILE.read_text(encoding="utf-8")
-    before, feed, last = text.removesuffix(END).rpartition("\n")
+    before, named, last = text.removesuffix(END).rsplit("\n", 2)
     if not text.endswith(END) or not last.startswith((NOT_PROVED, "proved ")):
         sys.exit(f"{FILE} does not end as it should")
-    FILE.write_text(before + feed + line + END, encoding="utf-8")
+    return before, named
+
+
+def say(before: str, *lines: str) -> None:
+    """Has the program say these lines at last."""
+    FILE.write_text("\n".join((before, *lines)) + END, encoding="utf-8")
 
 
 def run(words: list[str]) -> int:
@@ -54,15 +68,16 @@ def main() -> None:
     words = parser.parse_args().command
     if not words:
         parser.error("no command")
-    say(NOT_PROVED)  # a run that was killed may have left the other
+    before, named = parts()
+    say(before, named, NOT_PROVED)  # a run that was killed may have left the other
     line = proved()
     try:
-        say(line)
+        say(before, kit() or named, line)
         status = run(words)
     except OSError as error:
         sys.exit(f"{words[0]}: {error.strerror}")
     finally:
-        say(NOT_PROVED)
+        say(before, named, NOT_PROVED)
     sys.exit(status)
 
 
