@@ -187,7 +187,7 @@ def test_what_the_program_says_of_its_proofs(tmp_path: Path, said: str, proofs: 
     file.write_text(f"#!/bin/sh\ncat <<'END'\n{said}END\n")
     file.chmod(0o755)
     asked = program.Program("afdx-view", str(file))
-    origin = provenance.provenance_of("afdx-view", asked, [], [])
+    origin = provenance.provenance_of("afdx-view", asked, [], {})
     assert (origin.program, origin.proofs) == ("afdx 1.0 · kit 4", proofs)
     assert origin.sums == [("afdx", hashlib.sha256(file.read_bytes()).hexdigest())]
 

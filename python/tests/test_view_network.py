@@ -260,6 +260,16 @@ def test_no_frames(tmp_path: Path, monkeypatch: pytest.MonkeyPatch) -> None:
     assert "<b>No frame came in.</b>" in text and "1970" not in text
 
 
+def test_the_names_of_a_network_s_files() -> None:
+    """Checks that names are whole below a folder that begins at the root, and that nothing above it is in them."""
+    tables = {"A": Path("/home/somebody/A/table.toml"), "B": Path("/home/else/table.toml")}
+    asked = replace(answered.asked(), name="/home/somebody/net.toml", layout=Layout(tables, answered.WIRES))
+    for folder in ("/home/somebody/in", "/"):
+        assert list(answers.inputs_of(asked, folder).values()) == [
+            "net.toml", "A/table.toml", "table.toml", "A/port-1.pcap", "B/port-2.pcap", "B/port-3.pcap"]
+    assert answers.inputs_of(asked, "in")["in/A/port-1.pcap"] == "in/A/port-1.pcap"
+
+
 @pytest.mark.parametrize("text", ["switch = []\n", "wire = []\n"])
 def test_a_network_without_switches(tmp_path: Path, monkeypatch: pytest.MonkeyPatch, text: str) -> None:
     monkeypatch.chdir(tmp_path)

@@ -123,7 +123,7 @@ def origin_of(command: str, program: Program | None, options: argparse.Namespace
     """Returns where the page comes from: of recordings those that were read."""
     recorded = recorded_of(options, run.recordings.differences.ports if run.recordings else [])
     comparison = provenance.Comparison(comparing_of(options), recorded)
-    return provenance.provenance_of(command, program, words_of(options), inputs, comparison)
+    return provenance.provenance_of(command, program, words_of(options), provenance.shown_by_name(inputs), comparison)
 
 
 def put(command: str, options: argparse.Namespace, text: str, answered: Answers) -> None:
@@ -189,11 +189,11 @@ def make_of_network(command: str, options: argparse.Namespace) -> None:
         from afdx.view.network import answers as network
     program = Program(command)
     asked = network.ask_size(program, options.table, options.unchecked)
-    inputs = [options.table, *map(str, asked.layout.tables.values()), *network.given(asked, options.folder)]
-    check_inputs(command, options, inputs)
+    inputs = network.inputs_of(asked, options.folder)
+    check_inputs(command, options, list(inputs))
     with network.answered(program, asked, options.folder) as answered:
         run = read_network(asked, answered, program.progress)
-        origin = provenance.provenance_of(command, program, words_of(options), list(dict.fromkeys(inputs)))
+        origin = provenance.provenance_of(command, program, words_of(options), inputs)
         text = drawn_network(options, run, origin, program.progress)
     files.put(command, Path(options.out), text.encode("utf-8", "replace"))
 

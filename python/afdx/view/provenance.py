@@ -4,7 +4,7 @@ import os
 import shlex
 import shutil
 import time
-from collections.abc import Sequence
+from collections.abc import Mapping, Sequence
 from dataclasses import dataclass
 from pathlib import Path
 
@@ -32,11 +32,19 @@ class Provenance:
         return self.version[2] if len(self.version) > 2 else "the program does not say whether it is proved"
 
 
-def shown(name: str) -> str:
-    """Returns a name as the page shows it: of one that begins at the root only the last part, since the folders above
-    it are the host's; what is not UTF-8 is replaced."""
+def shown(name: str, folder: str | None = None) -> str:
+    """Returns a name as the page shows it: of one that begins at the root only what stands below the folder, or, if it
+    is not in the folder or none is given, the last part, since all above is the host's; what is not UTF-8 is
+    replaced."""
     path = Path(name)
-    return os.fsencode(path.name if path.is_absolute() else name).decode("utf-8", "replace")
+    if path.is_absolute():
+        name = str(path.relative_to(folder)) if folder and path.is_relative_to(folder) else path.name
+    return os.fsencode(name).decode("utf-8", "replace")
+
+
+def shown_by_name(names: Sequence[str], folder: str | None = None) -> dict[str, str]:
+    """Returns of each name what the page shows of it."""
+    return {name: shown(name, folder) for name in names}
 
 
 def sum_of(command: str, path: str) -> str:
@@ -47,8 +55,8 @@ def sum_of(command: str, path: str) -> str:
         raise failing(command, f"cannot read {path}", error) from error
 
 
-def sums_of(command: str, names: Sequence[str]) -> list[tuple[str, str]]:
-    return [(shown(name), sum_of(command, name)) for name in names]
+def sums_of(command: str, names: Mapping[str, str]) -> list[tuple[str, str]]:
+    return [(said, sum_of(command, name)) for name, said in names.items()]
 
 
 def now(command: str) -> str:
@@ -71,11 +79,12 @@ class Comparison:
     recorded: Sequence[str] = ()
 
 
-def provenance_of(command: str, asked: program.Program | None, arguments: Sequence[str], names: Sequence[str],
+def provenance_of(command: str, asked: program.Program | None, arguments: Sequence[str], names: Mapping[str, str],
                   comparison: Comparison = Comparison()) -> Provenance:
-    """Returns where a page of these arguments comes from, which was made of these files and of this comparison."""
+    """Returns where a page of these arguments comes from, which was made of this comparison and of these files, with
+    what the page shows of their names."""
     version, sums = [], sums_of(command, names)
-    sums += [(f"{name}, recorded", found) for name, found in sums_of(command, comparison.recorded)]
+    sums += [(f"{name}, recorded", found) for name, found in sums_of(command, shown_by_name(comparison.recorded))]
     if asked:
         version = asked.answer("--version").splitlines()
         sums.append(("afdx", sum_of(command, shutil.which(asked.file) or asked.file)))

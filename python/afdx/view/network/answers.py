@@ -19,6 +19,7 @@ from afdx.recordings.reading import Recording
 from afdx.recordings.walking import RECORD
 from afdx.view.answers import Answers
 from afdx.view.network.layout import Layout, Port, layout_of
+from afdx.view.provenance import shown, shown_by_name
 from afdx.view.table import Table, table_of
 
 
@@ -32,6 +33,10 @@ class Asked:
     sizes: dict[str, str]  # what `size` printed, by switch
     layout: Layout
     tables: dict[str, Table]
+
+    def shown_table(self, switch: str) -> str:
+        """Returns what the page shows of the name of a switch's table."""
+        return shown(str(self.layout.tables[switch]), str(Path(self.name).parent))
 
 
 @dataclass(frozen=True)
@@ -67,7 +72,7 @@ def ask_size(program: Program, name: str, unchecked: bool) -> Asked:
 
 def capture(folder: Path | str, port: Port) -> str:
     """Names the capture of a port of a network."""
-    return f"{folder}/{port.switch}/port-{port.number}.pcap"
+    return os.path.join(folder, port.switch, f"port-{port.number}.pcap")
 
 
 def given(asked: Asked, folder: str) -> list[str]:
@@ -75,6 +80,12 @@ def given(asked: Asked, folder: str) -> list[str]:
     wired = asked.layout.into()
     ports = [Port(switch, number) for switch, table in asked.tables.items() for number in table.ports]
     return [capture(folder, port) for port in ports if port not in wired]
+
+
+def inputs_of(asked: Asked, folder: str) -> dict[str, str]:
+    """Returns the names of all files that the page is made of, each with what the page shows of it."""
+    tables = {str(path): asked.shown_table(switch) for switch, path in asked.layout.tables.items()}
+    return shown_by_name([asked.name]) | tables | shown_by_name(given(asked, folder), folder)
 
 
 def later(command: str, batch: Batch, nanoseconds: int) -> memoryview:

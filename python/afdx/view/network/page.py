@@ -16,7 +16,7 @@ from afdx.view.network.run import NetworkRun
 from afdx.view.network.verdict import verdict_of
 from afdx.view.network.ways import Way
 from afdx.view.page import NARROW, WIDE, both, parts_of, template
-from afdx.view.provenance import Provenance, shown
+from afdx.view.provenance import Provenance
 from afdx.view.strips import Strip, strip
 
 
@@ -66,8 +66,8 @@ def sections(run: NetworkRun, progress: Progress) -> Iterator[Section]:
     section = template("switch.html")
     for switch, own in run.runs.items():
         progress.say(f"pictures of {switch}")
-        table = shown(str(run.asked.layout.tables[switch]))
-        yield Section(switch, table, Markup(section.render(**parts_of(own, progress, 3, mark_of(switch)))))
+        text = Markup(section.render(**parts_of(own, progress, 3, mark_of(switch))))
+        yield Section(switch, run.asked.shown_table(switch), text)
 
 
 def page(run: NetworkRun, title: str, provenance: Provenance, progress: Progress) -> str:
