@@ -71,6 +71,29 @@ tells_its_origin() {
     ! grep -n -e "$HOSTNAME" -e "$top" -e "$room" "$page"
 }
 
+# names_sums PAGE NAME..: the page has the sums of files of these names, in this order, and then the program's.
+names_sums() {
+    local page=$1
+    shift
+    diff <(sed -n 's|^<tr><td>SHA-256 of \([^<]*\)<td>.*|\1|p' "$page") <(printf '%s\n' "$@" afdx)
+}
+
+# names_the_premise PAGE: the promise, and the bounds of the ways, are under the premise that the program names, and the run tested it.
+names_the_premise() {
+    local premise
+    premise=$("$AFDX" network check lines/network.toml | grep '^premise ')
+    grep -q "then in this accepted network, under the $premise, whatever frames the captures hold, " "$1" &&
+        grep -q "The $premise, as the network file says: .* over one line, .* The run tested it " "$1" &&
+        grep -q "the bounds, which are of the whole way, under the $premise (" "$1"
+}
+
+# one_line_refused: the camera's 16th frame comes twice at one instant; there is no page then.
+one_line_refused() {
+    local capture=lines/in/cabin/port-1.pcap
+    { head -c 8053 "$capture" && tail -c +7596 "$capture"; } >twice.pcap && mv twice.pcap "$capture" &&
+        ends_with 4 "afdx: network R2 Line, switch cabin, port 1, record 17" lines/network.toml lines/in made/page.html
+}
+
 # tells_whether_proved: the page has the last line that the program says of its version.
 tells_whether_proved() {
     grep -xF "<tr><td>proofs<td>$("$AFDX" --version | sed -n 3p)" network.html
@@ -212,6 +235,18 @@ check "its page in a browser, and in print" opens_network cable.html cable/netwo
 cp -r "$aircraft" outage && sed -i '/^name = "cockpit"/ a down = true' outage/network.toml
 check "an outage of a switch" makes outage.html outage/network.toml outage/in
 check "its page in a browser, and in print" opens_network outage.html outage/network.toml outage/in
+cp -r "$aircraft" lines && sed -i -e '1 i one_line = true' -e 's|^table = "\(.*\)\.toml"|table = "\1/table.toml"|' lines/network.toml
+for switch in cabin bay cockpit; do
+    mkdir "lines/$switch" && mv "lines/$switch.toml" "lines/$switch/table.toml"
+done
+check "end systems with one line each" makes lines.html "$room/lines/network.toml" "$room/lines/in"
+check "are the premise of the promise, which the run tested" names_the_premise lines.html
+check "of which a network without them says nothing" eval "! grep premise aircraft.html"
+check "names of files below folders that begin at the root" names_sums lines.html network.toml {cabin,bay,cockpit}/table.toml \
+    cabin/port-{1,2}.pcap bay/port-{2,3}.pcap cockpit/port-{2,3}.pcap
+check "their sums, and nothing of the host" tells_its_origin lines.html lines/network.toml lines/*/table.toml lines/in/*/*
+check "its ways in a browser, with the lesser bounds" opens_network lines.html lines/network.toml lines/in
+check "frames that one line cannot bring" one_line_refused
 check "answers are of a table" ends_with 2 "afdx-view: --answers is for a table, and $aircraft/network.toml is of a network" \
     "$aircraft/network.toml" "$aircraft/in" made/page.html --answers earlier
 cp -r "$aircraft" linked && ln linked/bay.toml linked/bay.html

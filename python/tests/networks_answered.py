@@ -118,8 +118,9 @@ def departures_of(switch: str) -> str:
     return "\n".join(["port,record,frame,link,priority,size,came,start,left,delay,outcome", *rows, ""])
 
 
-def asked(checked: bool = True, said: str = CHECK, refused: tuple[str, ...] = ()) -> Asked:
-    return Asked("net.toml", checked, said, list(refused), sizes_of(SIZE), LAYOUT, TABLES)
+def asked(checked: bool = True, said: str = CHECK, refused: tuple[str, ...] = (),
+          premises: tuple[str, ...] = ()) -> Asked:
+    return Asked("net.toml", checked, said, list(refused), list(premises), sizes_of(SIZE), LAYOUT, TABLES)
 
 
 def answers(folder: Path) -> NetworkAnswers:

@@ -8,7 +8,7 @@ import pytest
 
 from afdx import networks
 from afdx.failure import INPUT, USAGE, Failure
-from afdx.program import Progress
+from afdx.program import Program, Progress
 from afdx.view import arrivals, command
 from afdx.view.network import answers, following, layout, picture, run, verdict
 from afdx.view.network.layout import Layout, Port, Wire
@@ -260,6 +260,28 @@ def test_no_frames(tmp_path: Path, monkeypatch: pytest.MonkeyPatch) -> None:
     assert "<b>No frame came in.</b>" in text and "1970" not in text
 
 
+SAID = " under the premise one_line, whatever frames"
+TESTED = "The premise one_line, as the network file says: "
+
+
+@pytest.mark.parametrize("premises, said", [((), (False, False)), (("premise one_line",), (True, True))])
+def test_a_premise_is_said(tmp_path: Path, premises: tuple[str, ...], said: tuple[bool, bool]) -> None:
+    """Checks that the promise names the premise on which the bounds rest, and says what it is, if there is one."""
+    found = answered.read(tmp_path, answered.asked(premises=premises))
+    text = page(found, "", Provenance(["afdx"], [], "", "", ""), Progress("test"))
+    assert (SAID in text, TESTED in text) == said
+    assert ('whole way, under the premise one_line (<a href="#origin">' in text) == said[0]
+
+
+@pytest.mark.parametrize("unchecked, premises", [(False, ["premise one_line"]), (True, [])])
+def test_the_premise_is_the_program_s_line(tmp_path: Path, monkeypatch: pytest.MonkeyPatch, unchecked: bool,
+                                           premises: list[str]) -> None:
+    """Checks that the line is that of `check` without --csv, and that none is asked for if nothing is promised."""
+    monkeypatch.chdir(tmp_path)
+    Path("net.toml").write_text("one_line = true\nswitch = []\n")
+    assert answers.ask_size(Program("test"), "net.toml", unchecked).premises == premises
+
+
 def test_the_names_of_a_network_s_files() -> None:
     """Checks that names are whole below a folder that begins at the root, and that nothing above it is in them."""
     tables = {"A": Path("/home/somebody/A/table.toml"), "B": Path("/home/else/table.toml")}
@@ -299,5 +321,5 @@ def test_the_promise_is_that_of_readme() -> None:
     top = Path(__file__).resolve().parents[2]
     readme = (top / "README.md").read_text("utf-8").replace("`", "").lower()
     promise = (top / "python/afdx/view/templates/network_promise.html").read_text("utf-8").lower()
-    for sentence in promise.split("hold, ")[1].rstrip(".\n").split("; "):
+    for sentence in promise.split("hold, ")[1].splitlines()[0].rstrip(".").split("; "):
         assert sentence in readme

@@ -30,6 +30,7 @@ class Asked:
     checked: bool
     said: str  # by `check`; nothing if the network is refused
     refused: list[str]  # the lines of the refusal
+    premises: list[str]  # the lines of `check` that say on what its bounds rest; none if nothing is promised
     sizes: dict[str, str]  # what `size` printed, by switch
     layout: Layout
     tables: dict[str, Table]
@@ -56,18 +57,24 @@ def sizes_of(said: str) -> dict[str, str]:
     return sizes
 
 
+def premises_of(said: str) -> list[str]:
+    """Returns the lines of `check` that name a premise; its comma-separated values have none."""
+    return [line for line in said.splitlines() if line.startswith("premise ")]
+
+
 def ask_size(program: Program, name: str, unchecked: bool) -> Asked:
     """Has the program check a network. One that is refused ends the command, unless it is to run unchecked."""
     if not unchecked:
         said, refused = program.answer("network", "check", name, CSV), []
+        premises = premises_of(program.answer("network", "check", name))
     else:
         answer = program.ask("network", "check", name, CSV)
-        said, refused = answer.said, answer.line.splitlines() if answer.status else []
+        said, refused, premises = answer.said, answer.line.splitlines() if answer.status else [], []
     sizes = sizes_of(program.answer("network", "size", name, CSV))
     layout = layout_of(toml.read(program.progress.command, Path(name)), Path(name).parent)
     tables = {switch: table_of(toml.read(program.progress.command, path)) for switch, path in layout.tables.items()}
-    return Asked(name, not unchecked, said, refused, {switch: sizes.get(switch, "") for switch in tables}, layout,
-                 tables)
+    return Asked(name, not unchecked, said, refused, premises,
+                 {switch: sizes.get(switch, "") for switch in tables}, layout, tables)
 
 
 def capture(folder: Path | str, port: Port) -> str:
