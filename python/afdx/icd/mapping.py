@@ -1,4 +1,5 @@
 """Reads the mapping: what the lists' columns are called, what stands for empty cells, and what all switches have."""
+import json
 import re
 from dataclasses import dataclass
 from pathlib import Path
@@ -7,7 +8,7 @@ from typing import Any, TypeVar
 from afdx import files, toml
 from afdx.failure import INPUT, Failure
 from afdx.icd import columns
-from afdx.icd.cells import Column, Unfit, whole
+from afdx.icd.cells import Column, Unfit, one_line, whole
 
 T = TypeVar("T")
 LISTS = {"": columns.LINKS, "ends": columns.ENDS, "wires": columns.WIRES}  # by their name in a section
@@ -88,10 +89,21 @@ class Reading:
                 self.wrong.append(f"{unfit}, {place}.{column.key}")
         return values
 
+    def refuse_shared(self, place: str, known: columns.Columns, headings: dict[str, str]) -> None:
+        """Complains of a heading that two columns have. What the mapping does not name has its key as its heading."""
+        first: dict[str, str] = {}
+        for column in sorted(known, key=lambda column: column.key in headings):
+            heading = one_line(headings.get(column.key, column.key))
+            other = first.setdefault(heading.casefold(), column.key)
+            if heading and other != column.key:
+                shown = json.dumps(heading, ensure_ascii=False)
+                self.wrong.append(f"{shown} is the heading of {other} too, {place}.{column.key}")
+
     def list_mapping(self, name: str) -> ListMapping:
         """Reads what is said of one list."""
         place = f".{name}" if name else ""
         headings = self.values(f"columns{place}", LISTS[name], number=False)
+        self.refuse_shared(f"columns{place}", LISTS[name], headings)
         return ListMapping(headings, self.fit(f"defaults{place}", LISTS[name]))
 
 
