@@ -16,7 +16,7 @@ class Unfit(Exception):
 @dataclass(frozen=True)
 class Column(Generic[T]):
     """A column: its key in the mapping, what reads its cells, what stands for an empty one, if one may be empty, and
-    what its heading may begin with too: such a heading is not passed over in silence."""
+    how it may be called too: a heading that looks so is not passed over in silence."""
     key: str
     reader: Callable[[str], T]
     default: str | None = None
@@ -37,6 +37,13 @@ def whole(least: int, most: int) -> Callable[[str], int]:
             raise Unfit(f"not from {least} to {most}")
         return value
     return read
+
+
+def link_number(text: str) -> int:
+    """Reads the number of a virtual link. Lists of hexadecimal ones have some without letters: their zeros tell."""
+    if text != "0" and text.startswith("0") and NUMBER.fullmatch(text):
+        raise Unfit("begins with 0, as hexadecimal numbers may: it has to be decimal, without zeros in front")
+    return whole(0, 65_535)(text)
 
 
 def one_of(*values: int) -> Callable[[str], int]:
@@ -65,8 +72,9 @@ def one_line(text: str) -> str:
 
 
 def words_of(text: str) -> list[str]:
-    """Returns the words of a heading in small letters; all that is no letter or digit lies between words."""
-    return re.findall(r"[^\W_]+", text.casefold())
+    """Returns the words of a heading in small letters. All that is no letter or digit lies between words, and a word
+    ends before a capital letter that follows a small one."""
+    return re.findall(r"[^\W_]+", re.sub(r"(?<=[a-z])(?=[A-Z])", " ", text).casefold())
 
 
 def printable(text: str) -> str:

@@ -2,12 +2,12 @@
 from collections.abc import Sequence
 from typing import Any, TypeAlias
 
-from afdx.icd.cells import Column, one_of, parts, printable, switch, whole, word
+from afdx.icd.cells import Column, link_number, one_of, parts, printable, switch, whole, word
 
 HEADERS = 47  # bytes of a frame round a UDP payload: Ethernet 14, IP 20, UDP 8, sequence number 1, check sequence 4
 SMALLEST, LARGEST = 64, 1518  # bytes of a frame
 
-ID = Column("id", whole(0, 65_535))
+ID = Column("id", link_number)
 NAME = Column("name", printable, "")
 SOURCE = Column("from", printable)
 TARGETS = Column("to", parts)
@@ -23,7 +23,7 @@ END = Column("name", printable)
 SWITCH = Column("switch", switch)
 PORT = Column("port", whole(1, 24))
 MBIT = Column("mbit", one_of(10, 100, 1000))
-BUFFER = Column("buffer", whole(0, 16_777_216), "16777216")
+BUFFER = Column("buffer", whole(0, 16_777_216), "16777216", ("buf",))
 DELAY_LIMIT = Column("max_delay_us", whole(1, 500_000), "500000", ("maximum_delay",))
 
 SWITCH_A = Column("switch_a", switch)
