@@ -3,6 +3,7 @@ from pathlib import Path
 
 import openpyxl
 import pytest
+from openpyxl.styles import Font
 
 from afdx.failure import INPUT, Failure
 from afdx.icd import command, mapping, network
@@ -20,6 +21,9 @@ BAD_LINKS = [
     ("id", "x20", "not a whole number"),
     ("id", "-1", "not a whole number"),
     ("id", "65536", "not from 0 to 65535"),
+    ("id", "012C", "not a whole number"),
+    ("id", "0132", "begins with 0, as hexadecimal numbers may: it has to be decimal, without zeros in front"),
+    ("id", "00", "begins with 0, as hexadecimal numbers may: it has to be decimal, without zeros in front"),
     ("name", "a\u0007b", "has a character that cannot be printed"),
     ("from", "", "empty"),
     ("from", "gyro", "no such end system"),
@@ -211,6 +215,109 @@ def test_all_that_is_wrong_with_a_mapping_at_once(tmp_path: Path) -> None:
         assert refusal(worked_lists.write(tmp_path), "--mapping", str(path)).lines[0].startswith("afdx-icd: not TOML: ")
 
 
+@pytest.mark.parametrize("text, what", [
+    ('[columns]\nid = "VL"\nbag_ms = "BAG"\njitter_us = " bag"',
+     '"bag" is the heading of bag_ms too, columns.jitter_us'),
+    ('[columns]\njitter_us = "bag_ms"', '"bag_ms" is the heading of bag_ms too, columns.jitter_us'),
+    ('[columns.wires]\nport_a = "Port"\nport_b = "Port"', '"Port" is the heading of port_a too, columns.wires.port_b')])
+def test_one_heading_of_two_columns(tmp_path: Path, text: str, what: str) -> None:
+    path = tmp_path / "map.toml"
+    path.write_text(text, encoding="utf-8")
+    assert refusal(worked_lists.write(tmp_path), "--mapping", str(path)).lines == (f"afdx-icd: {what}, {path}",)
+
+
+def test_headings_that_change_places_and_columns_that_are_none(tmp_path: Path) -> None:
+    """Checks that the key of a column may be the heading of another if the mapping says what its own is."""
+    path = tmp_path / "map.toml"
+    path.write_text('[columns]\nfrom = "to"\nto = "from"\nvia = ""\npolice = ""\n', encoding="utf-8")
+    assert mapping.read("afdx-icd", path).links.headings["from"] == "to"
+
+
+def test_other_numbers_may_begin_with_zeros(tmp_path: Path) -> None:
+    """Checks that they are decimal: they may have been written with as many digits each."""
+    links, ends = worked_lists.LINKS.replace(",2,40,200,", ",002,0040,0200,"), worked_lists.ENDS.replace("B,1", "B,01")
+    net = network.read(lists_of("afdx-icd", worked_lists.write(tmp_path, links, ends),
+                                mapping.read("afdx-icd", None), Complaints()))
+    first = net.links[0]
+    assert (first.bag_ms, first.jitter_us, first.max_size, net.ends["B1"].number) == (2, 40, 200, 1)
+
+
+NONE_OF_LINKS = "none of the headings id, from, to, bag_ms, jitter_us, priority: "
+ASKED = "is there a title above them, or has the mapping to name them?"
+NOTE = "no more than two cells of this row are filled: if it is a note, it has to go"
+
+
+def test_a_title_above_the_headings_and_another_list(tmp_path: Path) -> None:
+    paths = worked_lists.write(tmp_path, "ICD of police delays,rev C\n" + worked_lists.LINKS)
+    assert refusal(paths).lines == (f"afdx-icd: {NONE_OF_LINKS}{ASKED}, {paths[0]} line 1",)
+
+
+def test_the_sheet_is_named_if_it_is_not_the_only_one(tmp_path: Path) -> None:
+    paths = worked_lists.write(tmp_path)
+    paths[0] = tmp_path / "icd.xlsx"
+    book = openpyxl.Workbook()
+    cover, links = book.active, book.create_sheet("VL")
+    cover.title = 'the "Cover"'
+    for cells in (list(GOOD), [*GOOD.values()], [*(GOOD | {"bag_ms": "3"}).values()]):
+        links.append(cells)
+    book.save(paths[0])
+    sheet = f'{paths[0]} sheet "the \\"Cover\\""'
+    assert refusal(paths).lines == (f"afdx-icd: no heading, {sheet}",)
+    cover["B2"] = "ICD rev C"
+    book.save(paths[0])
+    what = f"{NONE_OF_LINKS}is the list on another sheet, {ASKED}"
+    assert refusal(paths).lines == (f"afdx-icd: {what}, {sheet} line 2",)
+    book.move_sheet("VL", -1)
+    book.save(paths[0])
+    place = f'{paths[0]} sheet "VL" line'
+    assert refusal(paths).lines == (
+        f'afdx-icd: {place} 2 has it too, {place} 3, column id, value "20"',
+        f'afdx-icd: not one of 1, 2, 4, 8, 16, 32, 64, 128, {place} 3, column bag_ms, value "3"')
+
+
+def test_a_note_under_a_list_has_one_line(tmp_path: Path) -> None:
+    """Checks that a row with few cells of which one is bad still says which."""
+    paths = worked_lists.write(tmp_path, worked_lists.LINKS + "Note 1:,,,,,,,all jitters at the sender\n",
+                               worked_lists.ENDS + "gyro,A,,\n", worked_lists.WIRES + ",,,,,,* spare\n")
+    assert refusal(paths).lines == (
+        line(NOTE, paths[0], 6, "1", "Note 1:"), line(NOTE, paths[1], 7, "1", "gyro"),
+        line(NOTE, paths[2], 5, "7", "* spare"))
+    paths = worked_lists.write(tmp_path, ends=worked_lists.ENDS + "gyro,A,1\n")
+    path = tmp_path / "map.toml"
+    path.write_text("[defaults.ends]\nmbit = 100\nswitch = \"A\"\n", encoding="utf-8")
+    for row, number in (("gyro,,1", "1"), ("gyro,A,25", "25")):
+        paths = worked_lists.write(tmp_path, ends=worked_lists.ENDS + f"{row},\n")
+        what = f"{paths[1]} line 2 has it too" if number == "1" else "not from 1 to 24"
+        assert refusal(paths, "--mapping", str(path)).lines == (line(what, paths[1], 7, "port", number),)
+
+
+def test_a_note_in_merged_cells_has_one_line(tmp_path: Path) -> None:
+    paths = worked_lists.write(tmp_path)
+    paths[0] = tmp_path / "icd.xlsx"
+    book = openpyxl.Workbook()
+    for cells in (list(GOOD), [*GOOD.values()], ["Note: all"]):
+        book.active.append(cells)
+    book.active.merge_cells("A3:K3")
+    book.save(paths[0])
+    assert refusal(paths).lines == (line(NOTE, paths[0], 3, "1", "Note: all"),)
+
+
+def test_rows_that_are_struck_through_are_warned_of(tmp_path: Path) -> None:
+    """Checks the first cell of such a row that is read; other columns do not count."""
+    paths = worked_lists.write(tmp_path)
+    paths[0] = tmp_path / "icd.xlsx"
+    book = openpyxl.Workbook()
+    for cells in ([*GOOD, "remark"], [*GOOD.values(), "old"], [*(GOOD | {"id": 21, "via": "A"}).values(), "old"]):
+        book.active.append(cells)
+    for place in ("L2", "E3", "F3", "L3"):
+        book.active[place].font = Font(strike=True)
+    book.save(paths[0])
+    complaints = Complaints()
+    network.read(lists_of("afdx-icd", paths, mapping.read("afdx-icd", None), complaints))
+    what = "warning: struck through, and read all the same: if this row does not count, it has to go"
+    assert complaints.warnings("afdx-icd") == [line(what, paths[0], 3, "5", "8")] and not complaints.found
+
+
 def test_missing_columns_of_all_lists_at_once(tmp_path: Path) -> None:
     links = worked_lists.LINKS.replace("max_size", "size").replace("udp_payload", "payload").replace("police", "via")
     paths = worked_lists.write(tmp_path, links, worked_lists.ENDS.replace("mbit", "speed"),
@@ -242,6 +349,9 @@ def test_other_headings_of_columns_that_have_to_be_there(tmp_path: Path) -> None
     (2, "delay_ns", "delay [ns]"), (2, "delay_ns", "delay\nns"), (2, "delay_ns", "DELAY-ns"), (2, "delay_ns", "delay"),
     (2, "delay_ns", "delay_ns/ns"), (2, "delay_ns", "delay_ns*"), (2, "delay_ns", "DelayNs"), (2, "delay_ns", "delays"),
     (0, "police", "Policer"), (0, "police", "PoliceMode"), (0, "police", "policed by"), (0, "police", "POLICY"),
+    (2, "delay_ns", "Cable delay [ns]"), (2, "delay_ns", "cable delays"), (2, "delay_ns", "CableDelayNs"),
+    (2, "delay_ns", "CABLEDELAY [ns]"), (0, "police", "no police"), (0, "police", "Link policing"),
+    (0, "via", "remark to via"), (0, "via", "VL route"),
     (0, "via", "Vias"), (0, "via", "viaSwitches"), (0, "via", "VIA1"), (0, "via", "routes"), (0, "via", "Routing")])
 def test_another_heading_of_a_column_that_may_be_missing(tmp_path: Path, order: int, column: str, heading: str) -> None:
     """Checks that the mapping has to name such a column, or to say that there is none: without it all links would be
@@ -263,16 +373,18 @@ def test_another_heading_of_a_column_that_may_be_missing(tmp_path: Path, order: 
 @pytest.mark.parametrize("column, heading", [
     ("buffer", "Buffers [byte]"), ("buffer", "BufferSize"), ("buffer", "Buffering"), ("buffer", "buffer-size"),
     ("max_delay_us", "MaxDelay"), ("max_delay_us", "max delay us"), ("max_delay_us", "Max. delay (us)"),
-    ("max_delay_us", "Maximum delay")])
+    ("max_delay_us", "Maximum delay"), ("buffer", "Port buffer [byte]"), ("buffer", "TxBuffer"), ("buffer", "Buf."),
+    ("buffer", "TXBUF [byte]"), ("buffer", "TxBufferSize"), ("buffer", "Buf-\nfers"), ("max_delay_us", "Delay max"),
+    ("max_delay_us", "Delay, maximum [us]"), ("max_delay_us", "PortMaxDelay"), ("max_delay_us", "PORTMAXDELAY")])
 def test_another_heading_of_what_ports_have(tmp_path: Path, order: int, section: str, column: str,
                                             heading: str) -> None:
     """Checks that the buffer and the greatest delay that stand for missing columns are not taken without a word, and
     are if the mapping says so."""
     lists = [worked_lists.LINKS, worked_lists.ENDS, worked_lists.WIRES]
     first, *rows = lists[order].splitlines()
-    lists[order] = "\n".join([f"{first},{heading}", *(f"{row},1000" for row in rows)])
+    lists[order] = "\n".join([f'{first},"{heading}"', *(f"{row},1000" for row in rows)])
     paths, path = worked_lists.write(tmp_path, *lists), tmp_path / "map.toml"
-    what = f'"{heading}" may be this column: the mapping has to name it, or "" for none'
+    what = f'"{" ".join(heading.split())}" may be this column: the mapping has to name it, or "" for none'
     assert refusal(paths).lines == (f"afdx-icd: {what}, {paths[order]} line 1, column {column}",)
     path.write_text(f'[columns.{section}]\n{column} = ""\n', encoding="utf-8")
     found = lists_of("afdx-icd", paths, mapping.read("afdx-icd", path), Complaints())
@@ -298,7 +410,9 @@ def test_no_likely_heading_of_a_column_that_has_to_be_there(tmp_path: Path) -> N
 
 
 @pytest.mark.parametrize("heading", [
-    "remark", "Remarks", "comment", "description", "status", "ICD rev", "port buffer", "cable delay", "partition",
+    "remark", "Remarks", "comment", "description", "status", "ICD rev", "partition", "abbreviation",
+    "throughput", "deviation", "latency",
+    "cable length",
     "UDP port", "max. rate", "maximum rate", "sub-VL", "network", "period", "rate", "owner", "ATA", "ROM", "pol."])
 def test_headings_of_other_meanings(tmp_path: Path, heading: str) -> None:
     """Checks that columns that lists have beside those that are read stay there without a mapping."""
@@ -312,9 +426,8 @@ def test_headings_of_other_meanings(tmp_path: Path, heading: str) -> None:
 
 
 def test_headings_that_are_no_column(tmp_path: Path) -> None:
-    """Checks that a name beside the numbers of links may be called as it likes, and that words may stand before a
-    name."""
-    heading = "id,name (long),from,to,bag_ms,jitter_us,max_size,payload of UDP,priority,no police,remark to via"
+    """Checks that a name beside the numbers of links may be called as it likes, and that half of a name is none."""
+    heading = "id,name (long),from,to,bag_ms,jitter_us,max_size,payload,priority,pol,by way of"
     paths = worked_lists.write(tmp_path, worked_lists.LINKS.replace(worked_lists.LINKS.splitlines()[0], heading))
     found = lists_of("afdx-icd", paths, mapping.read("afdx-icd", None), Complaints())
     assert {"name", "udp_payload", "police", "via"}.isdisjoint(found[0].places)

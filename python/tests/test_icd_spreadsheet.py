@@ -7,10 +7,11 @@ from pathlib import Path
 import openpyxl
 import pytest
 from hypothesis import given, strategies
+from openpyxl.styles import Font
 
 from afdx.failure import INPUT, Failure
 from afdx.icd import spreadsheet
-from afdx.icd.spreadsheet import Formula, Row
+from afdx.icd.spreadsheet import Formula, Row, Struck
 
 PRINTABLE = strategies.characters(blacklist_categories=("Cs", "Cc"))
 CELLS = strategies.text(PRINTABLE | strategies.sampled_from(',;"\n'))
@@ -136,6 +137,33 @@ def test_formulas_that_no_program_has_computed(tmp_path: Path, said: str, chain:
     assert rows == [Row(1, ["id", "jitter_us"]), Row(2, ["0", "0" if is_computed else "=A2+1"]), Row(3, ["0", "2"]),
                     Row(4, ["0", "0"])]
     assert isinstance(rows[1].cells[1], Formula) == (not is_computed)
+
+
+def test_what_is_struck_through(tmp_path: Path) -> None:
+    """Checks cells that are struck through, and texts of which a part is, in the cell or shared: without it 45 would be
+    a 5 whose 4 was struck."""
+    run = '<r><rPr><strike{}/></rPr><t>4</t></r><r><t>{}</t></r>'
+    texts = "".join(f"<si>{run.format(*said)}</si>" for said in (("", 6), (' val="0"', 7)))
+    shared = f'<sst xmlns="{spreadsheet.PARTS[1:-1]}">{texts}</sst>'
+    book, text = openpyxl.Workbook(), io.BytesIO()
+    for cells in (["id", "to"], [40, "=A2"], ["x", "y"], ["z"]):
+        book.active.append(cells)
+    book.active["A2"].font = book.active["B2"].font = Font(strike=True)
+    book.save(text)
+    made = changed(text.getvalue(), "xl/worksheets/sheet1.xml", {
+        b"<t>x</t>": run.format("", 5).encode(),
+        b't="inlineStr"><is><t>y</t></is>': b't="s"><v>0</v>', b't="inlineStr"><is><t>z</t></is>': b't="s"><v>1</v>'})
+    kind = KIND.replace(b"sheet.main", b"sharedStrings")
+    made = changed(made, "[Content_Types].xml", {
+        b"</Types>": b'<Override PartName="/xl/sharedStrings.xml" ContentType="' + kind + b'"/></Types>'})
+    whole = io.BytesIO(made)
+    with zipfile.ZipFile(whole, "a") as parts:
+        parts.writestr("xl/sharedStrings.xml", shared)
+    rows = read(tmp_path / "list.xlsx", whole.getvalue())
+    assert [row.cells for row in rows] == [["id", "to"], ["40", "=A2"], ["45", "46"], ["47"]]
+    assert [[isinstance(cell, Struck) for cell in row.cells] for row in rows] == [
+        [False, False], [True, False], [True, True], [False]]
+    assert isinstance(rows[1].cells[1], Formula)
 
 
 ARRAY = "=E2:E3*2"

@@ -12,12 +12,13 @@ class Place:
     line: int
     rank: int  # the column's place in the list
     path: str
-    column: str
+    column: str  # empty if all of the line is meant
     value: str | None  # None at a heading
 
     def words(self) -> str:
         value = "" if self.value is None else f", value {json.dumps(self.value, ensure_ascii=False)}"
-        return f"{self.path} line {self.line}, column {self.column}{value}"
+        column = f", column {self.column}" if self.column else ""
+        return f"{self.path} line {self.line}{column}{value}"
 
 
 @dataclass

@@ -9,16 +9,19 @@ from afdx.icd.cells import Column, Unfit, one_line, words_of
 from afdx.icd.columns import NAME, Columns
 from afdx.icd.complaints import Complaints, Place
 from afdx.icd.mapping import ListMapping
-from afdx.icd.spreadsheet import Formula, Row
+from afdx.icd.spreadsheet import Formula, Row, Struck
 
 T = TypeVar("T")
 UNITS = {"ms", "us", "ns"}  # at the ends of keys
 UNSAVED = "a formula whose value was not saved with it"
 
 
+NOTE = "no more than two cells of this row are filled: if it is a note, it has to go"
+STRUCK = "struck through, and read all the same: if this row does not count, it has to go"
+
+
 def names_of(column: Column[Any]) -> list[list[str]]:
-    """Returns what headings of a column may begin with, in words: its key less its unit, and how it may be called
-    too."""
+    """Returns what a column may be called, in words: its key less its unit, and how it may be called too."""
     own = words_of(column.key)
     return [own[:-1] if own[-1] in UNITS else own, *map(words_of, column.also)]
 
@@ -28,10 +31,18 @@ def begins_with_words(heading: str, name: list[str]) -> bool:
     return words_of(heading)[:len(name)] == name
 
 
-def begins_with_letters(heading: str, name: list[str]) -> bool:
-    """Returns whether the letters and digits of a heading, in small letters, begin with those of a name: `BufferSize`
-    and `Buffers [byte]` do so of `buffer`."""
-    return "".join(words_of(heading)).startswith("".join(name))
+def looks_like(heading: str, name: list[str]) -> bool:
+    """Returns whether each word of a name begins or ends a word of a heading, in whatever order, or the letters and
+    digits of the heading, in small letters, begin or end with those of the name: `Delay max` and `MAXDELAYS` look so
+    like `max delay`."""
+    words, letters = words_of(heading), "".join(name)
+    found = all(any(word.startswith(part) or word.endswith(part) for word in words) for part in name)
+    return found or "".join(words).startswith(letters) or "".join(words).endswith(letters)
+
+
+def is_short(row: Row) -> bool:
+    """Returns whether one or two cells of a row are filled. Those of a merged range have one text."""
+    return len(set(filter(None, row.cells))) <= 2
 
 
 class List:
@@ -40,13 +51,17 @@ class List:
     def __init__(self, command: str, path: Path, order: int, known: Columns, mapping: ListMapping,
                  complaints: Complaints) -> None:
         sheet = spreadsheet.read(command, path)
-        self.path, self.sheet, self.width = path, sheet, len(sheet.heading.cells)
+        self.sheet, self.width = sheet, len(sheet.heading.cells)
         self.order, self.mapping, self.complaints = order, mapping, complaints
         self.places: dict[str, int] = {}
         for column in known:
             self.find(column)
-        for column in known:
-            self.complain_of_missing(column)
+        needed = [column for column in known if not self.may_be_missing(column)]
+        self.is_there = self.seems_there(needed)
+        if self.is_there:
+            self.complain_of_headings(known)
+        else:
+            self.complain_of_all(needed)
         self.complain_beside(sheet.heading, UNSAVED, [
             at for at, heading in enumerate(sheet.heading.cells) if isinstance(heading, Formula)])
 
@@ -56,30 +71,49 @@ class List:
             return one_line(self.sheet.heading.cells[self.places[column.key]])
         return self.mapping.headings.get(column.key) or column.key
 
-    def find(self, column: Column[Any]) -> None:
-        """Finds a column. It has to be there if the mapping names it."""
-        if self.mapping.headings.get(column.key) == "":
-            if not self.may_be_missing(column):
-                self.complain_of_heading(column, "no such column")
-            return
+    def places_of(self, column: Column[Any]) -> list[int]:
+        """Returns where a column's heading stands."""
         name = one_line(self.heading(column)).casefold()
         headings = [one_line(heading).casefold() for heading in self.sheet.heading.cells]
-        at = [place for place, heading in enumerate(headings) if heading == name]
+        return [place for place, heading in enumerate(headings) if heading == name]
+
+    def find(self, column: Column[Any]) -> None:
+        """Finds a column, unless the mapping says that there is none."""
+        at = self.places_of(column) if self.mapping.headings.get(column.key) != "" else []
         if at:
             self.places[column.key] = at[0]
-        if len(at) > 1:
-            self.complain_of_heading(column, "two columns of this name")
-        elif not at and column.key in self.mapping.headings:
-            self.complain_of_heading(column, "no such column")
+
+    def seems_there(self, needed: Columns) -> bool:
+        """Returns whether the headings seem to be those of the list: one of a column that has to be there is found, or
+        two may be such ones."""
+        found = any(column.key in self.places for column in needed)
+        return found or not needed or sum(bool(self.likely(column)) for column in needed) > 1
+
+    def complain_of_headings(self, known: Columns) -> None:
+        """Complains of columns that are there twice or not at all. One that the mapping names has to be there."""
+        for column in known:
+            is_named, is_none = column.key in self.mapping.headings, self.mapping.headings.get(column.key) == ""
+            if column.key in self.places and len(self.places_of(column)) > 1:
+                self.complain_of_heading(column, "two columns of this name")
+            elif is_named and column.key not in self.places and not (is_none and self.may_be_missing(column)):
+                self.complain_of_heading(column, "no such column")
+            self.complain_of_missing(column)
+
+    def complain_of_all(self, needed: Columns) -> None:
+        """Complains once of headings of which none is one of the list."""
+        other = "is the list on another sheet, " if self.sheet.name else ""
+        place = Place(self.order, self.sheet.heading.line, 0, self.sheet.place, "", None)
+        self.complaints.note(place, f"none of the headings {', '.join(map(self.heading, needed))}: {other}"
+                                    "is there a title above them, or has the mapping to name them?")
 
     def may_be_missing(self, column: Column[Any]) -> bool:
         return column.default is not None or column.key in self.mapping.defaults
 
     def likely(self, column: Column[Any]) -> str:
         """Returns the first heading by which a column seems to be there, quoted, or nothing. Of a column that has to be
-        there, which is refused anyway, it begins with the words; of one that may be missing with the letters alone, so
-        that none is passed over. A link's name is but a comment."""
-        alike = begins_with_words if not self.may_be_missing(column) else begins_with_letters
+        there, which is refused anyway, it begins with the words; of one that may be missing it looks like it in other
+        ways too, so that none is passed over. A link's name is but a comment."""
+        alike = begins_with_words if not self.may_be_missing(column) else looks_like
         others = [heading for at, heading in enumerate(self.sheet.heading.cells) if at not in self.places.values()]
         likely = [heading for heading in others if any(alike(heading, name) for name in names_of(column))]
         return json.dumps(one_line(likely[0]), ensure_ascii=False) if likely and column is not NAME else ""
@@ -97,21 +131,35 @@ class List:
             self.complain_of_heading(column, f'{likely} may be this column: the mapping has to name it, or "" for none')
 
     def complain_of_heading(self, column: Column[Any], what: str) -> None:
-        place = Place(self.order, self.sheet.heading.line, 0, str(self.path), self.heading(column), None)
+        place = Place(self.order, self.sheet.heading.line, 0, self.sheet.place, self.heading(column), None)
         self.complaints.note(place, what)
 
     def rows(self) -> Iterator[Row]:
-        """Returns the rows. A cell that no heading is above, as an unquoted separator makes them, is a complaint."""
+        """Returns the rows. A cell that no heading is above, as an unquoted separator makes them, is a complaint. A row
+        that may be a note has but one."""
         for row in self.sheet.rows:
+            before = len(self.complaints.found)
             beyond = [at for at in range(self.width, len(row.cells)) if row.cells[at]]
             self.complain_beside(row, "more cells than the heading has", beyond[:1])
+            self.warn_of_struck(row)
             yield row
+            if len(self.complaints.found) > before + 1 and is_short(row):
+                del self.complaints.found[before:]
+                self.complain_beside(row, NOTE, [at for at, text in enumerate(row.cells) if text][:1])
+
+    def warn_of_struck(self, row: Row) -> None:
+        """Warns of the first cell that is read and struck through."""
+        read = [at for at in sorted(self.places.values()) if at < len(row.cells)]
+        struck = [at for at in read if isinstance(row.cells[at], Struck)]
+        self.complaints.doubts += [(self.place_beside(row, at), STRUCK) for at in struck[:1]]
+
+    def place_beside(self, row: Row, at: int) -> Place:
+        return Place(self.order, row.line, at, self.sheet.place, str(at + 1), row.cells[at])
 
     def complain_beside(self, row: Row, what: str, at: Iterable[int]) -> None:
         """Complains of cells by the numbers of their columns."""
         for place in at:
-            cell = Place(self.order, row.line, place, str(self.path), str(place + 1), row.cells[place])
-            self.complaints.note(cell, what)
+            self.complaints.note(self.place_beside(row, place), what)
 
     def text(self, row: Row, column: Column[Any]) -> str:
         """Returns a cell's text; if the cell is empty or not there, what the mapping has for it."""
@@ -121,7 +169,7 @@ class List:
 
     def place(self, row: Row, column: Column[Any]) -> Place:
         rank = self.places.get(column.key, self.width)
-        return Place(self.order, row.line, rank, str(self.path), self.heading(column), self.text(row, column))
+        return Place(self.order, row.line, rank, self.sheet.place, self.heading(column), self.text(row, column))
 
     def complain(self, row: Row, column: Column[Any], what: str) -> None:
         self.complaints.note(self.place(row, column), what)

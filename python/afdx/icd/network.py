@@ -69,7 +69,7 @@ class Once:
         if key in self.rows:
             of.complain(row, column, f"{self.rows[key]} has it too")
         elif None not in key:
-            self.rows[key] = f"{of.path} line {row.line}"
+            self.rows[key] = f"{of.sheet.place} line {row.line}"
 
 
 class Named:
@@ -175,7 +175,7 @@ def lists_of(command: str, paths: list[Path], mapping: Mapping, complaints: Comp
     known = [(columns.LINKS, mapping.links), (columns.ENDS, mapping.ends), (columns.WIRES, mapping.wires)]
     lists = [List(command, path, order, *known[order], complaints) for order, path in enumerate(paths)]
     given = lists[0].places.keys() | mapping.links.defaults.keys()
-    if SIZE.key not in given and PAYLOAD.key not in given:
+    if lists[0].is_there and SIZE.key not in given and PAYLOAD.key not in given:
         what = f"no such column, and no {lists[0].heading(PAYLOAD)} either: the mapping has to name one"
         lists[0].complain_of_heading(SIZE, what)
     complaints.refuse(command)

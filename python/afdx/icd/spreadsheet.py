@@ -1,6 +1,7 @@
 """Reads spreadsheets, .csv and .xlsx, as rows of texts that know their line."""
 import csv
 import io
+import json
 import re
 import warnings
 from collections.abc import Iterable, Iterator
@@ -19,6 +20,7 @@ from afdx.failure import INPUT, Failure
 SEPARATORS = (",", "\t", ";")
 SAID = re.compile(r"sep=([,;\t])[,;\t]*\r?\n")
 WORKBOOK, CHAIN = "xl/workbook.xml", "xl/calcChain.xml"  # parts of an .xlsx: the second is Excel's, if it computed
+SHARED = "xl/sharedStrings.xml"  # texts of all sheets
 TYPES, XLSX = "[Content_Types].xml", b"spreadsheetml.sheet.main+xml"  # the part with its kind; .xlsm has another kind
 BOOKS = (b"PK\3\4", b"\xd0\xcf\x11\xe0")  # what .xlsm and .ods begin with, and what .xls does
 UNCOMPUTED = "0"  # the value of a formula that XlsxWriter did not compute
@@ -28,6 +30,18 @@ ROW, MERGED = f"{PARTS}row", f"{PARTS}mergeCell"
 
 class Formula(str):
     """A formula in place of the value that was not saved with it."""
+
+
+class Struck(str):
+    """A text that is struck through, or a part of it."""
+
+
+@dataclass(frozen=True)
+class Marks:
+    """What tells that a cell's value is none, or is struck through."""
+    none: str  # what was saved with formulas that were not computed
+    styles: set[str]  # of cells that are struck through, by number
+    texts: set[str]  # those that all sheets share and that are struck through in part, so too
 
 
 @dataclass(frozen=True)
@@ -40,7 +54,8 @@ class Row:
 @dataclass(frozen=True)
 class Sheet:
     """A list of rows below a heading, which is the first row that is not empty."""
-    path: Path
+    place: str  # the file, and the sheet if more than one is visible
+    name: str  # of the sheet, so too
     heading: Row
     rows: list[Row]
 
@@ -61,6 +76,18 @@ def is_uncomputed(parts: ZipFile) -> bool:
         return False
     said = ElementTree.fromstring(parts.read(WORKBOOK)).find(f"{PARTS}calcPr")
     return said is not None and said.get("fullCalcOnLoad") in ("1", "true")
+
+
+def has_strike(text: ElementTree.Element) -> bool:
+    """Returns whether a text has a part that is struck through."""
+    return any(strike.get("val") not in ("0", "false") for strike in text.iter(f"{PARTS}strike"))
+
+
+def marks_of(book: Any, parts: ZipFile) -> Marks:
+    styles = {str(at) for at, style in enumerate(book._cell_styles) if book._fonts[style.fontId].strike}
+    shared = list(ElementTree.fromstring(parts.read(SHARED))) if SHARED in parts.namelist() else []
+    texts = {str(at) for at, text in enumerate(shared) if has_strike(text)}
+    return Marks(UNCOMPUTED if is_uncomputed(parts) else "", styles, texts)
 
 
 def elements_of(sheet: Any) -> Iterator[ElementTree.Element]:
@@ -97,9 +124,18 @@ def put_formula(rows: list[Row], line: int, column: int, cell: ElementTree.Eleme
             row.cells[left - 1:right] = [text if own in unsaved else own for own in row.cells[left - 1:right]]
 
 
-def put_formulas(rows: list[Row], sheet: Any, none: str) -> list[str]:
-    """Puts formulas without values where they stand, also those whose value is this text, which is none. Returns the
-    ranges of merged cells, A2:B5 for instance."""
+def put_struck(cells: list[str], column: int, cell: ElementTree.Element, marks: Marks) -> None:
+    """Marks the text of a cell that is struck through."""
+    shared = cell.findtext(f"{PARTS}v") if cell.get("t") == "s" else None
+    is_struck = cell.get("s") in marks.styles or shared in marks.texts or has_strike(cell)
+    text = cells[column - 1] if column <= len(cells) else ""
+    if is_struck and text and not isinstance(text, Formula):
+        cells[column - 1] = Struck(text)
+
+
+def put_marks(rows: list[Row], sheet: Any, marks: Marks) -> list[str]:
+    """Puts formulas without values where they stand, and marks what is struck through. Returns the ranges of merged
+    cells, A2:B5 for instance."""
     ranges, line = [], 0
     for element in elements_of(sheet):
         if element.tag == MERGED:
@@ -108,7 +144,8 @@ def put_formulas(rows: list[Row], sheet: Any, none: str) -> list[str]:
         line, column = int(element.get("r", line + 1)), 0
         for cell in element:
             column = coordinate_to_tuple(cell.attrib["r"])[1] if "r" in cell.attrib else column + 1
-            put_formula(rows, line, column, cell, none)
+            put_formula(rows, line, column, cell, marks.none)
+            put_struck(rows[line - 1].cells, column, cell, marks)
     return ranges
 
 
@@ -128,18 +165,19 @@ def spread(rows: list[Row], ranges: Iterable[str]) -> None:
                 cells[left - 1:last] = first * (last - left + 1)
 
 
-def workbook_rows(text: bytes) -> list[Row]:
-    """Returns the rows of a workbook's first visible sheet, of formulas the values that were saved with them. How
-    large the sheet says that it is does not count: programs other than Excel write less than there is."""
+def workbook_rows(text: bytes) -> tuple[list[Row], str]:
+    """Returns the rows of a workbook's first visible sheet, of formulas the values that were saved with them, and the
+    sheet's name if more than one is visible. How large the sheet says that it is does not count: programs other than
+    Excel write less than there is."""
     book = openpyxl.load_workbook(io.BytesIO(text), read_only=True, data_only=True)
-    sheet = next(sheet for sheet in book.worksheets if sheet.sheet_state == "visible")
+    sheet, *others = (sheet for sheet in book.worksheets if sheet.sheet_state == "visible")
     sheet.reset_dimensions()
     values = sheet.iter_rows(values_only=True)
     rows = [Row(line, [text_of(value) for value in row]) for line, row in enumerate(values, 1)]
     with ZipFile(io.BytesIO(text)) as parts:
-        none = UNCOMPUTED if is_uncomputed(parts) else ""
-    spread(rows, put_formulas(rows, sheet, none))
-    return rows
+        marks = marks_of(book, parts)
+    spread(rows, put_marks(rows, sheet, marks))
+    return rows, sheet.title if others else ""
 
 
 def separator_of(text: str) -> str:
@@ -171,8 +209,8 @@ def is_xlsx(text: bytes) -> bool:
         return False
 
 
-def rows_of(command: str, path: Path) -> list[Row]:
-    """Returns all rows of a file, read by its ending."""
+def rows_of(command: str, path: Path) -> tuple[list[Row], str]:
+    """Returns all rows of a file, read by its ending, and the name of a sheet that is not the only one."""
     text = files.get(command, path)
     if path.suffix.lower() == ".xlsx":
         try:
@@ -190,7 +228,7 @@ def rows_of(command: str, path: Path) -> list[Row]:
         line = text.count(b"\n", 0, text.index(b"\0")) + 1
         raise Failure(INPUT, f"{command}: zero bytes, as UTF-16 has them: it has to be UTF-8, {path} line {line}")
     try:
-        return separated_rows(text.decode("utf-8-sig"))
+        return separated_rows(text.decode("utf-8-sig")), ""
     except UnicodeDecodeError as error:
         line = text.count(b"\n", 0, error.start) + 1
         raise Failure(INPUT, f"{command}: not UTF-8, {path} line {line}") from error
@@ -200,7 +238,9 @@ def rows_of(command: str, path: Path) -> list[Row]:
 
 def read(command: str, path: Path) -> Sheet:
     """Reads a file; rows whose cells are all empty are left out."""
-    rows = [row for row in rows_of(command, path) if any(row.cells)]
+    found, name = rows_of(command, path)
+    rows = [row for row in found if any(row.cells)]
+    place = f"{path} sheet {json.dumps(name, ensure_ascii=False)}" if name else str(path)
     if not rows:
-        raise Failure(INPUT, f"{command}: no heading, {path}")
-    return Sheet(path, rows[0], rows[1:])
+        raise Failure(INPUT, f"{command}: no heading, {place}")
+    return Sheet(place, name, rows[0], rows[1:])
