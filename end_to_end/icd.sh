@@ -11,7 +11,7 @@ icd=$top/python/bin/afdx-icd
 diff=$top/python/bin/afdx-diff
 cd "$room" || exit 1
 
-# lists NAME [shuffled]: the lists, as NAME/.
+# lists NAME [shuffled|covered|struck]: the lists, as NAME/.
 lists() {
     /usr/bin/python3 "$top/end_to_end/icds.py" "$@"
 }
@@ -92,6 +92,53 @@ afdx-icd: not one of 10, 100, 1000, bad/ends.csv line 4, column MBIT, value "1"
 END
 }
 
+# one_line STATUS LISTS LINE: afdx-icd ends so for these lists, with this line alone.
+one_line() {
+    refuses "$1" "$2" && [ "$(cat said.txt)" = "afdx-icd: $3" ]
+}
+
+# taken_twice: a heading that the mapping names for two columns.
+taken_twice() {
+    cp -r lists twice && sed -i '/^id = /a bag_ms = "BAG_MS"\njitter_us = "BAG_MS"' twice/map.toml &&
+        one_line 3 twice '"BAG_MS" is the heading of bag_ms too, columns.jitter_us, twice/map.toml'
+}
+
+# zero_in_front: the number of a link as hexadecimal lists have it.
+zero_in_front() {
+    local what="begins with 0, as hexadecimal numbers may: it has to be decimal, without zeros in front"
+    cp -r lists zero && sed -i '3s/^102;/0102;/' zero/icd.csv &&
+        one_line 3 zero "$what, zero/icd.csv line 3, column VL_ID, value \"0102\""
+}
+
+# looks_like LIST COLUMN HEADING: a heading of LIST.csv that may be a missing column.
+looks_like() {
+    rm -rf alike && cp -r lists alike && sed -i "1s/\$/;$3/; 2,\$s/\$/;7/" "alike/$1.csv" &&
+        one_line 3 alike "\"$3\" may be this column: the mapping has to name it, or \"\" for none, alike/$1.csv line 1, column $2"
+}
+
+# cable_delay: the delay of the cables under such a heading, which the mapping may name.
+cable_delay() {
+    cp -r lists delays && sed -i '1s/DELAY_NS/Cable delay [ns]/' delays/wires.csv && one_line 3 delays \
+        '"Cable delay [ns]" may be this column: the mapping has to name it, or "" for none, delays/wires.csv line 1, column delay_ns' &&
+        printf '[columns.wires]\ndelay_ns = "Cable delay [ns]"\n' >>delays/map.toml && unchanged delays
+}
+
+# note: a title above a list and a note under it have a line each.
+note() {
+    local what="no more than two cells of this row are filled: if it is a note, it has to go"
+    cp -r lists noted && echo "Note 1" >>noted/icd.csv && one_line 3 noted "$what, noted/icd.csv line 122, column 1, value \"Note 1\"" &&
+        cp -r lists titled && sed -i '1i ICD rev C' titled/icd.csv && one_line 3 titled "none of the headings VL_ID, SRC_ES, DST_ES, \
+bag_ms, jitter_us, PRIO: is there a title above them, or has the mapping to name them?, titled/icd.csv line 1"
+}
+
+# in_a_workbook CHANGE STATUS LINE: of workbooks whose list of links is changed so (icds.py) afdx-icd ends so, and says this alone.
+in_a_workbook() {
+    local status=0
+    rm -rf "$1" && lists "$1" "$1" && "$icd" "$1"/{icd,ends,wires}.xlsx put --mapping "$1/map.toml" >answer.txt 2>said.txt || status=$?
+    echo "status $status: $(cat said.txt)"
+    [ "$status" -eq "$2" ] && [ "$(cat said.txt)" = "afdx-icd: $3" ]
+}
+
 # too_tight: ports without room are named, and there are no tables.
 too_tight() {
     cp -r lists tight && printf '[defaults.ends]\nbuffer = 100\n' >>tight/map.toml && refuses 4 tight &&
@@ -132,6 +179,17 @@ check "and of others what they need" others_need
 check "as comma-separated values" differs '\(.*\),link,150,changed,bag_ms,16,128' --csv
 check "a jitter that is lowered by hand is newly refused" lowered
 check "bad rows, all at once" all_at_once
+check "a heading of two columns" taken_twice
+check "a zero in front" zero_in_front
+for column in "buffer Port buffer [byte]" "buffer TxBuffer" "buffer Buf." "max_delay_us Delay max"; do
+    check "the heading ${column#* }" looks_like ends "${column%% *}" "${column#* }"
+done
+check "the heading Cable delay [ns]" cable_delay
+check "a note and a title" note
+check "a cover before the list" in_a_workbook covered 3 "none of the headings VL_ID, SRC_ES, DST_ES, bag_ms, jitter_us, PRIO: \
+is the list on another sheet, is there a title above them, or has the mapping to name them?, covered/icd.xlsx sheet \"Cover\" line 1"
+check "a row that is struck through" in_a_workbook struck 0 "warning: struck through, and read all the same: if this row does not \
+count, it has to go, struck/icd.xlsx line 3, column 1, value \"102\""
 check "a network that is refused" too_tight
 check "its tables all the same" unchecked
 rm -rf made

@@ -12,6 +12,7 @@ from random import Random
 from typing import Any
 
 import openpyxl
+from openpyxl.styles import Font
 
 Row = tuple[Any, ...]
 SWITCHES = ["SW1", "SW2", "SW3", "SW4", "SW5"]
@@ -78,7 +79,16 @@ def ways(rows: list[Row]) -> Iterator[str]:
             yield f"link {number} from {start[0]}.{start[1]} to {switch}.{port} switches {switches_between(start[0], switch)}"
 
 
-def write(path: Path, heading: Row, rows: Iterable[Row]) -> None:
+def change(book: Any, order: str) -> None:
+    """Puts a sheet before the links, or strikes the first of them through."""
+    if order == "covered":
+        book.create_sheet("Cover", 0)["A1"] = "ICD rev C"
+    if order == "struck":
+        for cell in book.active[3]:
+            cell.font = Font(strike=True)
+
+
+def write(path: Path, heading: Row, rows: Iterable[Row], order: str = "") -> None:
     if path.suffix == ".csv":
         with open(path, "w", encoding="utf-8", newline="") as file:
             csv.writer(file, delimiter=";", lineterminator="\n").writerows([heading, *rows])
@@ -86,13 +96,16 @@ def write(path: Path, heading: Row, rows: Iterable[Row]) -> None:
         book = openpyxl.Workbook()
         for row in [heading, *rows]:
             book.active.append(row)
+        if path.stem == "icd":
+            change(book, order)
         book.save(path)
 
 
 def main() -> None:
     parser = argparse.ArgumentParser(description=__doc__, formatter_class=argparse.RawDescriptionHelpFormatter)
     parser.add_argument("folder", type=Path, help="is made")
-    parser.add_argument("order", nargs="?", choices=["shuffled"], help="the same lists with their rows in another order, in workbooks")
+    parser.add_argument("order", nargs="?", choices=["shuffled", "covered", "struck"], help=(
+        "the same lists in workbooks: with their rows in another order, a cover before the links, or a link struck through"))
     given = parser.parse_args()
     folder, chance = given.folder, Random(61)
     rows = list(links(chance))
@@ -102,10 +115,8 @@ def main() -> None:
         "wires": (("SWITCH_A", "PORT_A", "SWITCH_B", "PORT_B", "MBIT", "DELAY_NS"), list(wires()))}
     folder.mkdir()
     for name, (heading, content) in lists.items():
-        if given.order:
-            write(folder / f"{name}.xlsx", heading, chance.sample(content, len(content)))
-        else:
-            write(folder / f"{name}.csv", heading, content)
+        ordered = chance.sample(content, len(content)) if given.order == "shuffled" else content
+        write(folder / f"{name}.{'xlsx' if given.order else 'csv'}", heading, ordered, given.order or "")
     (folder / "map.toml").write_text(MAPPING, encoding="utf-8")
     (folder / "ends.txt").write_text("".join(f"{way}\n" for way in ways(rows)), encoding="utf-8")
 
