@@ -3,6 +3,7 @@ import gzip
 import json
 import random
 import sqlite3
+from collections.abc import Callable
 from dataclasses import replace
 from pathlib import Path
 from typing import Any
@@ -15,9 +16,9 @@ from afdx.campaign.findings import LOST_NAMES, QUESTIONS
 from afdx.campaign.rows import rows_of
 from afdx.campaign.store import collected, store_file
 from afdx.campaign.worker.task import Table, Task
-from afdx.campaign.worker.work import work_hard
+from afdx.campaign.worker.work import answer_at, work_hard
 from afdx.failure import Failure
-from tests.campaign_samples import HEADING, row, task
+from tests.campaign_samples import HEADING, PASSED, row, task
 
 Rows = list[dict[str, Any]]
 
@@ -25,8 +26,8 @@ Rows = list[dict[str, Any]]
 def put(asked: Task, status: int, text: str, begin: int) -> None:
     """Puts an answer by hand."""
     how = {"seconds": 1.0, "processor": 0.5, "memory": 10, "tries": 1, "host": "h", "at": 0.0}
-    answer = {"status": status, "fault": "capture" if status else "", "line": "line" if status else "", "text": text,
-              "begin": begin, "how": how}
+    answer = {"key": asked.key, "status": status, "fault": "capture" if status else "",
+              "line": "line" if status else "", "text": text, "begin": begin, "how": how}
     asked.answer.parent.mkdir(parents=True, exist_ok=True)
     asked.answer.write_bytes(gzip.compress(json.dumps(answer).encode()))
 
@@ -245,7 +246,8 @@ def test_a_damaged_store_is_named(tmp_path: Path) -> None:
     assert (failure.value.status, failure.value.lines) == (5, (said,))
 
 
-@pytest.mark.parametrize("text", [b"", b"no gzip", gzip.compress(b"{}" * 99)[:-9], gzip.compress(b"{")])
+@pytest.mark.parametrize("text", [b"", b"no gzip", gzip.compress(b"{}" * 99)[:-9], gzip.compress(b"{"),
+                                  gzip.compress(b"{}"), gzip.compress(b"[]"), gzip.compress(b"[" * 99999)])
 def test_a_damaged_answer_is_named(tmp_path: Path, text: bytes) -> None:
     asked = task(tmp_path)
     asked.answer.parent.mkdir(parents=True)
@@ -254,6 +256,40 @@ def test_a_damaged_answer_is_named(tmp_path: Path, text: bytes) -> None:
         digest(Path(asked.root), [asked])
     assert error.value.strerror == "damaged: remove it, and `run` asks again"
     assert error.value.filename == str(asked.answer)
+
+
+@pytest.mark.parametrize("field, value", [("key", "0" * 64), ("status", "0"), ("text", None), ("how", {"at": 0.0})])
+def test_an_answer_of_other_fields_is_damaged(tmp_path: Path, field: str, value: object) -> None:
+    asked = task(tmp_path)
+    put(asked, 0, "", 0)
+    assert answer_at(asked.answer)["status"] == 0
+    answer = json.loads(gzip.decompress(asked.answer.read_bytes())) | {field: value}
+    asked.answer.write_bytes(gzip.compress(json.dumps(answer).encode()))
+    with pytest.raises(OSError) as error:
+        answer_at(asked.answer)
+    assert error.value.strerror == "damaged: remove it, and `run` asks again"
+
+
+@pytest.mark.parametrize("forgets", [lambda asked: forget(Path(asked.root), [asked], 3),
+                                     lambda asked: asked.answer.unlink()])
+def test_a_new_answer_takes_the_place_of_one_that_was_forgotten(tmp_path: Path,
+                                                                forgets: Callable[[Task], object]) -> None:
+    """Checks it without a look into the store in between, of tables that share the answer too."""
+    asked = task(tmp_path)
+    root = Path(asked.root)
+    tasks = [asked, of_table(asked, "other", asked.table.identity)]
+    put(asked, 3, "", 0)
+    with collected(root, tasks) as base:
+        assert base.execute("select count(*) from faults").fetchone() == (2,)
+    forgets(asked)
+    put(asked, 0, f"{HEADING}\n{PASSED}", 7)
+    with collected(root, tasks) as base:
+        assert base.execute("select count(*) from faults").fetchone() == (0,)
+        assert base.execute("select status, begin from runs").fetchall() == [(0, 7), (0, 7)]
+        assert base.execute("select count(*) from links").fetchone() == (2,)
+        changes = base.total_changes
+    with collected(root, tasks) as base:
+        assert base.total_changes <= changes and base.execute("select count(*) from links").fetchone() == (2,)
 
 
 def test_the_digest_is_of_the_names_that_tables_have_now(tmp_path: Path) -> None:

@@ -13,12 +13,13 @@ from typing import BinaryIO
 
 import pytest
 
+from afdx.campaign.answers import forget_outdated, left_of
 from afdx.campaign.worker.files import scratch_folder
 from afdx.campaign.worker.program import TIMED_OUT, Program, Said
 from afdx.campaign.worker.questions import ask, remove_parts
 from afdx.campaign.worker.stamps import first_stamp
-from afdx.campaign.worker.task import Task
-from afdx.campaign.worker.work import answer_at, work, work_hard
+from afdx.campaign.worker.task import Task, identity_of
+from afdx.campaign.worker.work import answer_at, note_change, work, work_hard
 from captures import header, words
 from tests.campaign_samples import DELAYS, HEADING, PASSED, PATIENCE, QUIET, SEEN, await_number, ends, row, task
 
@@ -96,12 +97,103 @@ def test_what_changes_while_it_is_read_is_a_fault(tmp_path: Path, act: str, faul
     assert answer_at(asked.answer)["fault"] == fault
 
 
-def test_a_missing_capture_is_a_fault(tmp_path: Path) -> None:
+def listed(asked: Task, by_content: bool = False) -> Task:
+    """Returns the task with its recording as it is now."""
+    own = asked.recording
+    return replace(asked, recording=replace(own, by_content=by_content, identity=identity_of(
+        own.name, own.folder, own.files, by_content)))
+
+
+def fault_at(asked: Task) -> tuple[str, int, str]:
+    """Returns how a task ends."""
+    assert work_hard(asked).answered
+    answer = answer_at(asked.answer)
+    return answer["fault"], answer["status"], answer["line"]
+
+
+@pytest.mark.parametrize("by_content", [False, True])
+def test_a_missing_capture_is_a_fault(tmp_path: Path, by_content: bool) -> None:
     asked = task(tmp_path)
     Path(asked.recording.folder, "port-2.pcap").unlink()
-    work_hard(asked)
-    answer = answer_at(asked.answer)
-    assert (answer["fault"], answer["line"]) == ("missing", f"no port-2.pcap in {asked.recording.folder}")
+    line = f"no port-2.pcap in {asked.recording.folder}"
+    assert fault_at(listed(asked, by_content)) == ("missing", 5, line)
+
+
+@pytest.mark.parametrize("by_content", [False, True])
+@pytest.mark.parametrize("make", [os.mkfifo, os.mkdir])
+def test_what_is_no_regular_file_is_a_fault_at_once(tmp_path: Path, make: Callable[[Path], None],
+                                                    by_content: bool) -> None:
+    """Checks that a pipe is not opened, which would wait for its writer: neither when it is listed nor afterwards."""
+    asked = task(tmp_path)
+    capture = Path(asked.recording.folder, "port-2.pcap")
+    capture.unlink()
+    make(capture)
+    line = f"no regular file: port-2.pcap in {asked.recording.folder}"
+    assert fault_at(listed(asked, by_content)) == ("capture", 3, line)
+
+
+@pytest.mark.parametrize("by_content", [False, True])
+def test_a_capture_out_of_reach_is_tried_again(tmp_path: Path, by_content: bool) -> None:
+    asked = listed(task(tmp_path), by_content)
+    capture = Path(asked.recording.folder, "port-2.pcap")
+    capture.unlink()
+    capture.symlink_to(capture.name)  # a loop
+    line = f"cannot read {capture}: Too many levels of symbolic links"
+    assert not work(asked, 1).answered
+    assert fault_at(asked) == ("device", 5, line)
+    again = listed(asked, by_content)
+    assert again.key != asked.key and fault_at(again) == ("device", 5, line)
+
+
+@pytest.mark.parametrize("by_content", [False, True])
+@pytest.mark.parametrize("away", ["folder", "capture", "while it is read", "out of reach while it is read"])
+def test_a_recording_that_was_away_is_asked_again(tmp_path: Path, by_content: bool, away: str) -> None:
+    """Checks that it changed, that what was kept of it stays, and that the next run asks, once, as it is again."""
+    act = f"""[ ! -e "{tmp_path}/stays" ] && [ -e "{tmp_path}/reads" ] && mv "$folder/port-2.pcap" "{tmp_path}/away"
+    [ ! -e "{tmp_path}/loop" ] || ln -s port-2.pcap "$folder/port-2.pcap"
+    echo text >"$out/port-1.pcap"
+    {QUIET}"""
+    asked = listed(task(tmp_path, act, ask="run", keep="all", tries=1), by_content)
+    root, folder, kept = Path(asked.root), Path(asked.recording.folder), tmp_path / "campaign/kept/t/r1/old.pcap"
+    kept.parent.mkdir(parents=True)
+    kept.write_text("text")
+    for file, when in (("reads", "while"), ("loop", "out of reach")):
+        if when in away:
+            (tmp_path / file).touch()
+    moved = folder if away == "folder" else folder / "port-2.pcap"
+    if "read" not in away:
+        moved.rename(tmp_path / "away")
+    fault, status, line = fault_at(asked)
+    if "reach" in away:
+        assert (fault, status) == ("device", 5)
+        return
+    assert (fault, status, line) == ("changed", 75, f"the recording {folder} changed since it was listed")
+    assert kept.exists()
+    assert left_of(root, [replace(asked, keep="policed")]) == [0]
+    (tmp_path / "away").rename(moved)
+    (tmp_path / "stays").touch()
+    assert listed(asked, by_content).key == asked.key and left_of(root, [asked]) == [0]
+    forget_outdated(root, [asked])
+    assert not asked.answer.exists()
+    assert fault_at(asked) == ("", 0, "")
+    assert not kept.exists()
+    forget_outdated(root, [asked])
+    assert left_of(root, [asked]) == []
+    note, = (root / "changed").iterdir()
+    os.utime(note, (0, 0))
+    forget_outdated(root, [asked])
+    assert not note.exists() and left_of(root, [asked]) == []
+
+
+def test_a_note_of_a_change_without_an_answer(tmp_path: Path) -> None:
+    """Checks that what a worker leaves which is killed before it puts that answer is in nobody's way."""
+    asked = task(tmp_path)
+    note_change(asked)
+    root = Path(asked.root)
+    assert left_of(root, [asked]) == [0]
+    forget_outdated(root, [asked])
+    assert fault_at(asked) == ("", 0, "")
+    assert left_of(root, [asked]) == []
 
 
 def test_children_have_the_limits_of_the_task(tmp_path: Path) -> None:
@@ -216,6 +308,19 @@ def test_parts_that_a_killed_worker_left_do_not_stay(tmp_path: Path) -> None:
     os.utime(begun, (0, 0))
     remove_parts(tmp_path / "campaign")
     assert list(folder.glob("*")) == [folder / "port-1.pcap"]
+
+
+def test_old_parts_of_answers_do_not_stay(tmp_path: Path) -> None:
+    """Checks that those which another driver may be putting stay."""
+    asked = task(tmp_path)
+    work_hard(asked)
+    old, new = (asked.answer.with_name(f".{asked.answer.name}.0000000{number}") for number in range(2))
+    for part in (old, new):
+        part.write_text("text")
+    for path in (old, asked.answer):
+        os.utime(path, (0, 0))
+    remove_parts(Path(asked.root))
+    assert sorted(asked.answer.parent.glob("*")) == [new, asked.answer]
 
 
 @pytest.mark.parametrize("ask, kept", [

@@ -1,11 +1,13 @@
 """Finds the answers of a campaign in its folder."""
+import contextlib
 import hashlib
 import json
 from collections.abc import Iterable, Iterator
 from pathlib import Path
 
+from afdx.campaign.worker.files import remove_old
 from afdx.campaign.worker.task import Task
-from afdx.campaign.worker.work import Answer, answer_at
+from afdx.campaign.worker.work import Answer, answer_at, changes_folder
 
 ENDING = ".json.gz"
 
@@ -15,9 +17,42 @@ def keys_there(root: Path) -> set[str]:
     return {path.name.removesuffix(ENDING) for path in root.glob(f"answers/*/*{ENDING}")}
 
 
+def files_there(root: Path) -> dict[str, str]:
+    """Returns, by key, which files the answers are: another answer of a key is another file."""
+    found = {}
+    for path in root.glob(f"answers/*/*{ENDING}"):
+        with contextlib.suppress(FileNotFoundError):  # forgotten at this moment
+            status = path.stat()
+            found[path.name.removesuffix(ENDING)] = f"{status.st_ino} {status.st_size} {status.st_mtime_ns}"
+    return found
+
+
+def outdated(root: Path, tasks: list[Task]) -> set[str]:
+    """Returns the keys of answers that say of a task that something had changed, though all is now as its key says."""
+    noted = {path.name for path in changes_folder(root).glob("*")}
+    found = set()
+    for task in tasks:
+        if task.key in noted:
+            with contextlib.suppress(FileNotFoundError):  # a worker may have been killed before it put the answer
+                found.update([task.key] if answer_at(task.answer)["fault"] == "changed" else [])
+    return found
+
+
+def forget_outdated(root: Path, tasks: list[Task]) -> None:
+    """Removes these answers, and the notes of those that are true now. A worker may have made a new one for an answer
+    that it has yet to put."""
+    keys = outdated(root, tasks)
+    for task in tasks:
+        if task.key in keys:
+            task.answer.unlink(missing_ok=True)
+    noted = {path.name: path for path in changes_folder(root).glob("*")}
+    for key in {task.key for task in tasks} & noted.keys() - keys:
+        remove_old(noted[key])
+
+
 def left_of(root: Path, tasks: list[Task]) -> list[int]:
-    """Returns the numbers of the tasks that have no answer."""
-    there = keys_there(root)
+    """Returns the numbers of the tasks that have no answer, or none that is true any more."""
+    there = keys_there(root) - outdated(root, tasks)
     return [number for number, task in enumerate(tasks) if task.key not in there]
 
 

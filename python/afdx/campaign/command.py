@@ -7,7 +7,7 @@ from pathlib import Path
 from typing import NoReturn
 
 from afdx import modules
-from afdx.campaign.answers import answered, digest, forget, left_of
+from afdx.campaign.answers import answered, digest, forget, forget_outdated, left_of
 from afdx.campaign.engines import Options, engine_of
 from afdx.campaign.failures import COMMAND, gone
 from afdx.campaign.plan import get_plan, put_plan, tasks_of
@@ -87,6 +87,7 @@ def run(campaign: Campaign, options: argparse.Namespace) -> int:
         print(f"{len(tasks)} tasks, {len(tasks) - len(left)} answered, {len(left)} left, of {size / 1e6:,.1f} MB")
         return DONE
     put_plan(campaign, tasks)
+    forget_outdated(campaign.root, tasks)
     try:
         with Progress(campaign.root / "campaign.log", tasks, left) as progress:
             engine(tasks, left, Options(campaign.root, options.engine, options.jobs, campaign.limits.patience,

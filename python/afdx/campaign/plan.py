@@ -103,8 +103,15 @@ def recordings_of(folders: dict[str, str], files: tuple[str, ...], by_content: b
 
 def size_of(folder: str, files: tuple[str, ...]) -> int:
     """Returns the bytes of the captures that are there."""
-    paths = [os.path.join(folder, file) for file in files]
-    return sum(os.path.getsize(path) for path in paths if os.path.exists(path))
+    return sum(size_at(os.path.join(folder, file)) for file in files)
+
+
+def size_at(path: str) -> int:
+    """Returns the bytes of a file, none of what cannot be looked at: that is for the task."""
+    try:
+        return os.path.getsize(path)
+    except OSError:
+        return 0
 
 
 def plan_file(root: Path) -> Path:

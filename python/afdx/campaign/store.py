@@ -5,7 +5,7 @@ from collections.abc import Iterator, Sequence
 from pathlib import Path
 from typing import Any
 
-from afdx.campaign.answers import keys_there
+from afdx.campaign.answers import files_there
 from afdx.campaign.failures import failure
 from afdx.campaign.rows import PORT, rows_of
 from afdx.campaign.worker.files import locked
@@ -13,13 +13,13 @@ from afdx.campaign.worker.task import Task
 from afdx.campaign.worker.work import Answer, answer_at
 from afdx.failure import DEVICE
 
-VERSION = 2  # of the schema; a store of another one is made again
+VERSION = 3  # of the schema; a store of another one is made again
 BATCH = 200  # runs of a transaction
 QUOTED = ", ".join(f'"{name}" integer' for name in PORT)
 SCHEMA = f"""
 create table if not exists tables (id integer primary key, name text not null unique, unchecked integer not null);
 create table if not exists runs (
-    id integer primary key, key text not null, recording text not null,
+    id integer primary key, key text not null, file text not null, recording text not null,
     "table" integer not null references tables, begin integer, size integer not null, status integer not null,
     seconds real, processor real, memory integer, tries integer, host text, at real);
 create unique index if not exists runs_of_tables on runs ("table", recording);
@@ -40,7 +40,7 @@ create table if not exists spells (
 create table if not exists faults (
     run integer primary key, status integer not null, fault text not null, line text not null);
 """
-STORED = 'select tables.name, key, runs.id from runs join tables on tables.id = runs."table"'
+STORED = 'select tables.name, key, file, runs.id from runs join tables on tables.id = runs."table"'
 OF_RUNS = ("links", "ports", "delays", "spells", "faults")
 
 
@@ -88,15 +88,17 @@ def collect(base: sqlite3.Connection, root: Path, tasks: list[Task]) -> None:
     """Adds the answers that are new, and removes the runs that no task asks for or whose answer was forgotten.
 
     An answer is of what a table says, not of its name: tables of the same bytes share it, and it stays if it is asked
-    for under another name.
+    for under another name. One that was forgotten and is there again is another file. Files are looked at before they
+    are read: what is put in between is another one the next time.
     """
-    there = keys_there(root)
-    wanted = {(task.table.name, task.key): task for task in tasks if task.key in there}
+    there = files_there(root)
+    wanted = {(task.table.name, task.key, there[task.key]): task for task in tasks if task.key in there}
     tables = name_tables(base, tasks)
-    stored = {(table, key): number for table, key, number in base.execute(STORED)}
+    stored = {(table, key, file): number for table, key, file, number in base.execute(STORED)}
     remove(base, [number for place, number in stored.items() if place not in wanted])
     for number, place in enumerate(place for place in wanted if place not in stored):
-        add(base, wanted[place], tables[wanted[place].table.name], answer_at(wanted[place].answer))
+        table, _, file = place
+        add(base, wanted[place], tables[table], file, answer_at(wanted[place].answer))
         if number % BATCH == BATCH - 1:
             base.commit()
     base.execute("analyze")
@@ -122,14 +124,14 @@ def name_tables(base: sqlite3.Connection, tasks: list[Task]) -> dict[str, int]:
     return dict(base.execute("select name, id from tables"))
 
 
-def add(base: sqlite3.Connection, task: Task, table: int, answer: Answer) -> None:
+def add(base: sqlite3.Connection, task: Task, table: int, file: str, answer: Answer) -> None:
     """Adds an answer."""
     how = answer["how"]
     run = base.execute(
-        'insert into runs (key, recording, "table", begin, size, status, seconds, processor, memory, tries, host, at) '
-        "values (?, ?, ?, ?, ?, ?, ?, ?, ?, ?, ?, ?)",
-        (task.key, task.recording.name, table, answer["begin"], task.recording.size, answer["status"], how["seconds"],
-         how["processor"], how["memory"], how["tries"], how["host"], how["at"])).lastrowid
+        'insert into runs (key, file, recording, "table", begin, size, status, seconds, processor, memory, tries, '
+        "host, at) values (?, ?, ?, ?, ?, ?, ?, ?, ?, ?, ?, ?, ?)",
+        (task.key, file, task.recording.name, table, answer["begin"], task.recording.size, answer["status"],
+         how["seconds"], how["processor"], how["memory"], how["tries"], how["host"], how["at"])).lastrowid
     if answer["status"]:
         line = answer["line"].encode("utf-8", "surrogateescape").decode("utf-8", "replace")  # as a file may be called
         base.execute("insert into faults values (?, ?, ?, ?)", (run, answer["status"], answer["fault"], line))

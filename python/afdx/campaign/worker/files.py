@@ -14,7 +14,7 @@ from typing import BinaryIO
 from afdx.files import put_by
 
 SCRATCH = ".afdx-campaign-scratch-"  # no user's own folder begins so: what no maker holds is removed
-NEW = 3600  # seconds, by clocks that may differ
+NEW, OLD = 3600, 86400  # seconds, by clocks that may differ
 
 
 def put(path: Path, write: Callable[[BinaryIO], object]) -> None:
@@ -49,6 +49,13 @@ def remove_left(path: Path) -> None:
         fcntl.flock(file, fcntl.LOCK_EX | fcntl.LOCK_NB)
         status = os.fstat(file.fileno())
         if status.st_size or status.st_mtime < time.time() - NEW:
+            path.unlink()
+
+
+def remove_old(path: Path) -> None:
+    """Removes what `put` left when it was killed; it holds no lock, so what another worker may be putting yet stays."""
+    with contextlib.suppress(OSError):
+        if path.stat().st_mtime < time.time() - OLD:
             path.unlink()
 
 

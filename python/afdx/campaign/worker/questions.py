@@ -5,7 +5,7 @@ import csv
 import shutil
 from pathlib import Path
 
-from afdx.campaign.worker.files import put_copy, remove_left
+from afdx.campaign.worker.files import put_copy, remove_left, remove_old
 from afdx.campaign.worker.program import Program, Said
 from afdx.campaign.worker.task import Task
 
@@ -89,6 +89,8 @@ def clear(folder: Path, kept: set[Path]) -> None:
 
 
 def remove_parts(root: Path) -> None:
-    """Removes the parts of outputs that killed workers left anywhere in a campaign."""
+    """Removes the parts of outputs and of answers that killed workers left anywhere in a campaign."""
     for path in (root / "kept").rglob(".*"):
         remove_left(path)
+    for path in root.glob("answers/*/.*"):
+        remove_old(path)

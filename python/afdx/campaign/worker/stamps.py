@@ -1,6 +1,7 @@
 """Reads the first stamp of captures, which says when a recording began."""
 from __future__ import annotations
 
+import os
 import struct
 from collections.abc import Iterable
 
@@ -16,7 +17,9 @@ def first_stamp(paths: Iterable[str]) -> int | None:
 
 
 def stamp_of(path: str) -> int | None:
-    """Returns the stamp of the first record; none if there is none."""
+    """Returns the stamp of the first record; none if there is none. What is no regular file is not opened."""
+    if not os.path.isfile(path):
+        return None
     try:
         with open(path, "rb") as file:
             head = file.read(32)

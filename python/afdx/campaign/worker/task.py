@@ -4,12 +4,15 @@ from __future__ import annotations
 import hashlib
 import json
 import os
+import stat
+from collections.abc import Iterable
 from dataclasses import dataclass
 from pathlib import Path
 from typing import Any
 
 FORM = 2  # of an answer; another form makes other keys
 PIECE = 1 << 20
+MISSING, IRREGULAR = "missing", "no regular file"  # what a capture may be
 
 
 @dataclass(frozen=True)
@@ -80,20 +83,37 @@ def content_of(path: str | Path) -> str:
 
 
 def identity_of(name: str, folder: str, files: tuple[str, ...], by_content: bool) -> str:
-    """Hashes a recording's name, and of each file size and time of change, or its bytes, or that it is missing, or why
-    it cannot be read: that is a fault of this recording, and in no other's way."""
+    """Returns the identity of a recording as it is now."""
+    return identity_by(name, files, signs_of(folder, files, by_content))
+
+
+def identity_by(name: str, files: tuple[str, ...], signs: Iterable[str | OSError]) -> str:
+    """Hashes a recording's name and the signs of its files, or why one cannot be read: that is a fault of this
+    recording, and in no other's way."""
     digest = hashlib.sha256(name.encode("utf-8", "surrogateescape"))
-    for file in files:
-        path = os.path.join(folder, file)
-        try:
-            status = os.stat(path)
-            said = content_of(path) if by_content else f"{status.st_size} {status.st_mtime_ns}"
-        except FileNotFoundError:
-            said = "missing"
-        except OSError as error:
-            said = str(error.strerror)
+    for file, sign in zip(files, signs):
+        said = sign if isinstance(sign, str) else str(sign.strerror)
         digest.update(f"\n{file} {said}".encode())
     return digest.hexdigest()
+
+
+def signs_of(folder: str, files: tuple[str, ...], by_content: bool) -> list[str | OSError]:
+    """Returns what tells each file of a recording from another one of its name."""
+    return [sign_of(os.path.join(folder, file), by_content) for file in files]
+
+
+def sign_of(path: str, by_content: bool) -> str | OSError:
+    """Returns size and time of change of a capture, or a hash of its bytes; or that it is none, which is not opened; or
+    why it cannot be read."""
+    try:
+        status = os.stat(path)
+        if not stat.S_ISREG(status.st_mode):
+            return IRREGULAR
+        return content_of(path) if by_content else f"{status.st_size} {status.st_mtime_ns}"
+    except (FileNotFoundError, NotADirectoryError):
+        return MISSING
+    except OSError as error:
+        return error
 
 
 def table_identity(files: tuple[str, ...]) -> str:

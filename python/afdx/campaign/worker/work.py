@@ -12,14 +12,13 @@ from dataclasses import dataclass
 from pathlib import Path
 from typing import TypedDict
 
+from afdx.campaign.worker.captures import CHANGED, DEVICE, INPUT, Refused, check_captures, check_listed
 from afdx.campaign.worker.files import put, scratch_folder
 from afdx.campaign.worker.program import TIMED_OUT, Program, Said, Used
 from afdx.campaign.worker.questions import ask, keep
 from afdx.campaign.worker.stamps import first_stamp
-from afdx.campaign.worker.task import FORM, Task, content_of, identity_of, table_identity
+from afdx.campaign.worker.task import FORM, Task, content_of, table_identity
 
-DEVICE = 5  # the program's status if a file or memory fails
-CHANGED = 75
 LOST = 137  # as of a process that was killed
 AGAIN = ("device", "memory", "timeout", "signal", "program")  # faults of which another try may rid the task
 PASSING = (*AGAIN, "changed")  # faults that another worker of the task may not meet: they leave what is kept
@@ -60,14 +59,6 @@ class Answer(TypedDict):
     how: How
 
 
-class Refused(Exception):
-    """A fault of a task before or after its question is asked."""
-
-    def __init__(self, fault: str, status: int, line: str) -> None:
-        super().__init__(line)
-        self.fault, self.status, self.line = fault, status, line
-
-
 def work(task: Task, attempt: int) -> Outcome:
     """Does a task unless its answer is there. A fault that may pass is an answer in the last try alone.
 
@@ -88,6 +79,8 @@ def work(task: Task, attempt: int) -> Outcome:
             return Outcome(status_of(task.answer), True)
         if task.keep != "none" and fault not in PASSING:
             keep(task, scratch)
+    if fault == "changed":
+        note_change(task)
     put_answer(task, said, fault, program.used, attempt)
     return Outcome(said.status, True)
 
@@ -104,13 +97,9 @@ def work_hard(task: Task) -> Outcome:
 
 def asked(task: Task, program: Program, scratch: Path) -> Said:
     """Asks of a recording that is whole and stays as it is, as program and table do that the plan has."""
-    recording = task.recording
-    missing = [file for file in recording.files if not os.path.isfile(os.path.join(recording.folder, file))]
-    if missing:
-        raise Refused("missing", DEVICE, f"no {', '.join(missing)} in {recording.folder}")
+    check_captures(task.recording)
     said = ask(task, program, scratch)
-    if identity_of(recording.name, recording.folder, recording.files, recording.by_content) != recording.identity:
-        raise Refused("changed", CHANGED, f"the recording {recording.folder} changed since it was listed")
+    check_listed(task.recording)
     try:
         changed = [what for what, now, planned in (
             ("program", program_identity(task.program), task.program_identity),
@@ -124,8 +113,8 @@ def asked(task: Task, program: Program, scratch: Path) -> Said:
 
 def fault_of(said: Said) -> str:
     """Returns the kind of a fault; empty if there is none."""
-    kinds = {0: "", 3: "capture", DEVICE: "memory" if said.line == "afdx: memory" else "device", TIMED_OUT: "timeout",
-             126: "program", 127: "program"}
+    kinds = {0: "", INPUT: "capture", DEVICE: "memory" if said.line == "afdx: memory" else "device",
+             TIMED_OUT: "timeout", 126: "program", 127: "program"}
     return kinds.get(said.status, "signal" if said.status > 128 else "refused")
 
 
@@ -156,6 +145,21 @@ def put_answer(task: Task, said: Said, fault: str, used: Used, tries: int) -> No
     put(task.answer, lambda file: file.write(gzip.compress(text, 6, mtime=0)))
 
 
+def changes_folder(root: str | Path) -> Path:
+    """Returns the folder that has a file for each answer `changed`, by its key."""
+    return Path(root, "changed")
+
+
+def note_change(task: Task) -> None:
+    """Notes that the answer will be `changed`, so that `run` finds it among all: of the task it is not true for good.
+
+    Noted first: a worker that is killed in between leaves a note without an answer, and no answer without its note.
+    """
+    folder = changes_folder(task.root)
+    folder.mkdir(parents=True, exist_ok=True)
+    (folder / task.key).touch()
+
+
 def put_lost(task: Task, line: str) -> None:
     """Puts the fault of a task that ended each worker which tried it, unless one of another driver answered it."""
     if not task.answer.exists():
@@ -167,9 +171,23 @@ def answer_at(path: Path) -> Answer:
     try:
         with gzip.open(path) as file:
             answer: Answer = json.load(file)
+        check_answer(answer, path)
         return answer
-    except (EOFError, ValueError, zlib.error, gzip.BadGzipFile) as error:
+    except (EOFError, LookupError, TypeError, ValueError, RecursionError, zlib.error, gzip.BadGzipFile) as error:
         raise OSError(errno.EIO, "damaged: remove it, and `run` asks again", str(path)) from error
+
+
+def check_answer(answer: Answer, path: Path) -> None:
+    """Raises LookupError, TypeError or ValueError if this is no answer, or that of another key."""
+    how = answer["how"]
+    numbers = [answer["status"], answer["begin"] or 0, how["memory"], how["tries"]]
+    measured = [how["seconds"], how["processor"], how["at"]]
+    texts = [answer["fault"], answer["line"], answer["text"], how["host"]]
+    if not (all(isinstance(value, int) for value in numbers) and all(isinstance(value, str) for value in texts)
+            and all(isinstance(value, (int, float)) for value in measured)):
+        raise TypeError
+    if answer["key"] != path.name.partition(".")[0]:
+        raise ValueError
 
 
 def status_of(path: Path) -> int:
