@@ -26,7 +26,15 @@ REFUSED = [
     (GOOD + "[limits]\ntimeout_s = inf\n", "timeout_s is no number above 0 and at most 1000000000, [limits]"),
     (GOOD + f"[limits]\ntimeout_s = 1{'0' * 400}\n", "timeout_s is no number, [limits]"),
     (GOOD + "[limits]\nmemory = -1.5\n", "memory is no number above 0 and at most 1000000000, [limits]"),
-    (GOOD.replace('["flights/*/run*"]', "[]"), "recordings is no list of patterns, top")]
+    (GOOD.replace('["flights/*/run*"]', "[]"), "recordings is no list of patterns, top"),
+    (GOOD.replace('["flights/*/run*"]', '[""]'), "a pattern in recordings is empty, top"),
+    (GOOD.replace("flights/*", "a\\u0000b*"), "a NUL in a pattern in recordings, top"),
+    (GOOD.replace("./afdx", ""), "program is empty, top"),
+    (GOOD.replace("./afdx", "a\\u0000b"), "a NUL in program, top"),
+    (GOOD.replace('"campaign"', '""'), "root is empty, top"),
+    (GOOD.replace('"campaign"', '"a\\u0000b"'), "a NUL in root, top"),
+    ('scratch = "a\\u0000b"\n' + GOOD, "a NUL in scratch, top"),
+    (GOOD.replace("one.toml", "a\\u0000b"), "a NUL in file, [[table]] 1")]
 
 
 @pytest.mark.parametrize("text, line", REFUSED)

@@ -79,6 +79,16 @@ class Section:
             raise self.fail(f"{key} is no {WORDS[kind]}")
         return value
 
+    def take_path(self, key: str, default: object = REQUIRED) -> str:
+        """Takes a path."""
+        return self.checked(self.take(key, str, default), key)
+
+    def checked(self, path: str, key: str) -> str:
+        """Returns a path or a pattern, if it may be one."""
+        if not path or "\0" in path:
+            raise self.fail(f"{key} is empty" if not path else f"a NUL in {key}")
+        return path
+
     def take_one_of(self, key: str, words: tuple[str, ...]) -> str:
         """Takes one of these words, the first by default."""
         word = self.take(key, str, words[0])
@@ -117,18 +127,20 @@ def read_campaign(path: Path) -> Campaign:
 def campaign_of(top: Section, path: Path) -> Campaign:
     """Returns what the sections of the file say."""
     folder = path.parent
-    program = program_of(top.take("program", str, ""), folder)
+    program = program_of(top.take_path("program") if "program" in top.values else "", folder)
     if not program:
         raise top.fail("no key program, and no program afdx is on the path")
     recordings = top.take("recordings", list)
     if not recordings or not all(isinstance(pattern, str) for pattern in recordings):
         raise top.fail("recordings is no list of patterns")
+    for pattern in recordings:
+        top.checked(pattern, "a pattern in recordings")
     campaign = Campaign(
         file=path, program=program,
-        recordings=tuple(recordings), root=folder / top.take("root", str),
+        recordings=tuple(recordings), root=folder / top.take_path("root"),
         ask=top.take_one_of("ask", ASKS), keep=top.take_one_of("keep", KEEPS),
         by_content=top.take_one_of("identity", IDENTITIES) == "content",
-        scratch=str(folder / top.take("scratch", str, tempfile.gettempdir())),
+        scratch=str(folder / top.take_path("scratch", tempfile.gettempdir())),
         tables=tables_of(top, folder), limits=limits_of(top))
     top.end()
     if campaign.ask == "survey" and campaign.keep != "none":
@@ -148,7 +160,7 @@ def tables_of(top: Section, folder: Path) -> tuple[Configured, ...]:
     found = [(section, kind == "network") for kind in ("table", "network") for section in top.take_sections(kind)]
     tables: list[Configured] = []
     for section, network in found:
-        name, file = section.take("name", str), folder / section.take("file", str)
+        name, file = section.take("name", str), folder / section.take_path("file")
         unchecked = section.take("unchecked", bool, False)
         section.end()
         if not name or not set(name) <= NAME or name.startswith("."):
