@@ -76,6 +76,48 @@ asks_anew() {
     "$campaign" status anew.toml | grep '^4 tasks, 3 answered, 0 of them faults, 1 left'
 }
 
+# has_one_answer: that campaign's line, CSV and page have the recording's answer, and no fault.
+has_one_answer() {
+    cat answer.txt
+    grep -qF '1 tasks, 1 answered, 0 of them faults, 0 left' answer.txt && [ "$(wc -l <forgotten/csv/faults.csv)" -eq 1 ] &&
+        grep -q '^before,.*,r0014$' forgotten/csv/worst.csv && ! grep -q 'is a fault' forgotten/campaign.html
+}
+
+# answers_anew: an answer that was forgotten, or removed by hand, is on the page, in the CSV and in the line and the status of `run` as
+# it is when it was asked for again.
+answers_anew() {
+    local file
+    campaign forgotten 'recordings = ["few/r0014"]'
+    printf '%s\n' '[limits]' 'tries = 1' 'timeout_s = 0.001' >>forgotten.toml
+    ends_so 1 "" run forgotten.toml && grep ',timeout,' forgotten/csv/faults.csv || return 1
+    sed -i 's/^timeout_s.*/timeout_s = 100/' forgotten.toml
+    "$campaign" again forgotten.toml --status 124 && ends_so 0 "" run forgotten.toml && has_one_answer || return 1
+    file=$(find "$PWD/forgotten/answers" -name '*.json.gz')
+    echo '{}' | gzip >"$file"
+    ends_so 5 "afdx-campaign: cannot read or write $file: damaged: remove it, and \`run\` asks again" page forgotten.toml || return 1
+    rm "$file" && ends_so 0 "" run forgotten.toml && has_one_answer
+}
+
+# comes_back: a recording that is away for a moment while it is asked for has changed; `run` asks again once it is back.
+comes_back() {
+    campaign away 'recordings = ["few/r0014"]'
+    printf '#!/bin/sh\n[ "$1" != survey ] || [ -e %s/away.pcap ] || mv %s/few/r0014/port-3.pcap %s/away.pcap\nexec "%s" "$@"\n' \
+        "$room" "$room" "$room" "$AFDX" >mover && chmod +x mover && sed -i "s|^program = .*|program = \"$room/mover\"|" away.toml
+    ends_so 1 "" run away.toml && grep "^before,r0014,75,changed,1,the recording $room/few/r0014 changed" away/csv/faults.csv || return 1
+    cp -p away.pcap few/r0014/port-3.pcap && "$campaign" run away.toml --dry | grep -F '1 tasks, 0 answered, 1 left' &&
+        ends_so 0 "" run away.toml && [ "$(wc -l <away/csv/faults.csv)" -eq 1 ] && "$campaign" run away.toml --dry | grep -F '1 tasks, 1 answered, 0 left'
+}
+
+# pipes_are_faults: a named pipe in the place of a capture is one at once, and so is a loop of links, which is tried again.
+pipes_are_faults() {
+    campaign pipes 'recordings = ["odd/*"]' 'identity = "content"'
+    mkdir odd && cp -r few/r001[456] odd && rm odd/*/port-3.pcap && mkfifo odd/r0014/port-3.pcap && ln -s port-3.pcap odd/r0015/port-3.pcap
+    timeout 120 "$campaign" run pipes.toml
+    [ $? -eq 1 ] && is "$(tail -n +2 pipes/csv/faults.csv)" "before,r0014,3,capture,1,no regular file: port-3.pcap in $room/odd/r0014
+before,r0015,5,device,3,cannot read $room/odd/r0015/port-3.pcap: Too many levels of symbolic links
+before,r0016,5,missing,1,no port-3.pcap in $room/odd/r0016"
+}
+
 # full_disk: a root without room ends it with status 5 and a line; with room the same command goes on, to the same answers.
 full_disk() {
     local as_root=()
@@ -127,6 +169,9 @@ check "are on the page" page_says '45 of 45 tasks are answered, 3 of them are fa
 check "the page in a browser" /usr/bin/python3 "$top/end_to_end/campaign_page.py" "$made"
 check "two tables, and their page in a browser" compares
 check "what changed is asked anew" asks_anew
+check "an answer that was forgotten, or removed, comes anew" answers_anew
+check "a recording that was away" comes_back
+check "a named pipe, and a capture out of reach" pipes_are_faults
 check "a network" asks_of_networks
 check "a full disk" full_disk
 check "a line that says how far it is" tells_progress
@@ -136,6 +181,17 @@ sed 's/^mbit = .*/mbit = 10/' recordings/before.toml >slow.toml
 sed -i "s|^file = .*|file = \"slow.toml\"|" refused.toml
 check "a table that is refused" ends_so 4 "afdx-campaign: table before: $("$AFDX" check slow.toml 2>&1)" run refused.toml
 check "no program" ends_so 5 "afdx-campaign: cannot run $room/none: no such program" run <(sed "s|^program = .*|program = \"$room/none\"|" refused.toml)
+for key in program root scratch; do
+    campaign nul "recordings = [\"$room/recordings/recordings/*\"]"
+    sed -i "s|^$key = .*|$key = \"a\\\\u0000b\"|" nul.toml
+    check "a NUL in $key" ends_so 3 "afdx-campaign: nul.toml: a NUL in $key, top" run nul.toml
+    sed -i "s|^$key = .*|$key = \"\"|" nul.toml
+    check "an empty $key" ends_so 3 "afdx-campaign: nul.toml: $key is empty, top" run nul.toml
+done
+campaign nul 'recordings = [""]'
+check "an empty pattern" ends_so 3 "afdx-campaign: nul.toml: a pattern in recordings is empty, top" run nul.toml
+sed -i -e 's/""/"x"/' -e 's|^file = .*|file = "a\\u0000b"|' nul.toml
+check "a NUL in the file of a table" ends_so 3 "afdx-campaign: nul.toml: a NUL in file, [[table]] 1" run nul.toml
 check "no campaign file" ends_so 5 "afdx-campaign: cannot read none.toml: No such file or directory" run none.toml
 check "a campaign that was not run" ends_so 5 "afdx-campaign: no tasks in $room/refused: \`afdx-campaign run\` lists them" status refused.toml
 check "a Python without its modules" "$BASH" -c "! /usr/bin/python3 -S '$campaign' run refused.toml 2>said.txt &&
