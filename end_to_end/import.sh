@@ -2,7 +2,7 @@
 # python/bin/afdx-import and afdx-skew: the commands of docs/use/IMPORT.md on recordings of a run (recorded_network.py) print what
 # the page has, and find what was hidden in them, to the byte; what is refused changes nothing; memory does not grow.
 . "$(dirname "$0")/common.sh"
-install python3=python3 zstd=zstd
+install python3=python3 zstd=zstd editcap=wireshark-common mergecap=wireshark-common
 install_python numpy zstandard tqdm
 export PYTHONDONTWRITEBYTECODE=1 LC_ALL=C
 afdx=${AFDX:-$top/crates/afdx/out/afdx}
@@ -27,6 +27,44 @@ changes_nothing() {
     afdx-import "$3" work/raw work/in >answer.txt 2>said.txt || status=$?
     echo "status $status: $(cat said.txt)"
     [ "$status" -eq "$1" ] && [ ! -s answer.txt ] && [ "$(cat said.txt)" = "$2" ] && diff -r before work/in && rm -r before
+}
+
+# mirrored: of a mirror of both directions each port is warned of; editcap leaves what came in.
+mirrored() {
+    local network=$top/examples/network port
+    mkdir -p span/raw span/out && "$afdx" run "$network/table.toml" "$network/in" span/out >span/report.txt &&
+        mergecap -w span/raw/span.pcapng "$network"/in/port-*.pcap span/out/port-*.pcap || return 1
+    editcap -w 0.005 span/raw/span.pcapng span/raw/came.pcapng 2>/dev/null || return 1
+    echo 'end_systems = { 1 = "port-1", 2 = "port-2", 3 = "port-3", 4 = "port-4" }' >span/ends
+    for port in span came; do
+        printf '[[source]]\nfile = "%s.pcapng"\n' $port | cat - span/ends >span/$port.toml
+        afdx-import span/$port.toml span/raw span/$port >/dev/null 2>span/$port.txt || return 1
+    done
+    [ "$(grep -c 'what leaves the switch too' span/span.txt)" -eq 4 ] && grep -qxF "$(grep 'leaves the switch too' "$page")" span/span.txt &&
+        [ ! -s span/came.txt ] && "$afdx" run "$network/table.toml" span/came span/out | diff - span/report.txt
+}
+
+# untagged: tags are counted, and taken off; what is left is what came in.
+untagged() {
+    local network=$top/examples/network
+    mkdir -p tagged/raw tagged/out && "$afdx" run "$network/table.toml" "$network/in" tagged/out >tagged/report.txt &&
+        PYTHONPATH=$top/end_to_end python3 - "$network" <<'END' || return 1
+import sys
+from dataclasses import replace
+from pathlib import Path
+
+import captures
+
+for path in sorted(Path(sys.argv[1], "in").iterdir()):
+    records, _ = captures.read(path.read_bytes())
+    put = [replace(one, frame=one.frame[:12] + bytes.fromhex("81002005") + one.frame[12:], original=one.length + 4) for one in records]
+    Path("tagged/raw", path.name).write_bytes(captures.pcap(put))
+END
+    printf '[[source]]\nfile = "port-%s.pcap"\nto = "port-%s"\n' 1 1 2 2 3 3 4 4 >tagged/rules.toml
+    afdx-import tagged/rules.toml tagged/raw tagged/in 2>&1 >/dev/null | grep -c 'frames have a VLAN tag: tags = true' | grep -qx 4 || return 1
+    sed -i 's/^to .*/&\ntags = true/' tagged/rules.toml
+    afdx-import tagged/rules.toml tagged/raw tagged/in 2>&1 >/dev/null | grep -c '^afdx-import: tags of .* frames taken off' | grep -qx 4 &&
+        "$afdx" run "$network/table.toml" tagged/in tagged/out | diff - tagged/report.txt
 }
 
 # peak MEGABYTES: the most memory, in KiB, that the import of a recording of this size takes.
@@ -86,5 +124,7 @@ check "a faulty recording" changes_nothing 3 "afdx-import: 4294967295 bytes capt
 printf '[[source]]\nfile = "*.pcapng.gz"\nport = 3\n' >wrong.toml
 check "faulty rules" changes_nothing 3 "afdx-import: source 1: unknown key port, wrong.toml
 afdx-import: source 1: needs either to or end_systems, wrong.toml" wrong.toml
+check "a mirror of both directions" mirrored
+check "tags" untagged
 check "memory of twice the recording" memory_stays
 finish

@@ -6,6 +6,7 @@ import shutil
 import signal
 import struct
 import sys
+from collections.abc import Callable
 from dataclasses import dataclass, replace
 from pathlib import Path
 from unittest.mock import patch
@@ -115,8 +116,70 @@ def test_frames_that_no_source_takes_are_said(folder: Folder) -> None:
 
 def test_an_interface_that_is_not_there_is_said(folder: Folder) -> None:
     status, _, said = folder.run(ONE + 'interface = "up"\n', a_pcap=captures.pcapng(A, ["left", "right"]))
-    assert (status, said) == (0, ["afdx-import: 5 of 5 frames are taken by no source, end systems none 9 10 77, a.pcap",
+    assert (status, said) == (0, ["afdx-import: 5 of 5 frames are taken by no source, end systems none 9 10 77, "
+                                  "a.pcap, interfaces 0 1",
                                   "afdx-import: warning: no interface 'up'; there are: 0 'left', 1 'right', a.pcap"])
+
+
+MIRROR = '[[source]]\nfile = "a.pcap"\nend_systems = { 9 = "port-1", 10 = "port-2" }\n'
+
+
+@pytest.mark.parametrize("keys, left", [
+    ('network = "A"\ninterface = 0\n', [
+        "1 of 5 frames are taken by no source, end systems 10 of network A{}",
+        "1 of 5 frames are taken by no source, end systems 10 of network B{}"]),
+    ('network = "B"\n', ["2 of 5 frames are taken by no source, end systems 9 10 of network A, a.pcap"]),
+    ('network = "A"\ninterface = 1\n', [
+        "1 of 5 frames are taken by no source, end systems 10 of network B{}",
+        "1 of 5 frames are taken by no source, end systems 9 of network A, a.pcap, interface 0"])])
+def test_frames_of_named_end_systems_that_no_source_takes(folder: Folder, keys: str, left: list[str]) -> None:
+    """Checks that the network or the interface is named of end systems that the rules name."""
+    status, _, said = folder.run(MIRROR + keys, a_pcap=captures.pcapng(A, ["left", "right"]))
+    others = "2 of 5 frames are taken by no source, end systems none 77, a.pcap"
+    assert (status, sorted(said)) == (0, sorted(
+        f"afdx-import: {line.format(', a.pcap, interface 1')}" for line in [others, *left]))
+
+
+@pytest.mark.parametrize("later, count, shown", [(1000, 20, True), (5_000_000, 20, True), (5_000_001, 20, False),
+                                                 (1000, 9, False)])
+def test_a_mirror_of_both_directions(folder: Folder, later: int, count: int, shown: bool) -> None:
+    """Checks that frames with the bytes of one shortly before are warned of, if they are many."""
+    came = [Record(AT + number * 10**7, frame(fill=number)) for number in range(20)]
+    both = sorted([*came, *(replace(one, stamp=one.stamp + later) for one in came[:count])], key=lambda one: one.stamp)
+    status, _, said = folder.run(ONE, a_pcap=captures.pcap(both))
+    assert (status, said) == (0, [
+        f"afdx-import: warning: {count} of {20 + count} frames looked at have the bytes of one at most 5 ms before: "
+        "does the recording hold what leaves the switch too? take only what comes in, port-1"][:shown])
+
+
+def tagged(data: bytes, *kinds: str) -> bytes:
+    return data[:12] + b"".join(bytes.fromhex(kind) + b"\x20\x05" for kind in kinds) + data[12:]
+
+
+PLAIN = [frame(size=60 + number, fill=number) for number in range(4)]
+TAGGED = [tagged(PLAIN[0], "8100"), PLAIN[1], tagged(PLAIN[2], "88a8", "8100"), tagged(PLAIN[3], "88a8")]
+
+
+@pytest.mark.parametrize("port", ['to = "port-1"', 'end_systems = { 1 = "port-1" }'])
+@pytest.mark.parametrize("fcs", [False, True])
+def test_tags(folder: Folder, port: str, fcs: bool) -> None:
+    """Checks that tags are counted, and taken off if the rules say so; frames that were cut before its end stay."""
+    def recording(frames: list[bytes], end: Callable[[bytes], bytes]) -> bytes:
+        cut = [Record(AT + 9, TAGGED[0][:size], 1000 + 4 * fcs) for size in (13, 15)]
+        return captures.pcap([*(Record(AT + at, end(data)) for at, data in enumerate(frames)), *cut])
+
+    rules = f'[[source]]\nfile = "a.pcap"\n{port}\nfcs = {str(fcs).lower()}\n'
+    text = recording(TAGGED, checked if fcs else bytes)
+    status, _, said = folder.run(rules, a_pcap=text)
+    assert (status, said) == (0, [
+        "afdx-import: warning: 3 frames have a VLAN tag: tags = true in the rules takes it off, a.pcap"])
+    fcs_less = captures.read(recording(TAGGED, bytes))[0][:4]
+    assert captures.read(folder.captures()["port-1.pcap"])[0][:4] == fcs_less
+    status, _, said = folder.run(rules + "tags = true\n", a_pcap=text)
+    assert (status, said) == (0, ["afdx-import: tags of 3 frames taken off, a.pcap"])
+    assert captures.read(folder.captures()["port-1.pcap"])[0] == captures.read(
+        captures.pcap([*(Record(AT + at, data) for at, data in enumerate(PLAIN)),
+                       *(Record(AT + 9, TAGGED[0][:size], 1000) for size in (13, 15))]))[0]
 
 
 WITH = [Record(AT, checked(frame(fill=1))), Record(AT + 1, checked(frame(fill=2))[:40], 64),

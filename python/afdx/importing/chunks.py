@@ -4,8 +4,11 @@ from dataclasses import dataclass, replace
 import numpy as np
 
 from afdx.importing.copying import copied, permuted, places_of
-from afdx.recordings.columns import Column, Origin
+from afdx.recordings.columns import ROOM, Column, Origin, at_any
 from afdx.recordings.faults import Place
+
+SOON = 5_000_000  # ns; a link's frames that are so near have other sequence numbers
+KEY = 8  # bytes at a frame's end, which its sequence number is among
 
 
 @dataclass(frozen=True)
@@ -103,6 +106,20 @@ class Ordered:
             count += record in seen
             seen.add(record)
         return count
+
+    def repeated(self, most: int) -> int:
+        """Counts those of the first so many records whose frames have the bytes of an earlier one, of an earlier stamp,
+        SOON before or sooner. Only where the ends of frames are the same all bytes are compared."""
+        key = at_any(self.text, "<u8").take(self.at[1:most + 1] - KEY)
+        order = np.argsort(key, kind="stable")
+        stamp, key = self.stamp.take(order), key.take(order)
+        apart = stamp[1:] - stamp[:-1]
+        near = np.flatnonzero((key[1:] == key[:-1]) & (apart > 0) & (apart <= SOON))
+        return sum(self.frame(before) == self.frame(after)
+                   for before, after in zip(order[near].tolist(), order[near + 1].tolist()))
+
+    def frame(self, index: int) -> bytes:
+        return bytes(self.text[self.at[index] + ROOM:self.at[index + 1]])
 
     def record(self, index: int) -> bytes:
         return bytes(self.text[self.at[index]:self.at[index + 1]])

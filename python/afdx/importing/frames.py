@@ -5,33 +5,47 @@ from dataclasses import dataclass
 import numpy as np
 import numpy.typing as npt
 
-from afdx.recordings.columns import Batch, Column
+from afdx.recordings.columns import Batch, Column, at_any, picked
 
 Numbers = npt.NDArray[np.int32]
 Octets = npt.NDArray[np.uint8]
 
 CHECK_SEQUENCE = 4
+TAG, MOST_TAGS = 4, 2  # bytes of a VLAN tag, and how many a frame may have
+CUSTOMER, SERVICE = 0x0081, 0xA888  # 81-00 and 88-a8, with which a tag begins
 ADDRESSES = 12  # bytes of both addresses: the last three are the end system's number and the network
 NONE = -1  # the end system of a frame too short for its addresses
 SHORTEST = 18  # bytes of a frame of which a check sequence is looked for
 
 
 @dataclass(frozen=True)
-class Senders:
-    """Says where each frame of a batch is from."""
+class Heads:
+    """Says of each frame of a batch where it is from, and how long its tags are."""
     end_system: Numbers  # NONE if it was captured without its addresses
     network: Octets  # 0 then
+    tags: Octets  # bytes, before which the addresses lie
 
 
-def senders(batch: Batch) -> Senders:
-    """Returns the senders of a batch's frames."""
+def heads(batch: Batch) -> Heads:
+    """Returns what the first bytes of a batch's frames say."""
     end_system = (batch.sender >> 8).astype(np.uint16).byteswap().astype(np.int32)
     network = (batch.sender >> 24).astype(np.uint8)
     short = batch.captured < ADDRESSES
     if short.any():
         end_system[short] = NONE
         network[short] = 0
-    return Senders(end_system, network)
+    return Heads(end_system, network, tags_of(batch))
+
+
+def tags_of(batch: Batch) -> Octets:
+    """Returns how many bytes of VLAN tags follow the addresses of each frame."""
+    tags, some = np.zeros(len(batch.start), np.uint8), np.arange(len(batch.start))
+    for place in range(ADDRESSES, ADDRESSES + MOST_TAGS * TAG, TAG):
+        some = some[picked(batch.captured, some) >= place + TAG]
+        kind = at_any(batch.data, "<u2").take(picked(batch.start, some) + place)
+        some = some[(kind == CUSTOMER) | (kind == SERVICE)]
+        tags[some] += TAG
+    return tags
 
 
 def is_checked(frame: bytes) -> bool:

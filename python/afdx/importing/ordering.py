@@ -9,6 +9,7 @@ from afdx.recordings.faults import RecordingFault
 
 MOST_WAITING = 16 * 1024 * 1024  # bytes of a port's records that wait for earlier ones
 LEAST_WRITTEN = 2 * 1024 * 1024  # bytes of a port's records that are worth a write
+MOST_LOOKED = 512  # records of each write of which earlier ones with the same bytes are looked for
 MOST_SHARED = 8  # steps in which records wait in memory that they share with those of other ports
 LONG_AGO = -(2**62)
 MILLISECOND = 1_000_000
@@ -23,6 +24,8 @@ class Ordering:
         self.write = write
         self.reordered = 0
         self.twice = 0  # records that have come before, with the same stamp
+        self.looked = 0  # records that were looked at, and those that have come shortly before
+        self.repeated = 0
         self.waiting: list[Chunk] = []
         self.size = 0  # bytes that wait
         self.newest: dict[int, Seen] = {}  # of each source
@@ -98,8 +101,12 @@ class Ordering:
             self.put(ready)
 
     def put(self, ready: list[Chunk]) -> None:
+        left = MOST_LOOKED
         for ordered in merged(ready):
             self.write(ordered.text)
             self.size -= len(ordered.text)
             self.twice += ordered.twice()
+            self.repeated += ordered.repeated(left) if left else 0
+            left -= min(left, len(ordered.stamp))
+        self.looked += MOST_LOOKED - left
         self.written = max(ready, key=lambda chunk: chunk.last).seen(-1)

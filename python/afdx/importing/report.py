@@ -1,18 +1,21 @@
 """Says what came of an import: a line for each port, and what a user should look at."""
-from collections.abc import Iterator
+from collections import Counter, defaultdict
+from collections.abc import Iterable, Iterator
 from pathlib import Path
 
 import numpy as np
 
 from afdx.importing.alignment import Alignment
-from afdx.importing.frames import NONE
 from afdx.importing.instants import instant
+from afdx.importing.rules import NETWORKS
 from afdx.importing.running import Import, Reading
 from afdx.importing.taking import Port, Taker
 from afdx.recordings.columns import SECOND
 from afdx.recordings.faults import Place
 
-MOST_NAMED = 8  # end systems that are named in a warning
+MOST_NAMED = 8  # end systems, or interfaces, that are named in a line
+NETWORK_NAMES = ["neither network", *(f"network {name}" for name in NETWORKS)]  # by their numbers
+MANY, PART = 10, 10  # frames, and one of so many, that make the question whether the mirror has both directions
 
 
 def port_line(name: str, port: Port) -> str:
@@ -31,8 +34,8 @@ def notes(done: Import) -> Iterator[str]:
             yield broken_note(reading.recording.broken)
         yield from dropped_notes(reading)
         yield from check_sequence_notes(reading)
-        if reading.left.any():
-            yield left_note(reading)
+        yield from tag_notes(reading)
+        yield from left_notes(reading)
     for _, taker in done.takers:
         if taker.source.interface is not None and not any(map(taker.is_asked, taker.recording.interfaces)):
             yield interface_note(taker)
@@ -72,13 +75,44 @@ def check_sequence_notes(reading: Reading) -> Iterator[str]:
                    f"interface {reading.recording.interfaces[place].number}")
 
 
-def left_note(reading: Reading) -> str:
-    """Says which frames no source takes."""
-    senders = (np.flatnonzero(reading.left) + NONE).tolist()
-    named = " ".join(str(number) if number >= 0 else "none" for number in senders[:MOST_NAMED])
-    more = " .." if len(senders) > MOST_NAMED else ""
-    return (f"{reading.left.sum()} of {reading.frames} frames are taken by no source, end systems {named}{more}, "
-            f"{reading.recording.name}")
+def tag_notes(reading: Reading) -> Iterator[str]:
+    """Says how many frames have VLAN tags, and of how many these were taken off."""
+    for is_off in (False, True):
+        if count := sum(taker.tagged for taker in reading.takers if taker.source.tags == is_off):
+            what = f"tags of {count} frames taken off" if is_off else (
+                f"warning: {count} frames have a VLAN tag: tags = true in the rules takes it off")
+            yield f"{what}, {reading.recording.name}"
+
+
+def left_notes(reading: Reading) -> Iterator[str]:
+    """Says which frames no source takes, and of end systems that sources name, of which network and interface."""
+    groups: dict[tuple[str, str], Counter[int]] = defaultdict(Counter)
+    unasked = interfaces_unasked(reading)
+    for place, network, sender, count in reading.left.rows():
+        sources = [taker.source for taker in reading.takers if taker.is_named(sender)]
+        of = f" of {NETWORK_NAMES[network]}" if any(source.network for source in sources) else ""
+        where = ""
+        if any(source.interface is not None for source in sources):
+            where = unasked.get(place, f", interface {reading.recording.interfaces[place].number}")
+        groups[of, where][sender] += count
+    for (of, where), senders in sorted(groups.items()):
+        named = listed(str(number) if number >= 0 else "none" for number in sorted(senders))
+        yield (f"{senders.total()} of {reading.frames} frames are taken by no source, end systems {named}{of}, "
+               f"{reading.recording.name}{where}")
+
+
+def interfaces_unasked(reading: Reading) -> dict[int, str]:
+    """Returns the name, by their places, of interfaces that have frames and that no source asks for: one for all."""
+    found = {place: reading.recording.interfaces[place] for place, _, _, _ in reading.left.rows()}
+    numbers = {place: str(interface.number) for place, interface in found.items()
+               if not any(taker.is_asked(interface) for taker in reading.takers)}
+    return dict.fromkeys(numbers, f", interface{'s' * (len(numbers) > 1)} {listed(numbers.values())}")
+
+
+def listed(names: Iterable[str]) -> str:
+    """Returns names in a row, the first ones if they are many."""
+    names = list(names)
+    return " ".join(names[:MOST_NAMED]) + " .." * (len(names) > MOST_NAMED)
 
 
 def interface_note(taker: Taker) -> str:
@@ -87,13 +121,22 @@ def interface_note(taker: Taker) -> str:
     return f"warning: no interface {taker.source.interface!r}; there are: {there or 'none'}, {taker.recording.name}"
 
 
+def has_both_directions(port: Port) -> bool:
+    """Returns whether so many frames have come shortly before that they may have left the switch."""
+    return port.ordering.repeated >= MANY and PART * port.ordering.repeated >= port.ordering.looked
+
+
 def port_notes(ports: dict[str, Port]) -> Iterator[str]:
     """Says where networks are mixed, where frames were taken twice, and where clocks may be apart."""
     for name, port in ports.items():
         if all(port.networks.values()):
             counts = " and ".join(f"{count} of network {network}" for network, count in port.networks.items())
             yield f"warning: frames of both networks: {counts}, {name}"
-        if port.ordering.twice:
+        if has_both_directions(port):
+            count = f"{port.ordering.repeated} of {port.ordering.looked}"
+            yield (f"warning: {count} frames looked at have the bytes of one at most 5 ms before: does "
+                   f"the recording hold what leaves the switch too? take only what comes in, {name}")
+        elif port.ordering.twice:
             yield (f"warning: {port.ordering.twice} of {port.frames} frames are there twice, with one stamp: is a "
                    f"recording taken twice?, {name}")
     firsts = sorted((port.first, name) for name, port in ports.items() if port.frames)

@@ -23,6 +23,7 @@ class Source:
     end_systems: dict[str, str] = field(default_factory=dict)
     network: str | None = None
     fcs: bool | str = "auto"
+    tags: bool = False
     stamps: str = "end"
     mbit: int | None = None
     offset_ns: int = 0
@@ -93,6 +94,7 @@ OF_SOURCES: dict[str, tuple[Callable[[Any], bool], str]] = {
     "end_systems": (is_end_systems, f"a table of end systems' numbers, 0 to 65535, each once, with {A_PORT}"),
     "network": (lambda value: isinstance(value, str) and value in NETWORKS, '"A" or "B"'),
     "fcs": (lambda value: isinstance(value, bool) or value == "auto", 'true, false or "auto"'),
+    "tags": (lambda value: isinstance(value, bool), "true or false"),
     "stamps": (lambda value: value in ("start", "end"), '"start" or "end"'),
     "mbit": (lambda value: type(value) is int and value in (10, 100, 1000), "10, 100 or 1000"),
     "offset_ns": (is_whole(-MOST_OFFSET, MOST_OFFSET), "a whole number, at most 136 years"),

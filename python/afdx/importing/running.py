@@ -6,10 +6,12 @@ from pathlib import Path
 
 import numpy as np
 
-from afdx.importing.frames import NONE, CheckSequences, senders
+from afdx.importing.frames import CheckSequences, heads
+from afdx.importing.left import Left
 from afdx.importing.ordering import LONG_AGO, Ordering
 from afdx.importing.rules import Rules, Source
-from afdx.importing.taking import END_SYSTEMS, Port, Taker, corrected
+from afdx.importing.taking import Port, Taker, corrected
+from afdx.recordings.columns import picked
 from afdx.recordings.faults import RecordingFault
 from afdx.recordings.reading import PIECE, Recording
 
@@ -35,7 +37,7 @@ class Reading:
         self.claimed: dict[int, CheckSequences] = {}  # of those that say that all have theirs
         self.newest = begin  # stamp by the recorder's clock
         self.frames = 0
-        self.left = np.zeros(END_SYSTEMS - NONE, np.int64)  # frames that no source takes, by their end system
+        self.left = Left()
         self.batches = recording.batches()
         self.ended = False
         self.fault: RecordingFault | None = None
@@ -48,13 +50,11 @@ class Reading:
         elif len(batch.stamp):
             self.newest = max(self.newest or 0, int(batch.stamp.max()))
             self.frames += len(batch.stamp)
-            of = senders(batch)
+            of = heads(batch)
             taken = [taker.take(batch, of) for taker in self.takers]
-            if all(len(its) < len(batch.stamp) for its in taken):
-                is_left = np.full(len(batch.stamp), True)
-                for its in taken:
-                    is_left[its] = False
-                self.left += np.bincount(of.end_system[is_left] - NONE, minlength=len(self.left))
+            self.left.add(batch, of, taken)
+            for taker, its in zip(self.takers, taken):
+                taker.tagged += int(np.count_nonzero(picked(of.tags, its)))
 
     def progress(self, taker: Taker) -> int:
         """Returns how far the recording has come, by the clock that the taker's stamps have."""

@@ -7,7 +7,7 @@ import numpy.typing as npt
 
 from afdx.importing.chunks import Chunk
 from afdx.importing.copying import copied, permuted, places_of
-from afdx.importing.frames import CHECK_SEQUENCE, CheckSequences, Octets, Senders, without_check_sequence
+from afdx.importing.frames import ADDRESSES, CHECK_SEQUENCE, CheckSequences, Heads, Octets, without_check_sequence
 from afdx.importing.ordering import Ordering
 from afdx.importing.rules import NETWORKS, Source
 from afdx.recordings.columns import (END_OF_STAMPS, ROOM, SECOND, Batch, Column, Interface, are_in_order, are_stamps,
@@ -23,6 +23,7 @@ Flags = npt.NDArray[np.bool_]
 Ports = npt.NDArray[np.integer[Any]]  # their numbers
 
 CUT, STRIPPED, KINDS = 4, 8, 16  # what a frame's kind is made of, beside its network's number
+NETWORK_BITS = 2
 NETWORK = np.zeros(256, np.int64)  # the number by its byte, from 1; 0 for any other
 NETWORK[list(NETWORKS.values())] = range(1, len(NETWORKS) + 1)
 
@@ -68,13 +69,15 @@ class Frames:
     original: Column
     stripped: Flags  # of which a check sequence was taken off
     network: Octets
+    tags: Octets  # bytes of VLAN tags that are taken off
 
     def __len__(self) -> int:
         return len(self.record)
 
     def at(self, places: Column) -> "Frames":
         return Frames(self.record.take(places), self.stamp.take(places), self.captured.take(places),
-                      self.original.take(places), self.stripped.take(places), self.network.take(places))
+                      self.original.take(places), self.stripped.take(places), self.network.take(places),
+                      self.tags.take(places))
 
     def counts(self, port_of: Ports) -> list[Counts]:
         """Counts the frames of each port, and of port 0."""
@@ -92,9 +95,11 @@ class Frames:
 
     def chunk(self, batch: Batch, place: Column | None, is_written: bool) -> Chunk:
         """Copies their records out of the batch, each to its place among them, or as they lie; with headers as afdx
-        writes them, if these are not there. Records in one run that are wanted so stay where they are."""
+        writes them, if these are not there, and without tags. Records in one run that are wanted so stay where they
+        are."""
         length, stamp, where = self.captured + ROOM, self.stamp, picked(batch.where, self.record)
-        begin = picked(batch.start, self.record) - ROOM
+        start = picked(batch.start, self.record)
+        begin = start - ROOM + self.tags
         is_sorted = place is None and are_in_order(stamp)
         if place is None:
             at = places_of(length)
@@ -108,6 +113,9 @@ class Frames:
         text = copied(batch.data, begin, length, to)
         if not is_written:
             at_any(text, f"V{ROOM}")[to] = headers(self.stamp, self.captured, self.original)
+        if self.tags.any():
+            some, addresses = np.flatnonzero(self.tags), f"V{ADDRESSES}"
+            at_any(text, addresses)[to[some] + ROOM] = at_any(batch.data, addresses)[start[some]]
         return Chunk(text, at, stamp, where, batch.origin, is_sorted)
 
 
@@ -133,12 +141,13 @@ class Taker:
         self.checks = checks  # by interface, the same for all sources of the recording that have the same `fcs`
         self.names = list(dict.fromkeys(source.ports))
         self.ports = [ports[name] for name in self.names]
+        self.tagged = 0  # frames that were taken and have a VLAN tag
         # the number of the port, from 1, or 0 for none: by end system; at the end if a frame names none
         self.port_of = np.zeros(END_SYSTEMS + 1, np.min_scalar_type(len(self.names)))
         for end_system, name in source.end_systems.items():
             self.port_of[int(end_system)] = self.names.index(name) + 1
 
-    def take(self, batch: Batch, of: Senders) -> Column:
+    def take(self, batch: Batch, of: Heads) -> Column:
         """Takes the source's frames of a batch to their ports; returns which they are."""
         mine = self.chosen(batch)
         if self.source.network:
@@ -147,12 +156,14 @@ class Taker:
             return mine
         has = self.check_sequences(batch, mine)
         captured, original = without_check_sequence(picked(batch.captured, mine), picked(batch.original, mine), has)
+        tags = self.tags_off(picked(of.tags, mine), captured)
+        captured, original = captured - tags, original - tags
         stamp = corrected(picked(batch.stamp, mine), self.source, self.anchor)
         if self.source.tick:
             stamp = stamp + (original + CHECK_SEQUENCE) * self.source.tick
         self.refuse_outside(batch, mine, stamp)
-        is_written = batch.is_written and not self.source.moves and not has.any()
-        frames = Frames(mine, stamp, captured, original, has, picked(of.network, mine))
+        is_written = batch.is_written and not self.source.moves and not has.any() and not tags.any()
+        frames = Frames(mine, stamp, captured, original, has, picked(of.network, mine), tags)
         if self.source.to:
             [counts] = frames.counts(np.zeros(len(mine), np.int64))
             self.ports[0].add(self.number, frames.chunk(batch, None, is_written), counts)
@@ -197,12 +208,20 @@ class Taker:
         asked = self.source.interface
         return asked is None or asked == (interface.name if isinstance(asked, str) else interface.number)
 
+    def is_named(self, end_system: int) -> bool:
+        """Returns whether the source takes frames of an end system, or of NONE."""
+        return self.source.to is not None or bool(self.port_of[end_system])
+
     def check_sequences(self, batch: Batch, mine: Column) -> npt.NDArray[np.bool_]:
         """Returns which of these frames have a check sequence to be taken off."""
         if self.source.fcs is False:
             return np.zeros(len(mine), np.bool_)
         has = self.looked_at(batch, mine)
         return np.full(len(mine), True) if self.source.fcs is True else has
+
+    def tags_off(self, tags: Octets, captured: Column) -> Octets:
+        """Returns how many bytes of tags are taken off frames that have so many; none behind which a frame ends."""
+        return np.where(captured >= tags + ADDRESSES, tags, np.uint8(0)) if self.source.tags else np.zeros_like(tags)
 
     def looked_at(self, batch: Batch, mine: Column) -> npt.NDArray[np.bool_]:
         """Looks at some of these frames; returns which are of an interface whose frames have a check sequence."""
