@@ -61,7 +61,8 @@ for path in sorted(Path(sys.argv[1], "in").iterdir()):
     Path("tagged/raw", path.name).write_bytes(captures.pcap(put))
 END
     printf '[[source]]\nfile = "port-%s.pcap"\nto = "port-%s"\n' 1 1 2 2 3 3 4 4 >tagged/rules.toml
-    afdx-import tagged/rules.toml tagged/raw tagged/in 2>&1 >/dev/null | grep -c 'frames have a VLAN tag: tags = true' | grep -qx 4 || return 1
+    afdx-import tagged/rules.toml tagged/raw tagged/in 2>tagged/said.txt >/dev/null
+    [ "$(grep -c 'frames have a VLAN tag' tagged/said.txt)" -eq 4 ] && grep -qxF "$(grep 'frames have a VLAN tag:' "$page")" tagged/said.txt || return 1
     sed -i 's/^to .*/&\ntags = true/' tagged/rules.toml
     afdx-import tagged/rules.toml tagged/raw tagged/in 2>&1 >/dev/null | grep -c '^afdx-import: tags of .* frames taken off' | grep -qx 4 &&
         "$afdx" run "$network/table.toml" tagged/in tagged/out | diff - tagged/report.txt

@@ -32,6 +32,11 @@ def frame(link: int, size: int) -> bytes:
     return captures.frame(link, size, end_system=1, network=0x20)
 
 
+def numbered(number: int) -> bytes:
+    """Makes a frame of link 10 that has a number at its end."""
+    return frame(10, 1000)[:-4] + number.to_bytes(4, "big")
+
+
 def write(path: Path, records: list[model.Record]) -> None:
     """Writes a little-endian nanosecond capture that keeps the original lengths, as editcap writes it."""
     text = captures.HEADER + b"".join(captures.record(one.stamp, one.data, one.original) for one in records)
@@ -65,7 +70,7 @@ def one_link(jitter: int, stamps: list[int]) -> Callable[[Path], None]:
 
     def make(folder: Path) -> None:
         write_table(folder / "table.toml", [1, 2], [(10, 1, 2, jitter, 1000)])
-        write(folder / "raw" / "port-1.pcap", [record(BEGIN + stamp, frame(10, 1000)) for stamp in stamps])
+        write(folder / "raw" / "port-1.pcap", [record(BEGIN + stamp, numbered(number)) for number, stamp in enumerate(stamps)])
         write(folder / "raw" / "port-2.pcap", [])
 
     return make
@@ -95,7 +100,7 @@ def what_left(folder: Path) -> None:
     (folder / "table.toml").write_text("version = 3\nlatency_us = 16\n\n" + table, encoding="utf-8")
     chance = random.Random(1)
     line_time = (1000 + model.LINE_OVERHEAD - 12) * TICK  # up to the end of the last bit
-    came = [record(BEGIN + number * 1_000_000, frame(10, 1000)[:-4] + number.to_bytes(4, "big")) for number in range(1000)]
+    came = [record(BEGIN + number * 1_000_000, numbered(number)) for number in range(1000)]
     left = [record(one.stamp + chance.randrange(8_000, 12_000) + line_time + 1_500_000, one.data) for one in came[:900]]
     seen: dict[str, list[model.Record]] = {"in/port-1": came, "in/port-2": [], "left/port-1": [], "left/port-2": left[:500] + left[501:]}
     for name, records in seen.items():

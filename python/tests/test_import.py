@@ -169,7 +169,7 @@ def test_tags(folder: Folder, port: str, fcs: bool) -> None:
         return captures.pcap([*(Record(AT + at, end(data)) for at, data in enumerate(frames)), *cut])
 
     rules = f'[[source]]\nfile = "a.pcap"\n{port}\nfcs = {str(fcs).lower()}\n'
-    text = recording(TAGGED, checked if fcs else bytes)
+    text = recording(TAGGED, lambda data: checked(data) if fcs else data)
     status, _, said = folder.run(rules, a_pcap=text)
     assert (status, said) == (0, [
         "afdx-import: warning: 3 frames have a VLAN tag: tags = true in the rules takes it off, a.pcap"])

@@ -110,7 +110,7 @@ class Ordered:
     def repeated(self, most: int) -> int:
         """Counts those of the first so many records whose frames have the bytes of an earlier one, of an earlier stamp,
         SOON before or sooner. Only where the ends of frames are the same all bytes are compared."""
-        key = at_any(self.text, "<u8").take(self.at[1:most + 1] - KEY)
+        key = at_any(self.text, "<u8")[self.at[1:most + 1] - KEY]
         order = np.argsort(key, kind="stable")
         stamp, key = self.stamp.take(order), key.take(order)
         apart = stamp[1:] - stamp[:-1]

@@ -42,7 +42,7 @@ def tags_of(batch: Batch) -> Octets:
     tags, some = np.zeros(len(batch.start), np.uint8), np.arange(len(batch.start))
     for place in range(ADDRESSES, ADDRESSES + MOST_TAGS * TAG, TAG):
         some = some[picked(batch.captured, some) >= place + TAG]
-        kind = at_any(batch.data, "<u2").take(picked(batch.start, some) + place)
+        kind = at_any(batch.data, "<u2")[picked(batch.start, some) + place]
         some = some[(kind == CUSTOMER) | (kind == SERVICE)]
         tags[some] += TAG
     return tags
