@@ -99,6 +99,36 @@ memory_stays() {
     [ "$more" -lt $((less + 8192)) ]
 }
 
+# marks STEP STAMPS UNIT FILE: a capture of a frame at each of these ns, of links STEP apart: the same frame if STEP is 0.
+marks() {
+    PYTHONPATH=$top/end_to_end python3 - "$@" <<'END'
+import sys
+from pathlib import Path
+
+from captures import SECOND, Record, frame, pcap
+
+step, stamps, unit, name = sys.argv[1:]
+records = [Record(1_790_000_000 * SECOND + int(stamp), frame(1 + int(step) * number, 64)) for number, stamp in enumerate(stamps.split())]
+Path(name).write_bytes(pcap(records, unit=int(unit)))
+END
+}
+
+# tells_no_drift: two marks 20 us apart, of a clock of ns and one of us, tell the offset alone.
+tells_no_drift() {
+    marks 1 "400 20700" 1 mark-a.pcap && marks 1 "0 20000" 1000 mark-b.pcap &&
+        afdx-import --align mark-a.pcap mark-b.pcap | tail -n 3 |
+        diff - <(printf '# too short to tell a drift\noffset_ns = 550\ndrift_ppb = 0\n')
+}
+
+# more_than_one_fits: three frames of the same bytes within 110 us may pair in more than one way.
+more_than_one_fits() {
+    local status=0
+    marks 0 "0 60000 110000" 1 mark-a.pcap && marks 0 "37000000 37060000 37110000" 1 mark-b.pcap
+    afdx-import --align mark-a.pcap mark-b.pcap >answer.txt 2>said.txt || status=$?
+    cat answer.txt said.txt
+    [ "$status" -eq 3 ] && [ ! -s answer.txt ] && grep -q "more than one offset fits, mark-a.pcap and mark-b.pcap$" said.txt
+}
+
 mkdir bin work && ln -s "$afdx" bin/afdx && PATH=$room/bin:$top/python/bin:$PATH
 cp "$top"/examples/aircraft/*.toml work
 sed -n '/^```toml$/,/^```$/ { /^```/! p }' "$page" >work/rules.toml
@@ -112,6 +142,8 @@ for network in A B; do
 done
 check "importing, 3: measuring" step_prints importing/3
 check "two clocks" step_prints two_clocks/1
+check "two clocks: marks that are close together" tells_no_drift
+check "two clocks: the same frames close together" more_than_one_fits
 check "two networks" step_prints two_networks/1
 check "two networks, frame by frame" step_prints two_networks/2
 check "what got lost is found" hidden

@@ -10,7 +10,7 @@ import pytest
 import captures
 from afdx import toml
 from afdx.failure import Failure
-from afdx.importing.alignment import MOST_KEPT, Sampler, aligned, sightings
+from afdx.importing.alignment import MOST_KEPT, Sampler, Sightings, Unaligned, aligned, sightings
 from afdx.importing.command import main
 from captures import Record
 
@@ -69,7 +69,8 @@ def test_one_mark(tmp_path: Path, capsys: pytest.CaptureFixture[str]) -> None:
     assert main(["--align", str(tmp_path / "a"), str(tmp_path / "b")]) == 0
     assert capsys.readouterr().out.splitlines() == [
         f"# {tmp_path}/b by the clock of {tmp_path}/a: 1 frames in both, over 0.000 s",
-        "# beside this they differ by 0 to 0 ns, half of them by 0 to 0 ns", "offset_ns = -1500000", "drift_ppb = 0"]
+        "# beside this they differ by 0 to 0 ns, half of them by 0 to 0 ns", "# too short to tell a drift",
+        "offset_ns = -1500000", "drift_ppb = 0"]
 
 
 def test_where_the_drift_counts_from(tmp_path: Path, capsys: pytest.CaptureFixture[str]) -> None:
@@ -87,6 +88,57 @@ def test_where_the_drift_counts_from(tmp_path: Path, capsys: pytest.CaptureFixtu
     assert main([str(tmp_path / "rules.toml"), str(tmp_path), str(tmp_path / "in")]) == 0
     moved = captures.read((tmp_path / "in" / "port-1.pcap").read_bytes())[0]
     assert [one.stamp for one in moved] == [AT - 3600 * SECOND + 3601 * 20_000, marks[0].stamp, marks[1].stamp - 1]
+
+
+@pytest.mark.parametrize("a, b, unit, said", [
+    ([400, 20_700], [0, 20_000], 1000, ["# too short to tell a drift", "offset_ns = 550", "drift_ppb = 0"]),
+    ([0, SECOND], [0, SECOND + 9000], 1,
+     ["# too short to tell a drift of less than 22628 ppb", "offset_ns = -4500", "drift_ppb = 0"]),
+    ([0, 10, 20, 500, SECOND], [0, 10, 20, 500, SECOND + 90_000], 1,
+     ["offset_ns = 0", "drift_ppb = -89992", f"drift_from_ns = {AT}"])])
+def test_a_drift_is_told_beside_the_noise_alone(tmp_path: Path, capsys: pytest.CaptureFixture[str], a: list[int],
+                                                b: list[int], unit: int, said: list[str]) -> None:
+    """Checks that few frames, or frames that are close together, tell no drift that their noise may be."""
+    for name, stamps, its in ("a", a, 1), ("b", b, unit):
+        records = [Record(AT + stamp, frame(number, 1)) for number, stamp in enumerate(stamps)]
+        (tmp_path / name).write_bytes(captures.pcap(records, unit=its))
+    assert main(["--align", str(tmp_path / "a"), str(tmp_path / "b")]) == 0
+    assert capsys.readouterr().out.splitlines()[2:] == said
+
+
+def test_a_clock_of_milliseconds_tells_less(tmp_path: Path) -> None:
+    """Checks that the noise is that of the coarser clock: 1 ms in 10 s may be none of the drift."""
+    texts = [captures.packet(Record(0, frame(number, 1)), units=AT // 10**6 + stamp)
+             for number, stamp in enumerate((0, 10_001))]
+    (tmp_path / "a").write_bytes(captures.pcap([Record(AT + number * 10**10, frame(number, 1)) for number in (0, 1)]))
+    (tmp_path / "b").write_bytes(b"".join([captures.section(), captures.interface(resolution=3), *texts]))
+    found = aligned(sightings(tmp_path / "a"), sightings(tmp_path / "b"))
+    assert (found.offset_ns, found.drift_ppb, found.untold > 500e-6) == (-500_000, 0, True)
+
+
+@pytest.mark.parametrize("seed", range(200))
+def test_small_recordings(seed: int) -> None:
+    """Checks that few frames, some lost, of repeated bytes too, give an offset within the noise and a drift within what
+    is told, or are refused: these only where the same bytes come again."""
+    chance = np.random.default_rng(seed)
+    count, span = int(np.exp(chance.uniform(1, 6))), int(np.exp(chance.uniform(np.log(1e4), np.log(7.2e12))))
+    sent, noise, tick = np.sort(chance.integers(0, span, count)), chance.uniform(0, 2000), int(chance.choice([1, 1000]))
+    drift, offset = chance.uniform(-200e-6, 200e-6), int(chance.integers(-10**12, 10**12))
+    keys = np.arange(count, dtype=np.uint64) % np.uint64(chance.choice([255, 1000])) << np.uint64(50)
+    late = (AT + sent + offset + (sent * drift + chance.uniform(0, noise, count)).astype(np.int64)) // tick * tick
+    first, second = chance.random((2, count)) >= chance.uniform(0, 0.3)
+    if not (first & second).any():
+        return
+    try:
+        found = aligned(Sightings(AT, 1, keys[first], AT + sent[first]),
+                        Sightings(int(late[second][0]), tick, keys[second], late[second]))
+    except Unaligned:
+        assert len(np.unique(keys)) < count
+        return
+    over = max(found.seconds * SECOND, 1)
+    off = late - found.line.base - found.line.over(late) - AT - sent
+    assert np.abs(off[first & second]).max() <= 3000 + 2 * noise + 2 * tick + min(found.untold, 400e-6) * over
+    assert abs(drift / (1 + drift) - found.line.drift) <= max(found.untold, 7 * (noise + tick) / over)
 
 
 @pytest.mark.parametrize("name, shown", [(b"a\nb", "a\\nb"), (b"\xff", "\\udcff"), ("ä b".encode(), "ä b")])
@@ -120,13 +172,17 @@ def test_check_sequences_are_left_out(tmp_path: Path) -> None:
     assert (found.offset_ns, found.drift_ppb, found.pairs) == (-1000, 0, len(sent))
 
 
+BURST = [Record(AT + stamp, frame(1, 1)) for stamp in (0, 60_000, 110_000)]
+MANY = [Record(AT + number * 10**7, frame(number, 1)) for number in range(200)]
 SAME = [Record(AT + number * 10**7, frame(1, 1)) for number in range(100)]
 
 
 @pytest.mark.parametrize("a, b, said", [
     ([], [Record(AT, frame(1, 1))], "no frames, {}/a"),
     ([Record(AT, frame(1, 1))], [Record(AT, frame(1, 2))], "no frame is in both recordings"),
-    (SAME, SAME, "the same frames come again and again: more than one offset fits")])
+    (SAME, SAME, "the same frames come again and again: more than one offset fits"),
+    (BURST, other(BURST, 37_000_000, 0, lambda: 0), "the same frames come again and again: more than one offset fits"),
+    (MANY, other(MANY, 0, 300_000, lambda: 0), "the clocks drift apart by more than 200 parts in a million")])
 def test_what_cannot_be_aligned(tmp_path: Path, a: list[Record], b: list[Record], said: str) -> None:
     (tmp_path / "a").write_bytes(captures.pcap(a))
     (tmp_path / "b").write_bytes(captures.pcap(b))

@@ -1,11 +1,12 @@
 """Says what came of an import: a line for each port, and what a user should look at."""
+import math
 from collections import Counter, defaultdict
 from collections.abc import Iterable, Iterator
 from pathlib import Path
 
 import numpy as np
 
-from afdx.importing.alignment import Alignment
+from afdx.importing.alignment import MOST_DRIFT, Alignment
 from afdx.importing.instants import instant
 from afdx.importing.rules import NETWORKS
 from afdx.importing.running import Import, Reading
@@ -154,8 +155,10 @@ def in_comment(path: Path) -> str:
 def alignment_text(first: Path, second: Path, found: Alignment) -> str:
     """Returns the rules for the second recording, to be pasted, with what they rest on."""
     least, low, high, greatest = (round(part) for part in np.percentile(found.residues, [0, 25, 75, 100]))
+    below = f" of less than {math.ceil(found.untold * SECOND)} ppb" if found.untold < MOST_DRIFT else ""
+    untold = f"# too short to tell a drift{below}\n" if found.untold else ""
     anchor = f"drift_from_ns = {found.drift_from_ns}\n" if found.drift_ppb else ""
     names = f"{in_comment(second)} by the clock of {in_comment(first)}"
     return (f"# {names}: {found.pairs} frames in both, over {found.seconds:.3f} s\n"
-            f"# beside this they differ by {least} to {greatest} ns, half of them by {low} to {high} ns\n"
+            f"# beside this they differ by {least} to {greatest} ns, half of them by {low} to {high} ns\n{untold}"
             f"offset_ns = {found.offset_ns}\ndrift_ppb = {found.drift_ppb}\n{anchor}")

@@ -21,10 +21,12 @@ SENDER = 8  # the place in a frame of the last four bytes of its source address
 
 @dataclass(frozen=True)
 class Interface:
-    """A line that was recorded: its number in its section, its name if the recording has one, its link type."""
+    """A line that was recorded: its number in its section, its name if the recording has one, its link type, and the
+    unit of its clock."""
     number: int
     name: str
     link_type: int
+    tick: int  # ns, rounded up
 
 
 @dataclass(frozen=True)

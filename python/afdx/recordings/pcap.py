@@ -35,7 +35,7 @@ class Pcap(Form):
         major, minor, link_type = struct.unpack(f"{self.order}4xHH12xI", header)
         if (major, minor) != (2, 4):
             raise RecordingFault(f"pcap version {major}.{minor}", Place(name, "header", 4))
-        self.interfaces = [Interface(0, "", link_type & LINK_TYPE)]
+        self.interfaces = [Interface(0, "", link_type & LINK_TYPE, self.fraction)]
         self.offset = self.used = HEADER
 
     @classmethod

@@ -39,6 +39,12 @@ class Clock:
         most = LAST_POWER_OF_TWO if self.binary else LAST_POWER_OF_TEN
         return self.power <= most and abs(self.seconds_later) < 2**33
 
+    @property
+    def tick(self) -> int:
+        """Returns the unit in ns, rounded up."""
+        a_second: int = (2 if self.binary else 10) ** self.power
+        return -(-SECOND // a_second)
+
     def nanoseconds(self, units: npt.NDArray[np.uint64]) -> Column:
         """Returns stamps in ns, rounded down; one that is too late for a capture is past all others."""
         a_second = np.uint64((2 if self.binary else 10) ** self.power)
@@ -238,7 +244,7 @@ class Pcapng(Form):
         if not clock.is_usable:
             raise self.fault(f"an interface's clock of resolution {resolution[0]}, {clock.seconds_later} s later")
         name = options.get(NAME, b"").rstrip(b"\0").decode("utf-8", "replace")
-        self.interfaces.append(Interface(len(self.interfaces) - self.section, name, link_type))
+        self.interfaces.append(Interface(len(self.interfaces) - self.section, name, link_type, clock.tick))
         self.clocks.append(clock)
 
     def options(self, text: bytes) -> dict[int, bytes]:
