@@ -19,7 +19,7 @@ from afdx.campaign import worker
 from afdx.campaign.engines import Options, dask, local, slurm
 from afdx.campaign.worker.task import Task
 from afdx.campaign.worker.work import Outcome, answer_at, work_hard
-from tests.campaign_samples import PATIENCE, await_number, campaign, ends, task
+from tests.campaign_samples import PATIENCE, QUIET, await_number, campaign, ends, task
 
 COMMAND = str(Path(__file__).parents[1] / "bin" / "afdx-campaign")
 
@@ -132,6 +132,21 @@ def test_two_drivers_of_one_campaign_keep_all(tmp_path: Path) -> None:
                     for path in (tmp_path / root / "kept").rglob("*") if path.is_file()} for root in ("alone", "both"))
     assert len(alone) == 12 * campaign_recordings.PORTS
     assert alone == both
+
+
+def test_answers_that_are_forgotten_meanwhile_are_told(tmp_path: Path) -> None:
+    """Checks that a run of which others have removed an answer is not done, and that the next one is."""
+    file = campaign(tmp_path)
+    for name in ("monday", "tuesday"):
+        (tmp_path / f"flights/{name}/run1/act").write_text(f'rm -rf "{tmp_path}"/campaign/answers/*/*.gz; {QUIET}')
+    words = [sys.executable, COMMAND, "run", str(file), "-j", "1"]
+    ran = subprocess.run(words, capture_output=True, text=True, timeout=PATIENCE)
+    assert ran.stderr.splitlines()[-1:] == ["afdx-campaign: 1 of 2 tasks have no answer any more; what is answered is "
+                                            "kept, the same command goes on"]
+    assert ran.returncode == 6
+    for name in ("monday", "tuesday"):
+        (tmp_path / f"flights/{name}/run1/act").write_text(QUIET)
+    assert subprocess.run(words, capture_output=True, timeout=PATIENCE).returncode == 0
 
 
 def test_an_interrupt_ends_the_driver_and_its_children_at_once(tmp_path: Path) -> None:

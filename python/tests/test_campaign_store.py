@@ -270,6 +270,17 @@ def test_an_answer_of_other_fields_is_damaged(tmp_path: Path, field: str, value:
     assert error.value.strerror == "damaged: remove it, and `run` asks again"
 
 
+@pytest.mark.parametrize("text", ["kind,link\nlink,1\n", "kind,link,passed,policed\nlink,abc,1,0\n"])
+def test_rows_that_no_program_prints_are_named(tmp_path: Path, text: str) -> None:
+    asked = task(tmp_path)
+    put(asked, 0, text, 0)
+    with pytest.raises(OSError) as error:
+        with collected(Path(asked.root), [asked]):
+            pass
+    assert error.value.strerror == "has rows that no afdx prints: remove it, and `run` asks again"
+    assert error.value.filename == str(asked.answer)
+
+
 @pytest.mark.parametrize("forgets", [lambda asked: forget(Path(asked.root), [asked], 3),
                                      lambda asked: asked.answer.unlink()])
 def test_a_new_answer_takes_the_place_of_one_that_was_forgotten(tmp_path: Path,

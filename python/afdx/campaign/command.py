@@ -4,7 +4,7 @@ import os
 import time
 from collections.abc import Sequence
 from pathlib import Path
-from typing import NoReturn
+from typing import TYPE_CHECKING, NoReturn
 
 from afdx import modules
 from afdx.campaign.answers import answered, digest, forget, forget_outdated, left_of
@@ -16,6 +16,9 @@ from afdx.campaign.settings import Campaign, read_campaign
 from afdx.campaign.worker.questions import remove_parts
 from afdx.campaign.worker.task import Task
 from afdx.failure import Failure, failing_of, tell
+
+if TYPE_CHECKING:
+    from afdx.campaign.report import Sums
 
 DONE, FAULTS = 0, 1
 RECENT = 300  # seconds whose answers say how fast it is
@@ -78,7 +81,7 @@ def at_least_one(text: str) -> int:
 
 
 def run(campaign: Campaign, options: argparse.Namespace) -> int:
-    """Returns what is left, and reports."""
+    """Has the engine do what is left, and reports."""
     engine = engine_of(options.engine)
     tasks = tasks_of(campaign)
     left = left_of(campaign.root, tasks)
@@ -95,7 +98,10 @@ def run(campaign: Campaign, options: argparse.Namespace) -> int:
     except (Failure, OSError) as error:  # an engine's threads may be at work
         end_at_once(error if isinstance(error, Failure) else failing_of(COMMAND, error))
     remove_parts(campaign.root)
-    return report(campaign, tasks)
+    sums = report(campaign, tasks)
+    if sums.left:  # another driver, or `again`, has forgotten answers meanwhile
+        raise gone(f"{sums.left} of {sums.tasks} tasks have no answer any more")
+    return FAULTS if sums.faults else DONE
 
 
 def status(campaign: Campaign, options: argparse.Namespace) -> int:
@@ -115,7 +121,7 @@ def status(campaign: Campaign, options: argparse.Namespace) -> int:
 
 def page(campaign: Campaign, options: argparse.Namespace) -> int:
     """Makes the page of what there is."""
-    return report(campaign, get_plan(campaign))
+    return FAULTS if report(campaign, get_plan(campaign)).faults else DONE
 
 
 def again(campaign: Campaign, options: argparse.Namespace) -> int:
@@ -125,11 +131,11 @@ def again(campaign: Campaign, options: argparse.Namespace) -> int:
     return DONE
 
 
-def report(campaign: Campaign, tasks: list[Task]) -> int:
-    """Makes the page and the files beside it, and says what there is; the status says whether there are faults."""
+def report(campaign: Campaign, tasks: list[Task]) -> "Sums":
+    """Makes the page and the files beside it, and says what there is."""
     from afdx.campaign.report import put_report  # what draws takes longer than the other commands
 
     sums = put_report(campaign.file.name, campaign.root, tasks)
     print(f"{sums.tasks} tasks, {sums.answers} answered, {sums.faults} of them faults, {sums.left} left: "
           f"{os.path.relpath(campaign.root / 'campaign.html')}")
-    return FAULTS if sums.faults else DONE
+    return sums

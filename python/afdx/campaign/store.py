@@ -1,5 +1,7 @@
 """Keeps the store: SQLite, made of the answers alone by one writer, so that it can be removed and made again."""
 import contextlib
+import csv
+import errno
 import sqlite3
 from collections.abc import Iterator, Sequence
 from pathlib import Path
@@ -7,7 +9,7 @@ from typing import Any
 
 from afdx.campaign.answers import files_there
 from afdx.campaign.failures import failure
-from afdx.campaign.rows import PORT, rows_of
+from afdx.campaign.rows import PORT, Rows, rows_of
 from afdx.campaign.worker.files import locked
 from afdx.campaign.worker.task import Task
 from afdx.campaign.worker.work import Answer, answer_at
@@ -135,12 +137,20 @@ def add(base: sqlite3.Connection, task: Task, table: int, file: str, answer: Ans
     if answer["status"]:
         line = answer["line"].encode("utf-8", "surrogateescape").decode("utf-8", "replace")  # as a file may be called
         base.execute("insert into faults values (?, ?, ?, ?)", (run, answer["status"], answer["fault"], line))
-    rows = rows_of(answer["text"])
+    rows = rows_in(answer, task.answer)
     ports = [(*place, *values) for place, values in rows.ports.items()]
     insert(base, "links", run, rows.links)
     insert(base, "delays", run, rows.delays)
     insert(base, "spells", run, rows.spells)
     insert(base, "ports", run, ports)
+
+
+def rows_in(answer: Answer, path: Path) -> Rows:
+    """Reads the rows of an answer; raises OSError if the program did not print such."""
+    try:
+        return rows_of(answer["text"])
+    except (LookupError, ValueError, csv.Error) as error:
+        raise OSError(errno.EIO, "has rows that no afdx prints: remove it, and `run` asks again", str(path)) from error
 
 
 def insert(base: sqlite3.Connection, table: str, run: int | None, rows: Sequence[tuple[Any, ...]]) -> None:

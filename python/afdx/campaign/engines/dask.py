@@ -162,5 +162,6 @@ class Window:
         if self.tries[number] < task.tries:
             self.queue.append(number)
             return
-        put_lost(task, f"{task.tries} tries ended with their workers: {type(error).__name__}")
+        tries = "1 try" if task.tries == 1 else f"{task.tries} tries"
+        put_lost(task, f"{tries} ended with the workers: {type(error).__name__}")
         self.options.note(task, Outcome(work(task, task.tries).status, True))
