@@ -331,8 +331,7 @@ def test_missing_columns_of_all_lists_at_once(tmp_path: Path) -> None:
 
 
 def test_other_headings_of_columns_that_have_to_be_there(tmp_path: Path) -> None:
-    """Checks that the heading that may be meant is named; a column that the mapping names wrongly is only said to be
-    missing."""
+    """Checks that the heading that may be meant is named, also of a column that the mapping names wrongly."""
     links = worked_lists.LINKS.replace("bag_ms", "BAG [ms]").replace("jitter_us", "Jitter")
     paths, path = worked_lists.write(tmp_path, links), tmp_path / "map.toml"
     meant = "no such column, {} may be it: the mapping has to name it"
@@ -341,7 +340,7 @@ def test_other_headings_of_columns_that_have_to_be_there(tmp_path: Path) -> None
     assert refusal(paths).lines == (bag, jitter)
     path.write_text('[columns]\nbag_ms = "BAG"\n', encoding="utf-8")
     assert set(refusal(paths, "--mapping", str(path)).lines) == {
-        jitter, f"afdx-icd: no such column, {paths[0]} line 1, column BAG"}
+        jitter, f'afdx-icd: no such column, "BAG [ms]" may be it, {paths[0]} line 1, column BAG'}
 
 
 @pytest.mark.parametrize("order, column, heading", [

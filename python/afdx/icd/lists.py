@@ -96,7 +96,8 @@ class List:
             if column.key in self.places and len(self.places_of(column)) > 1:
                 self.complain_of_heading(column, "two columns of this name")
             elif is_named and column.key not in self.places and not (is_none and self.may_be_missing(column)):
-                self.complain_of_heading(column, "no such column")
+                likely = self.likely(column)
+                self.complain_of_heading(column, "no such column" + (f", {likely} may be it" if likely else ""))
             self.complain_of_missing(column)
 
     def complain_of_all(self, needed: Columns) -> None:
@@ -115,7 +116,8 @@ class List:
         ways too, so that none is passed over. A link's name is but a comment."""
         alike = begins_with_words if not self.may_be_missing(column) else looks_like
         others = [heading for at, heading in enumerate(self.sheet.heading.cells) if at not in self.places.values()]
-        likely = [heading for heading in others if any(alike(heading, name) for name in names_of(column))]
+        names = [*names_of(column), words_of(self.mapping.headings.get(column.key, ""))]
+        likely = [heading for heading in others if any(name and alike(heading, name) for name in names)]
         return json.dumps(one_line(likely[0]), ensure_ascii=False) if likely and column is not NAME else ""
 
     def complain_of_missing(self, column: Column[Any]) -> None:
