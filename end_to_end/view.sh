@@ -59,6 +59,13 @@ from_answers() {
         cmp <(sed '/id="origin"/,$d' network.html) <(sed '/id="origin"/,$d' answers.html)
 }
 
+# contradicts OPTION..: the files of trace with these options are refused beside the other answers of the run.
+contradicts() {
+    "$AFDX" trace "$network/table.toml" "$network/in" earlier "$@" &&
+        ends_with 5 "afdx-view: the files in earlier are not what size, measure and trace answer of $network/table.toml" \
+            "$network/table.toml" "$network/in" made/page.html --answers earlier
+}
+
 # tells_its_origin PAGE FILE..: the page has the program's version, and the sums of it and of each file, and says nothing of the host.
 tells_its_origin() {
     local page=$1 file sum
@@ -173,6 +180,8 @@ check "is the same but for its own name" diff <(sed 's/again\.html/network.html/
 check "so is that of earlier answers" from_answers
 check "answers that are not there" ends_with 5 "afdx-view: cannot read none/size.csv: No such file or directory" \
     "$network/table.toml" "$network/in" made/page.html --answers none
+check "answers of one link beside those of all" contradicts --link 100
+check "answers that count from the first frame beside stamps" contradicts --relative
 echo 'no,such,columns' >earlier/arrivals.csv
 check "answers that are none" ends_with 5 "afdx-view: the files in earlier are not what size, measure and trace answer of $network/table.toml" \
     "$network/table.toml" "$network/in" made/page.html --answers earlier

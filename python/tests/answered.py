@@ -16,7 +16,7 @@ FIRST = 1_768_471_200_000_000_000
 TABLE = Table(5_000, [1, 2], {10: Link(1_000_000, "high"), 11: Link(2_000_000, "low")})
 SIZE = """port,rate,rate_limit,buffer,buffer_limit,high,high_limit,low,low_limit,breaks
 1,10,2048000000,100,200,,,500,1000,
-2,20,2048000000,300,200,250,1000,,1000,L2;L4
+2,20,2048000000,300,200,250,1000,1000,900,L2;L4
 """
 MEASURED = """kind,link,port,sent,least,greatest,bound,slack,slack_per_mille,occupied,buffer,at
 delays,10,2,2,200,240,250,10,40,,,
@@ -24,6 +24,13 @@ delays,11,1,1,300,300,500,200,400,,,
 delays,11,2,1,400,400,1000,600,600,,,
 buffer,,1,,,,,,,0,200,
 buffer,,2,,,,,,,150,200,1768471200002000000
+"""
+NOTHING_LEFT = """kind,link,port,sent,least,greatest,bound,slack,slack_per_mille,occupied,buffer,at
+delays,10,2,0,,,250,,,,,
+delays,11,1,0,,,500,,,,,
+delays,11,2,0,,,1000,,,,,
+buffer,,1,,,,,,,0,200,
+buffer,,2,,,,,,,0,200,
 """
 ARRIVALS = """frame,port,record,stamp,size,link,fate,early,full
 0,1,1,1768471200000000000,64,10,passed,,

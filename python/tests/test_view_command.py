@@ -116,6 +116,41 @@ def test_answers_whose_numbers_are_none(folder: Path, name: str, old: str, new: 
         DEVICE, ("afdx-view: the files in . are not what size, measure and trace answer of table.toml",))
 
 
+@pytest.mark.parametrize("name, old, new", [
+    ("departures.csv", "2,2,4,11,low,64,1768471200002005000,0,0,400,sent\n", ""),  # the rows of some links alone
+    ("measure.csv", "delays,11,1,1,", "delays,11,1,2,"),
+    ("measure.csv", "delays,11,1,1,300,", "delays,11,1,0,,"),
+    ("measure.csv", "1768471200002000000", "1768471199999999999"),  # before the first frame
+    ("measure.csv", "1768471200002000000", "1768471200004000001"),  # after the last one
+    ("arrivals.csv", ",1768471200", ","), ("size.csv", ",250,1000,", ",251,1000,"),
+    ("size.csv", ",500,1000,", ",,1000,"), ("size.csv", "1,10,", "3,10,")])
+def test_answers_of_several_runs(folder: Path, name: str, old: str, new: str) -> None:
+    """Checks that answers which contradict each other are refused, as of `trace` with `--link` or `--relative`."""
+    text = (folder / name).read_text()
+    assert old in text
+    (folder / name).write_text(text.replace(old, new))
+    failure = refused("table.toml", ".", "page.html", "--answers", ".")
+    assert (failure.status, failure.lines) == (
+        DEVICE, ("afdx-view: the files in . are not what size, measure and trace answer of table.toml",))
+    assert not (folder / "page.html").exists()
+
+
+def test_a_trace_without_frames(folder: Path) -> None:
+    """Checks that the files of `trace --link` of a link without frames are refused, and so is a stamp without any."""
+    stamp = answered.NOTHING_LEFT.replace("2,,,,,,,0,200,", "2,,,,,,,64,200,1768471200002000000")
+    for measured in (answered.MEASURED, stamp):
+        answered.put_answers(folder, measured=measured, arrivals=answered.ARRIVALS.splitlines()[0],
+                             departures=answered.DEPARTURES.splitlines()[0])
+        assert refused("table.toml", ".", "page.html", "--answers", ".").status == DEVICE
+
+
+def test_answers_of_a_run_that_was_unchecked(folder: Path) -> None:
+    """Checks that no bound is looked for where `measure` has none."""
+    answered.put_answers(folder, answered.SIZE.replace(",500,", ",,"), re.sub(
+        r"(delays(?:,\d+){5}),\d+,\d+,\d+", r"\1,,,", answered.MEASURED))
+    assert command.main(["table.toml", ".", "page.html", "--answers", ".", "--unchecked"]) == 0
+
+
 def test_a_page_of_answers(folder: Path) -> None:
     """Checks that the page says what it was made of, and when, and nothing of the host."""
     assert command.main(["table.toml", str(folder), str(folder / "page.html"), "--answers", "."]) == 0
@@ -138,7 +173,7 @@ def test_what_the_text_of_a_page_says(folder: Path) -> None:
 
 
 def test_a_page_of_no_frames(folder: Path) -> None:
-    answered.put_answers(folder, measured=answered.MEASURED.replace("1768471200002000000", ""),
+    answered.put_answers(folder, measured=answered.NOTHING_LEFT,
                          arrivals=answered.ARRIVALS.splitlines()[0], departures=answered.DEPARTURES.splitlines()[0])
     command.main(["table.toml", ".", "page.html", "--answers", "."])
     page = (folder / "page.html").read_text()

@@ -3,7 +3,7 @@ from pathlib import Path
 
 import pytest
 
-from afdx.view import arrivals, verdict
+from afdx.view import arrivals, pictures, verdict
 from afdx.view.bars import Bar, bars_of
 from afdx.view.spells import Spell
 from tests import answered
@@ -87,6 +87,14 @@ def test_no_frames(tmp_path: Path) -> None:
     run = answered.read(tmp_path)
     assert run.fates.first is None
     assert run.policed.links == []
+
+
+def test_a_picture_of_a_port_without_points(tmp_path: Path, caplog: pytest.LogCaptureFixture) -> None:
+    """Checks that there is no legend, of which matplotlib would say that it names nothing."""
+    answered.put_answers(tmp_path, departures=answered.DEPARTURES.splitlines()[0])
+    figure = pictures.port_delays(answered.read(tmp_path), 2)
+    assert [axes.get_legend() for axes in figure.axes] == [None]
+    assert not caplog.records
 
 
 def test_bars() -> None:

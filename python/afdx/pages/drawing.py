@@ -39,12 +39,16 @@ def svg_of(figure: Any, label: str) -> str:
     return svg.replace("<svg", f'<svg role="img" aria-label="{label}"', 1)
 
 
-def head(axes: Any, title: str) -> None:
-    """Writes the title, and the legend below it if there is something to explain, both at the left."""
-    axes.set_title(title, loc="left", fontsize=12, pad=22, fontweight="bold")
+def legend(axes: Any, place: tuple[float, float], columns: int, **look: float) -> None:
+    """Writes the legend, with its lower left corner at the place, if there is something to name."""
     if axes.get_legend_handles_labels()[0]:  # else matplotlib warns on standard error
-        axes.legend(loc="lower left", bbox_to_anchor=(-0.01, 0.97), ncol=4, handletextpad=0.3,
-                    columnspacing=1, handlelength=1.5, borderaxespad=0.2)
+        axes.legend(loc="lower left", bbox_to_anchor=place, ncol=columns, columnspacing=1, **look)
+
+
+def head(axes: Any, title: str) -> None:
+    """Writes the title, and the legend below it, both at the left."""
+    axes.set_title(title, loc="left", fontsize=12, pad=22, fontweight="bold")
+    legend(axes, (-0.01, 0.97), 4, handletextpad=0.3, handlelength=1.5, borderaxespad=0.2)
 
 
 def rule(axes: Any) -> None:

@@ -35,6 +35,7 @@ class Columns:
     ports: Ints  # group of the port's picture
     priorities: Ints
     scales: Floats  # what a delay is a part of in the picture of the run
+    sent: Ints  # how many copies were, so far
 
 
 def columns_of(pairs: Sequence[Pair], drawn: Drawn, checked: bool) -> Columns:
@@ -45,7 +46,8 @@ def columns_of(pairs: Sequence[Pair], drawn: Drawn, checked: bool) -> Columns:
         numpy.array([shown.get(id(pair), -1) for pair in ordered], numpy.int64),
         numpy.array([drawn.port_group(pair.port, pair.priority) for pair in ordered], numpy.int64),
         numpy.array([PRIORITIES.index(pair.priority) for pair in ordered], numpy.int64),
-        numpy.array([pair.bound if checked else 1 for pair in ordered], numpy.float64))
+        numpy.array([pair.bound if checked else 1 for pair in ordered], numpy.float64),
+        numpy.zeros(len(ordered), numpy.int64))
 
 
 def add(drawn: Drawn, columns: Columns, rows: Any, first: int) -> None:
@@ -59,6 +61,7 @@ def add(drawn: Drawn, columns: Columns, rows: Any, first: int) -> None:
     for place, many in zip(*numpy.unique(own[~sent], return_counts=True)):
         columns.pairs[place].aged += int(many)
     own, delays = own[sent], delays[sent]
+    columns.sent[:] += numpy.bincount(own, minlength=len(columns.sent))
     instants = rows.came.to_numpy(numpy.int64)[sent] - first
     drawn.ports.add(columns.ports[own], instants, delays)
     drawn.run.add(columns.priorities[own], instants, delays / columns.scales[own])
@@ -70,3 +73,5 @@ def read(path: Path, drawn: Drawn, columns: Columns, first: int) -> None:
     kinds = {"port": "int64", "link": "int64", "came": "int64", "delay": "float64"}
     for rows in pieces(path, kinds):
         add(drawn, columns, rows, first)
+    for pair, many in zip(columns.pairs, columns.sent.tolist()):
+        pair.traced = many

@@ -18,7 +18,7 @@ from afdx import files, networks, signals, toml
 from afdx.failure import DEVICE, USAGE, Failure, failing
 from afdx.printed import CSV
 from afdx.program import Program, Progress
-from afdx.view import answers, provenance
+from afdx.view import agreement, answers, provenance
 from afdx.view.answers import Answers
 from afdx.view.table import Table, table_of
 
@@ -162,6 +162,7 @@ def make_by_answers(command: str, options: argparse.Namespace) -> None:
         check_inputs(command, options, [*inputs, *recorded_of(options, table.ports)])
         progress = Progress(command)
         run = read(kept, table, options.unchecked, progress)
+        agreement.check(run)
         text = drawn(options, run, origin_of(command, None, options, run, inputs), progress)
     except (ArithmeticError, LookupError, TypeError, ValueError) as error:
         asked = "size, measure, trace and compare" if options.recordings else "size, measure and trace"

@@ -21,6 +21,7 @@ class Pair(Sender):
     greatest: int | None
     bound: int | None  # None where none is promised
     aged: int = 0  # copies discarded for their age
+    traced: int = 0  # copies that were sent, as `trace` has them
 
     @property
     def lost(self) -> int:

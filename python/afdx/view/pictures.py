@@ -5,7 +5,7 @@ from typing import Any
 from matplotlib.figure import Figure
 from matplotlib.ticker import EngFormatter, PercentFormatter
 
-from afdx.pages.drawing import COLOURS, FOREIGN, INK, LATE, PASSED, POLICED, head, rule
+from afdx.pages.drawing import COLOURS, FOREIGN, INK, LATE, PASSED, POLICED, head, legend, rule
 from afdx.view.departures import PRIORITIES
 from afdx.view.differences import KINDS, Differences
 from afdx.view.greatest import Floats, Ints
@@ -126,7 +126,7 @@ def port_delays(run: Run, port: int) -> Any:
                          label=f"{priority}: bound {bound:,} ns")
     axes.set_ylim(bottom=0)
     axes.yaxis.set_major_formatter(SECONDS)
-    axes.legend(loc="lower left", bbox_to_anchor=(-0.02, 0.99), ncol=2, handletextpad=0.3, columnspacing=1)
+    legend(axes, (-0.02, 0.99), 2, handletextpad=0.3)
     return figure
 
 
@@ -149,8 +149,7 @@ def differing(differences: Differences, width: float) -> Any:
     axes.set_yticks(range(len(ports)), [f"port {port}" for port in ports])
     axes.set_ylim(len(ports) - 0.5, -0.5)
     axes.set_title("Differences, by port and time", loc="left", fontsize=12, pad=40, fontweight="bold")
-    axes.legend(loc="lower left", bbox_to_anchor=(-0.01, 1), ncol=5 if width > 6 else 3, handletextpad=0.1,
-                columnspacing=1, borderaxespad=0.2)
+    legend(axes, (-0.01, 1), 5 if width > 6 else 3, handletextpad=0.1, borderaxespad=0.2)
     return figure
 
 
