@@ -38,7 +38,7 @@ pub record IsFirstAt {R : Type 0} (remaining : R → Option (List ℕ)) (capture
   pub of_port : source.port ≡ port
   pub first : HasFirstFault remaining readers place why
 
--- why captures are not compared: memory ran out or a reader failed, which may be at any time; or all was read, and one has a fault
+-- why captures are not compared: memory ran out or a reader failed, which may be at any time; or of what the readers give one has a fault
 abbrev pub IsCompareFault : {R : Type 0} → (R → Option (List ℕ)) → List Source → List R → CompareFault → Type 0
 IsCompareFault remaining captures readers fault.Memory = Unit {0}
 IsCompareFault remaining captures readers (fault.Read place) = place < length readers

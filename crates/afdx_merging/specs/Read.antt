@@ -37,7 +37,7 @@ pub record HasFirstFault {R : Type 0} (remaining : R → Option (List ℕ)) (rea
   pub within : place < length texts
   pub before : (k : ℕ) (text : List ℕ) → k < place → slice_get texts k ≡ Some text → (rs : List Record) × IsCapture text rs
 
--- why nothing comes of it: memory ran out or a reader failed, which may be at any time; or all was read, and one has a fault
+-- why nothing comes of it: memory ran out or a reader failed, which may be at any time; or of what the readers give one has a fault
 abbrev pub IsMergeFault : {R : Type 0} → (R → Option (List ℕ)) → List R → MergeFault → Type 0
 IsMergeFault remaining readers fault.Memory = Unit {0}
 IsMergeFault remaining readers (fault.Read place) = place < length readers

@@ -155,8 +155,8 @@ IsRefusal net given why = IsRefusalUnless (NoneIsLateAnywhere net given) net giv
 abbrev pub IsUncheckedRefusal : Network → Given → NetworkRunFault → Type 0
 IsUncheckedRefusal net given why = IsRefusalUnless (NoneIsLateAnywhere net given × All IsAccepted net.tables) net given why
 
--- why there is none over what readers give: memory ran out or a reader failed, which may be at any time; or all was read, and there is no
--- run over that
+-- why there is none over what readers give: memory ran out or a reader failed, which may be at any time; or there is no run over what they
+-- give
 abbrev pub IsFaultOver : {R : Type 0} → (R → Option (List ℕ)) → Network → List R → (Given → NetworkRunFault → Type 0) → NetworkRunFault → Type 0
 IsFaultOver remaining net readers Refused fault.Memory = Unit {0}
 IsFaultOver remaining net readers Refused (fault.Read place) = place < length readers

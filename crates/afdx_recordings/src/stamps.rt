@@ -6,7 +6,7 @@ ghost use Rattle.afdx_recordings.specs.Recordings.{gap_of};
 /// Which instant the stamps of records that left are.
 #[derive(Clone, Copy, Debug, PartialEq, Eq)]
 pub enum Stamps {
-    /// The end of the last bit, as taps and network cards give it: 12 bytes of gap before the line is free (IEEE 802.3).
+    /// The end of the last bit: 12 bytes of gap before the line is free (IEEE 802.3).
     End,
     /// From when on the line is free, as this project's own captures have it.
     Free,

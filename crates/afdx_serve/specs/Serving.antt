@@ -331,11 +331,11 @@ FailsToPerform f (request.Compare c r form) input old new = FailsToCompareAll f 
 FailsToPerform f (request.Explain entry) input old new = FailsToWriteEntry f entry.now old.written new.written × KeepsFolder old new
 FailsToPerform f (request.Network r) input old new = FailsToPerformNetwork f r old new
 
--- help was asked for, and some text was written
+-- help or the version was asked for, and some text was written
 abbrev pub Helps : List (List ℕ) → World → World → Type 0
 Helps arguments old new = AskForHelp arguments × ((text : List ℕ) × Appends old.written new.written text) × KeepsFolder old new
 
--- help was asked for and written, or a request was done
+-- help or the version was asked for and some text was written, or a request was done
 abbrev pub Serves : List (List ℕ) → Option (List ℕ) → World → World → Type 0
 Serves arguments input old new = Helps arguments old new ⊎ ((r : Request) × Asks arguments r × Performs r input old new)
 

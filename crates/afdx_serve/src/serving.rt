@@ -119,12 +119,12 @@ fn serve_arguments<R: Read, O: Write, F: Folder>(
 /// `afdx network survey NET IN` writes the reports and these, and when links were policed. `afdx network trace NET IN OUT` puts
 /// OUT/A/arrivals.csv and OUT/A/departures.csv in place of the captures, and writes nothing.
 ///
-/// `afdx explain CODE` writes on `out` what MESSAGES says of CODE. `--help` and `--version` write the text of `clap` on `out`, the
-/// second that of `version` after the program's name. On a status above 1 the line of the failure, or its lines, go to `err`, and after
-/// them what MESSAGES says of their code if `--explain` is the first argument after the program's name: whole, or it is said that they
-/// were not taken, and a prefix of them is there; a fault in writing them changes nothing else. All other arguments mean what they mean
-/// without `--explain`. What is met before the answer is written leaves `out` as it was; if writing fails, a prefix of the answer was
-/// written.
+/// `afdx explain CODE` writes on `out` what MESSAGES says of CODE. `--help` and `--version` write some text on `out`: that of `clap`, the
+/// second that of `version` after the program's name, as tests show. On a status above 1 the line of the failure, or its lines, go to
+/// `err`, and after them what MESSAGES says of their code if `--explain` is the first argument after the program's name: whole, or it is
+/// said that they were not taken, and a prefix of them is there; a fault in writing them changes nothing else. All other arguments mean
+/// what they mean without `--explain`. What is met before the answer is written leaves `out` as it was; if writing fails, a prefix of the
+/// answer was written.
 ///
 /// No contract knows why a reader, a writer or a folder fails, or whether memory is left: that 5 comes only then, and
 /// that it is said only of an `err` that fails that it has not taken its lines, is shown by tests.

@@ -20,7 +20,7 @@ pub record HasFirstFault {R : Type 0} (remaining : R → Option (List ℕ)) (t :
   pub read : AreRead remaining readers texts
   pub first : IsFirstFault texts port why
 
--- why there is no outcome: memory ran out or a reader failed, which may be at any time; or all was read, and a text has a fault
+-- why there is no outcome: memory ran out or a reader failed, which may be at any time; or of what the readers give a text has a fault
 abbrev pub IsSourceFault : {R : Type 0} → (R → Option (List ℕ)) → Content → List R → SourceFault → Type 0
 IsSourceFault remaining t readers fault.Memory = Unit {0}
 IsSourceFault remaining t readers (fault.Read place) = place < length readers

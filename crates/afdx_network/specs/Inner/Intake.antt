@@ -128,8 +128,8 @@ IsAmong count merge.Memory = Unit {0}
 IsAmong count (merge.Read place) = place < count
 IsAmong count (merge.Capture place reason) = place < count
 
--- memory ran out or a reader failed, which may be at any time; or all was read, and what this port's reader gives is the first that is no
--- capture; or all are captures, and this port's line is the first that is broken
+-- memory ran out or a reader failed, which may be at any time; or what this port's reader gives is the first that is no capture; or all that
+-- the readers give are captures, and this port's line is the first that is broken
 abbrev pub IsIntakeFault : {R : Type 0} → (R → Option (List ℕ)) → Network → List R → NetworkRunFault → Type 0
 IsIntakeFault remaining net readers fault.Memory = Unit {0}
 IsIntakeFault remaining net readers (fault.Read place) = place < length readers
