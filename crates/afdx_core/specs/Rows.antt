@@ -40,7 +40,8 @@ says_clean i NoLink = false
 says_clean i WrongPort = false
 says_clean i TooBig = false
 
--- ARINC 664 Part 7: a link's own frames are the clean ones that came of it
+-- ARINC 664 Part 7: what comes in is filtered, and policed link by link; profile: which frames are clean, and that only these are policed.
+-- A link's own frames are the clean ones that came of it
 abbrev pub own_frames : ℕ → List Row → List Row
 own_frames i rows = filter (λ row. says_clean i row.verdict) rows
 
@@ -52,7 +53,8 @@ frame_of_row row = record { stamp = row.stamp; size = row.size }
 unfoldable pub account_frames : ℕ → List Row → List Frame
 account_frames i rows = map frame_of_row (own_frames i rows)
 
--- ARINC 664 Part 7: whether a link's frame is passed, after these arrivals
+-- ARINC 664 Part 7: a link is policed where it comes in, each by itself; profile: its account. Whether a link's frame is passed, after
+-- these arrivals
 unfoldable pub passes : Link → List Row → Row → Bool
 passes l before row = conforms (terms_of l) (passed_frames (terms_of l) (account_frames l.id before)) (frame_of_row row)
 

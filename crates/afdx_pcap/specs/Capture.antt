@@ -23,7 +23,8 @@ format_of magic =
     else if magic == 0x4d3cb2a1 then Some (record { endian = Little; resolution = Nanos })
     else None
 
--- pcap 2.4: version 2.4 and link type 1, or the first of them that is another
+-- the format, if the version is 2.4 and the link type 1, or the first of these that is another (pcap 2.4; that a file of another link type,
+-- or of another version, is refused, and in this order, is profile)
 abbrev pub checked_header : Option Format → List ℕ → Result Format PcapFault
 checked_header None bytes = Err Magic
 checked_header (Some f) bytes =
@@ -31,7 +32,8 @@ checked_header (Some f) bytes =
     then (if field f.endian 20 4 bytes == 1 then Ok f else Err (LinkType (field f.endian 20 4 bytes)))
     else Err Version
 
--- pcap 2.4: the format that the 24 bytes of a file's header give, or the first thing that is wrong with them
+-- the format that the 24 bytes of a file's header give, or the first thing for which they are refused (pcap 2.4; what is refused, and in
+-- which order, is profile)
 unfoldable pub header_of : List ℕ → Result Format PcapFault
 header_of bytes =
     if nat_lt (length bytes) 24 then Err NoHeader
