@@ -15,7 +15,7 @@ use Rattle.afdx_port.specs.declared.Sent.{Sent}
 use Rattle.afdx_core.specs.Merge.{Capture, merged}
 use Rattle.afdx_session.specs.Output.{written}
 use Rattle.afdx_session.specs.Streams.{sent_up_to}
-use Rattle.afdx_paced.specs.Paced.{Lane, Paced, arrivals, capture_of, changed, came_in, went_out, lane_at, sends_up_to, put_refusal, after_put, after_going, after_leaving, GoesOut, IsNextSent}
+use Rattle.afdx_paced.specs.Paced.{Lane, Paced, arrivals, capture_of, changed, came_in, went_out, lane_at, sends_up_to, put_refusal, after_put, after_going, after_leaving, GoesOut, sent_behind, next_sent_of}
 use Rattle.afdx_paced.specs.Laws.{LaterRecordsSendNothing, SendsGoOn}
 use Rattle.afdx_wiring.specs.declared.layout.End.{End}
 use Rattle.afdx_wiring.specs.declared.layout.Wire.{Wire}
@@ -99,9 +99,12 @@ at_front [] rest x = refl
 at_front (y ∷ front) rest x = at_front front rest x
 
 -- what leaves was sent as something
-pub sent_as : (old new : Paced) (port : ℕ) (out : Record) (sent : Option Sent) (g : GoesOut old new port out) → IsNextSent old port sent
+pub sent_as : (old new : Paced) (port : ℕ) (out : Record) (sent : Option Sent) (g : GoesOut old new port out) → sent ≡ next_sent_of old port
     → (x : Sent) × (sent ≡ Some x) × (slice_get (sends_up_to old (Some old.reached) g.row) (length g.lane.left) ≡ Some x)
-sent_as old new port out sent g next = by sent (next g.lane g.row g.lane_is g.row_is) where
+sent_as old new port out sent g next = by sent (next ∙ here) where
+  here : next_sent_of old port ≡ slice_get (sends_up_to old (Some old.reached) g.row) (length g.lane.left)
+  here = ap (λ (o : Option Lane). sent_behind old o (port_row old.table port)) g.lane_is ∙ ap (sent_behind old (Some g.lane)) g.row_is
+
   sends : List Sent
   sends = sends_up_to old (Some old.reached) g.row
 
@@ -201,7 +204,7 @@ same_keeps old new port out g = ap (λ (v : Paced). v.keeps) g.after
 
 -- a record leaves one of them, and its copy is noted once
 pub noted_once : (net : Network) (keeps : Bool) (was is : Option Origins) (sites : List Site) (e : End) (old new : Site) (out : Record) (sent : Option Sent) → slice_get sites e.switch ≡ Some old
-    → GoesOut old.paced new.paced e.port out → IsNextSent old.paced e.port sent → IsNotedOnce e sent was is → AreNoted net keeps sites was → AreNoted net keeps (slice_set sites e.switch new) is
+    → GoesOut old.paced new.paced e.port out → sent ≡ next_sent_of old.paced e.port → IsNotedOnce e sent was is → AreNoted net keeps sites was → AreNoted net keeps (slice_set sites e.switch new) is
 noted_once net keeps was is sites e old new out sent at g next once h =
     by was is (subst (λ (s : Option Sent). IsNotedOnce e s was is) shown.1 once) h where
       shown : (x : Sent) × (sent ≡ Some x) × (slice_get (sends_up_to old.paced (Some old.paced.reached) g.row) (length g.lane.left) ≡ Some x)

@@ -5,7 +5,7 @@ ghost use Rattle.afdx_units.specs.Time.{last_second};
 ghost use Rattle.afdx_count.specs.Run.{counts_of};
 ghost use Rattle.afdx_measure.specs.Wanted.{keeps_lists};
 ghost use Rattle.afdx_session.specs.Output.{rows_of};
-ghost use Rattle.afdx_paced.specs.Paced.{arrivals, put_refusal, not_of_memory, IsNextSent, HasTakenAll};
+ghost use Rattle.afdx_paced.specs.Paced.{arrivals, put_refusal, not_of_memory, next_sent_of, HasTakenAll};
 ghost use Rattle.afdx_table.specs.WellFormed.{IsWellFormed};
 ghost use Rattle.afdx_network.specs.declared.fault.NetworkRunFault.TheVariants as fault;
 ghost use Rattle.afdx_network.specs.Inner.Outputs.{silent, all_gone, texts_in, gone_in, HaveGone};
@@ -157,7 +157,7 @@ impl Site {
     /// Returns what the next record that left a port was sent as.
     pub(crate) fn next_sent(&self, port: u8) -> Option<Sent>
         requires going { self.now.paced.failed ≡ false }
-        ensures { IsNextSent self.now.paced port result }
+        ensures { result ≡ next_sent_of self.now.paced port }
     {
         self.paced.next_sent(port)
     }

@@ -3,9 +3,9 @@ use Rattle.std.proofs.Common.{◌≡◌, ℕ, zero, suc, ◌+◌, ◌<◌, ◌�
 use Rattle.std.proofs.Common.{refl, ap, sym, ◌∙◌, arith, inl, inr, subst}
 use Rattle.std.proofs.Common.{append_assoc, get_or-set_same, get_or-set_other}
 use Rattle.std.specs.Option.{option_map}
-use Rattle.std.specs.List.{AllByRecursion}
+use Rattle.std.specs.List.{AllByRecursion, position_or_len}
 use Rattle.std.proofs.lemmas.List.{map-set, length-append, append-nil}
-use Rattle.std.proofs.lemmas.Bool.{lt-ltb, cases_eq}
+use Rattle.std.proofs.lemmas.Bool.{lt-ltb, le-ltb, cases_eq}
 use Rattle.std.proofs.lemmas.Option.{slice_get-map, slice_get_within, same_Some}
 use Rattle.afdx_pcap.specs.Record.{Record}
 use Rattle.afdx_table.specs.declared.rows.PortRow.{PortRow}
@@ -35,7 +35,7 @@ use Rattle.afdx_paced.proofs.Cutting.{parted_whole, waits_from, cut_parted}
 use Rattle.afdx_port.specs.Inner.Course.{SentIsOfItems}
 use Rattle.afdx_paced.proofs.Passing.{long_rows}
 use Rattle.afdx_paced.proofs.Numbered.{sent_numbered}
-use Rattle.afdx_paced.proofs.Places.{IsPlaceOf}
+use Rattle.afdx_paced.proofs.Places.{is_of, IsPlaceOf, no_such_row}
 
 -- ---- what the switch sent
 
@@ -80,6 +80,13 @@ same_place r lanes port place is =
     let lt = slice_get_within r.table.ports place is.row is.row_at in
     let at = is.row_place in
     ap (λ n. cond (nat_lt n (length r.table.ports)) (Some n) None) at ∙ ap (λ b. cond b (Some place) None) (lt-ltb place (length r.table.ports) lt)
+
+-- nor does it know a port that they lack
+pub no_place : (r : Run) (lanes : List Parts) (port : ℕ) → map (λ (l : Parts). l.port) lanes ≡ map (λ (p : PortRow). p.id) r.table.ports
+    → length lanes ≤ position_or_len (is_of port) lanes → place_of r port ≡ None
+no_place r lanes port same past =
+    let first = position_or_len (λ (p : PortRow). p.id == port) r.table.ports in
+    ap (λ b. cond b (Some first) None) (le-ltb first (length r.table.ports) (no_such_row r.table.ports lanes port same past))
 
 -- what comes behind the records that left
 pub behind : (left rest xs : List Record) (k : ℕ) (x : Record) → k ≡ length left → xs ≡ left ++ rest → slice_get xs k ≡ Some x → (tail : List Record) × (rest ≡ x ∷ tail)

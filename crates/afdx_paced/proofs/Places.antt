@@ -75,3 +75,24 @@ no_such_lane (l ∷ lanes) port le = by (l.port == port) refl (no_such_lane lane
   by false other further =
       let more = ap (λ b. cond (not b) (1 + position_or_len (is_of port) lanes) zero) other in
       ap (λ b. cond b (Some (lane_of l)) (find (λ (m : Lane). m.port == port) (lanes_of lanes))) other ∙ further (omega (arith, le, more))
+
+-- nor a row
+pub no_such_row : (ports : List PortRow) (lanes : List Parts) (port : ℕ) → map (λ (l : Parts). l.port) lanes ≡ map (λ (p : PortRow). p.id) ports
+    → length lanes ≤ position_or_len (is_of port) lanes → length ports ≤ position_or_len (λ (p : PortRow). p.id == port) ports
+no_such_row [] lanes port same le = omega (arith)
+no_such_row (p ∷ ports) [] port same le = absurd cc
+no_such_row (p ∷ ports) (l ∷ lanes) port same le = by (l.port == port) refl (no_such_row ports lanes port (ap (drop 1) same)) where
+  number : l.port ≡ p.id
+  number = ap (λ (ns : List ℕ). get_or ns 0 0) same
+
+  by : (b : Bool) → (l.port == port) ≡ b → (length lanes ≤ position_or_len (is_of port) lanes → length ports ≤ position_or_len (λ (q : PortRow). q.id == port) ports)
+      → length (p ∷ ports) ≤ position_or_len (λ (q : PortRow). q.id == port) (p ∷ ports)
+  by true here further =
+      let none = ap (λ b. cond (not b) (1 + position_or_len (is_of port) lanes) zero) here in
+      absurd (omega (arith, le, none))
+  by false other further =
+      let more = ap (λ b. cond (not b) (1 + position_or_len (is_of port) lanes) zero) other in
+      let row : (p.id == port) ≡ false = ap (λ n. n == port) (sym number) ∙ other in
+      let step = ap (λ b. cond (not b) (1 + position_or_len (λ (q : PortRow). q.id == port) ports) zero) row in
+      let rest = further (omega (arith, le, more)) in
+      omega (arith, rest, step)

@@ -1,9 +1,7 @@
 -- What a port sends, and what its next record was sent as.
 use Rattle.std.proofs.Common.{◌≡◌, ℕ, ◌<◌, ◌≤◌, ◌==◌, false, nat_lt, List, map, length, slice_get, slice_index, Option, Some, None, refl, ap, sym, ◌∙◌, inl, inr}
-use Rattle.std.specs.Prelude.{find}
 use Rattle.std.specs.List.{AllByRecursion, position_or_len}
 use Rattle.std.proofs.lemmas.Bool.{cases_Bool, ltb-true, ltb-false}
-use Rattle.std.proofs.lemmas.Option.{same_Some}
 use Rattle.afdx_pcap.specs.Record.{Record}
 use Rattle.afdx_table.specs.declared.rows.PortRow.{PortRow}
 use Rattle.afdx_table.specs.Content.{port_row}
@@ -16,7 +14,7 @@ use Rattle.afdx_core.specs.Inner.Merge.{ByStampIsOrdered}
 use Rattle.afdx_session.specs.Streams.{sent_up_to, LaterArrivalsChangeNothing}
 use Rattle.afdx_session.specs.Inner.Settled.{IsAt}
 use Rattle.afdx_session.proofs.Showing.{sent_is}
-use Rattle.afdx_paced.specs.Paced.{Lane, Paced, arrivals, captures_of, sends_up_to, lane_at, after_put, IsNextSent}
+use Rattle.afdx_paced.specs.Paced.{Lane, Paced, arrivals, captures_of, sends_up_to, after_put, sent_behind, next_sent_of}
 use Rattle.afdx_paced.specs.Laws.{from, below, MergesAreCut, LaterRecordsSendNothing, SendsGoOn}
 use Rattle.afdx_paced.specs.Inner.Parts.{Parts, lane_of, lanes_of, waiting_of}
 use Rattle.afdx_paced.specs.Inner.Kept.{paced_of, IsOfTable, IsCut, given_of, HasLeft, IsGoing}
@@ -27,7 +25,7 @@ use Rattle.afdx_paced.proofs.Cutting.{parted_whole, waits_from, cut_parted}
 use Rattle.afdx_paced.proofs.Places.{is_of, IsPlaceOf, place_of_port, no_such_lane}
 use Rattle.afdx_paced.proofs.Puts.{same_below}
 use Rattle.afdx_paced.proofs.Growing.{sent_until, sent_in_the_end}
-use Rattle.afdx_paced.proofs.Handing.{same_place}
+use Rattle.afdx_paced.proofs.Handing.{same_place, no_place}
 
 -- ---- the laws
 
@@ -64,47 +62,37 @@ sends_is law cut ordered h f p going =
     ∙ law.sent t (given_of lanes) (merged (map waiting_of lanes)) h p later
     ∙ sym (sent_is t (given_of lanes) h f.switch p at)
 
--- a lane that is found has a place
-place_there : (lanes : List Parts) (port : ℕ) (lane : Lane) → find (λ (l : Lane). l.port == port) (lanes_of lanes) ≡ Some lane → position_or_len (is_of port) lanes < length lanes
-place_there lanes port lane found = elim (cases_Bool (nat_lt (position_or_len (is_of port) lanes) (length lanes))) [
-  | inl within ↦ ltb-true (position_or_len (is_of port) lanes) (length lanes) within
-  | inr past ↦ absurd (differ (sym (no_such_lane lanes port (ltb-false (position_or_len (is_of port) lanes) (length lanes) past)) ∙ found))
-] where
-  differ : None ≡ Some lane → ⊥
-  differ e = absurd cc
-
--- what it sends next is what comes behind as many as left
+-- what it sends next is what comes behind as many as left; without the port there is none
 pub next_is : {Z : Type 0} → LaterArrivalsChangeNothing → MergesAreCut → ByStampIsOrdered → (h : ℕ) (f : Feeder Z) (v : Paced) (port : ℕ) (next : Option Sent) → paced_of f h false ≡ v
-    → IsOfTable f → IsGoing h f → next_by f.switch.run (place_of f.switch.run port) ≡ next → IsNextSent v port next
-next_is {Z} law cut ordered h f v port next view of going is lane row lane_is row_is =
-    sym is
-    ∙ ap (next_by r) (same_place r f.lanes.items port place at)
-    ∙ ap (λ (o : Option PortRow). slice_get (sent_in r o) (slice_index r.handed place)) at.row_at
-    ∙ ap (λ (xs : List Sent). slice_get xs (slice_index r.handed place)) (sym (sends_is law cut ordered h f at.row going))
-    ∙ ap (slice_get (sends_up_to (paced_of f h false) (Some h) at.row)) before.count
-    ∙ ap (λ (w : Paced). slice_get (sends_up_to w (Some w.reached) at.row) (length at.lane.left)) view
-    ∙ ap (λ (p : PortRow). slice_get (sends_up_to v (Some v.reached) p) (length at.lane.left)) same_row
-    ∙ ap (λ (l : Lane). slice_get (sends_up_to v (Some v.reached) row) (length l.left)) same_lane where
+    → IsOfTable f → IsGoing h f → next_by f.switch.run (place_of f.switch.run port) ≡ next → next ≡ next_sent_of v port
+next_is {Z} law cut ordered h f v port next view of going is =
+    sym is ∙ elim (cases_Bool (nat_lt place (length f.lanes.items))) [
+      | inl within ↦ there (ltb-true place (length f.lanes.items) within)
+      | inr past ↦ not_there (ltb-false place (length f.lanes.items) past)
+    ] ∙ ap (λ (w : Paced). next_sent_of w port) view where
       r : Run
       r = f.switch.run
 
-      found : find (λ (l : Lane). l.port == port) (lanes_of f.lanes.items) ≡ Some lane
-      found = ap (λ (w : Paced). lane_at w port) view ∙ lane_is
+      seen : Paced
+      seen = paced_of f h false
 
       place : ℕ
       place = position_or_len (is_of port) f.lanes.items
 
-      at : IsPlaceOf r.table.ports f.lanes.items port place
-      at = place_of_port r.table.ports f.lanes.items port place of.ports refl (place_there f.lanes.items port lane found)
+      there : place < length f.lanes.items → next_by r (place_of r port) ≡ next_sent_of seen port
+      there within =
+          let at : IsPlaceOf r.table.ports f.lanes.items port place = place_of_port r.table.ports f.lanes.items port place of.ports refl within in
+          let before : HasLeft h f place at.row at.lane = going.left place at.row at.lane at.row_at at.at in
+          ap (next_by r) (same_place r f.lanes.items port place at)
+          ∙ ap (λ (o : Option PortRow). slice_get (sent_in r o) (slice_index r.handed place)) at.row_at
+          ∙ ap (λ (xs : List Sent). slice_get xs (slice_index r.handed place)) (sym (sends_is law cut ordered h f at.row going))
+          ∙ ap (slice_get (sends_up_to seen (Some h) at.row)) before.count
+          ∙ sym (ap (λ (o : Option Lane). sent_behind seen o (port_row seen.table port)) at.lane_is ∙ ap (sent_behind seen (Some (lane_of at.lane))) at.row_is)
 
-      before : HasLeft h f place at.row at.lane
-      before = going.left place at.row at.lane at.row_at at.at
-
-      same_lane : lane_of at.lane ≡ lane
-      same_lane = same_Some (lane_of at.lane) lane (sym at.lane_is ∙ found)
-
-      same_row : at.row ≡ row
-      same_row = same_Some at.row row (sym at.row_is ∙ ap (λ (w : Paced). port_row w.table port) view ∙ row_is)
+      not_there : length f.lanes.items ≤ place → next_by r (place_of r port) ≡ next_sent_of seen port
+      not_there past =
+          ap (next_by r) (no_place r f.lanes.items port of.ports past)
+          ∙ sym (ap (λ (o : Option Lane). sent_behind seen o (port_row seen.table port)) (no_such_lane f.lanes.items port past))
 
 -- what the switch says of it
 pub next_some : (r : Run) (port : ℕ) (next : ℕ × Sent) → IsNextOf r port (Some next) → next_by r (place_of r port) ≡ Some next.1

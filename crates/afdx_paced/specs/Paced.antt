@@ -130,10 +130,15 @@ abbrev pub IsNextOut : Paced → Paced → ℕ → Option Record → Type 0
 IsNextOut old new port None = NoneGoesOut old new port
 IsNextOut old new port (Some out) = GoesOut old new port out
 
--- what the next record of a port was sent as: of what it sends up to the instant, what comes after as many as left so far
-abbrev pub IsNextSent : Paced → ℕ → Option Sent → Type 0
-IsNextSent v port next = (lane : Lane) (row : PortRow) → lane_at v port ≡ Some lane → port_row v.table port ≡ Some row
-    → next ≡ slice_get (sends_up_to v (Some v.reached) row) (length lane.left)
+-- of what a port sends up to the instant, what comes after as many as left so far; none without the port
+abbrev pub sent_behind : Paced → Option Lane → Option PortRow → Option Sent
+sent_behind v None row = None
+sent_behind v (Some lane) None = None
+sent_behind v (Some lane) (Some row) = slice_get (sends_up_to v (Some v.reached) row) (length lane.left)
+
+-- what the next record of a port was sent as; none if all went out, or the table has no such port
+abbrev pub next_sent_of : Paced → ℕ → Option Sent
+next_sent_of v port = sent_behind v (lane_at v port) (port_row v.table port)
 
 -- between the instant that it has come to and this one nothing starts at any port
 abbrev pub IsQuietUntil : Paced → Option ℕ → Type 0

@@ -5,7 +5,7 @@ ghost use Rattle.afdx_units.specs.Time.{last_second};
 ghost use Rattle.afdx_count.specs.Run.{counts_of};
 ghost use Rattle.afdx_measure.specs.Wanted.{keeps_lists};
 ghost use Rattle.afdx_session.specs.Output.{rows_of};
-ghost use Rattle.afdx_paced.specs.Paced.{arrivals, fresh_paced, put_refusal, not_of_memory, after_put, after_going, IsNextOut, IsNextSent, IsNext, HasTakenAll};
+ghost use Rattle.afdx_paced.specs.Paced.{arrivals, fresh_paced, put_refusal, not_of_memory, after_put, after_going, next_sent_of, IsNextOut, IsNext, HasTakenAll};
 
 use crate::feeder::{Feeder, place_of};
 use crate::laws::{later_records_change_nothing, merges_are_cut};
@@ -149,7 +149,7 @@ impl<'a, A: Allocator + Copy> Paced<'a, A> {
     /// Returns what the record that [`Paced::next_out`] would hand out next was sent as; none if there is no such record or port. O(ports).
     pub fn next_sent(&self, port: u8) -> Option<Sent>
         requires going { self.now.failed ≡ false }
-        ensures { IsNextSent self.now port result }
+        ensures { result ≡ next_sent_of self.now port }
     {
         by_stamp_is_ordered();
         merges_are_cut();

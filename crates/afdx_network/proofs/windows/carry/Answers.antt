@@ -3,7 +3,7 @@ use Rattle.std.specs.Prelude.{All, slice_set}
 use Rattle.std.proofs.lemmas.Option.{same_Some, slice_get-get_or, slice_get_within, get_or_from_slice_get}
 use Rattle.afdx_pcap.specs.Bytes.{plain_bytes}
 use Rattle.afdx_pcap.specs.Record.{Record}
-use Rattle.afdx_paced.specs.Paced.{IsNextSent}
+use Rattle.afdx_paced.specs.Paced.{next_sent_of}
 use Rattle.afdx_wiring.specs.File.{Layout}
 use Rattle.afdx_wiring.specs.declared.layout.Wire.{Wire}
 use Rattle.afdx_network.specs.declared.fault.NetworkRunFault.TheVariants as fault
@@ -103,7 +103,7 @@ loop-index-init c =
           c.what_is_written_is_a_capture.ensures c.runs_leave_in_time.ensures.records c.args.network.now
           c.args.from c.args.place old (get_or old switch d) c.hand_out.new.self frame c.requires.going c.requires.all c.requires.place at h;
       noted = λ keeps known. noted_once c.args.network.now keeps c.args.origins.now c.note_sent.new.origins old c.args.from (get_or old switch d) c.hand_out.new.self frame c.next_sent-sent.result at
-          h.out_is (subst (λ (s : Site). IsNextSent s.paced c.args.from.port c.next_sent-sent.result) same c.next_sent-sent.ensures) c.note_sent.ensures known;
+          h.out_is (subst (λ (s : Site). c.next_sent-sent.result ≡ next_sent_of s.paced c.args.from.port) same c.next_sent-sent.ensures) c.note_sent.ensures known;
     }
 
 pub bring-requires-clause-within : goal.bring-requires-clause-within
