@@ -1,5 +1,6 @@
 -- What is found out from captures that readers give, and why nothing is (profile).
 use Rattle.std.specs.Prelude.{◌≡◌, ℕ, ◌<◌, Bool, true, false, List, length, Option, Some, slice_get}
+use Rattle.std.specs.Io.KnownBytes.{IsAtEnd}
 use Rattle.afdx_pcap.specs.declared.fault.PcapFault.{PcapFault}
 use Rattle.afdx_table.specs.Content.{Content}
 use Rattle.afdx_merging.specs.Merge.{Arrival}
@@ -44,3 +45,10 @@ IsCompareFault remaining captures readers fault.Memory = Unit {0}
 IsCompareFault remaining captures readers (fault.Read place) = place < length readers
 IsCompareFault remaining captures readers (fault.Came port why) = IsFirstAt remaining captures readers false port why
 IsCompareFault remaining captures readers (fault.Left port why) = IsFirstAt remaining captures readers true port why
+
+-- if a reader failed, those before it are at their ends; if a text is refused, all are
+abbrev pub WereAllRead : {R : Type 0} → (R → Option (List ℕ)) → List R → CompareFault → Type 0
+WereAllRead remaining now fault.Memory = Unit {0}
+WereAllRead {R} remaining now (fault.Read place) = (k : ℕ) (r : R) → k < place → slice_get now k ≡ Some r → IsAtEnd (remaining r)
+WereAllRead {R} remaining now (fault.Came port why) = (k : ℕ) (r : R) → slice_get now k ≡ Some r → IsAtEnd (remaining r)
+WereAllRead {R} remaining now (fault.Left port why) = (k : ℕ) (r : R) → slice_get now k ≡ Some r → IsAtEnd (remaining r)

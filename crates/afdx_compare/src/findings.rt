@@ -6,7 +6,7 @@ ghost use Rattle.afdx_table.specs.WellFormed.{IsWellFormed};
 ghost use Rattle.afdx_compare.specs.Comparison.{with_end, conform};
 ghost use Rattle.afdx_compare.specs.Sources.{sources_of};
 ghost use Rattle.afdx_compare.specs.Arrivals.{with_arrival, with_arrivals, greater};
-ghost use Rattle.afdx_compare.specs.Found.{IsFound, IsCompareFault};
+ghost use Rattle.afdx_compare.specs.Found.{IsFound, IsCompareFault, WereAllRead};
 ghost use Rattle.afdx_compare.specs.Inner.Sound.{IsSound};
 ghost use Rattle.afdx_compare.specs.Inner.Due.{MayArrive, MayAllArrive};
 ghost use Rattle.afdx_merging.specs.Inner.Merging.{HasMerged, least_of};
@@ -206,6 +206,7 @@ fn read_all<R: Read, A: Allocator + Copy>(
         → IsReadOut R.remaining recordings.now sources.now first (least_of merging.old.lanes.items) held.greatest held.records.items comparison.old comparison.new) }
     ensures err { IfErr result (λ fault. (first : List R) → HasMerged R.remaining sources.now.clocks first readers.old merging.old []
         → IsCompareFault R.remaining sources.now.captures first fault) }
+    ensures read { IfErr result (λ fault. WereAllRead R.remaining readers.new fault) }
 {
     ports_are_found();
     let mut held = Held {
@@ -266,6 +267,7 @@ pub fn compare<'t, R: Read, A: Allocator + Copy>(
     ensures ok { IfOk result (λ f. (f.recordings ≡ recordings.now)
         × IsFound R.remaining table.now recordings.now keeps readers.old f.from f.until f.first f.last f.comparison) }
     ensures err { IfErr result (λ fault. IsCompareFault R.remaining (sources_of table.now recordings.now).captures readers.old fault) }
+    ensures read { IfErr result (λ fault. WereAllRead R.remaining readers.new fault) }
 {
     is_formed(table);
     ports_are_found();

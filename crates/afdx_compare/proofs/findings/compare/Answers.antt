@@ -9,10 +9,10 @@ use Rattle.afdx_compare.specs.declared.sources.Source.{Source}
 use Rattle.afdx_compare.specs.Comparison.{Comparison, with_until, with_end}
 use Rattle.afdx_compare.specs.Arrivals.{with_arrivals}
 use Rattle.afdx_compare.specs.Sources.{Sources, sources_of}
-use Rattle.afdx_compare.specs.Found.{IsCompareFault}
+use Rattle.afdx_compare.specs.Found.{IsCompareFault, WereAllRead}
 use Rattle.afdx_compare.proofs.Clocked.{sources_many}
 use Rattle.afdx_compare.proofs.Ends.{instant_of}
-use Rattle.afdx_compare.proofs.Faulting.{fault_within}
+use Rattle.afdx_compare.proofs.Faulting.{fault_within, fault_read}
 use Rattle.afdx_compare.proofs.Reading.{is_ready, end_may, is_found}
 use Rattle.afdx_compare.proofs.Taking.{MayGoOn}
 use Rattle.afdx_compare.proofs.findings.compare.Goals as goal
@@ -106,3 +106,12 @@ returns-clause-ok g c =
           (c.unwrap_or-from.ensures ∙ is_instant c.or.result ∙ ap instant_of (c.or.ensures ∙ ap (λ (o : Option ℕ). option_or r.from o) c.least.ensures))
           (c.unwrap_or-until.ensures ∙ is_instant c.or-2.result ∙ ap instant_of c.or-2.ensures) last,
     )
+
+pub returns-in-Err-clause-read : goal.returns-in-Err-clause-read
+returns-in-Err-clause-read g c =
+    fault_read g.R.Read.remaining c.in_ok-sources.sources.captures c.open.new.readers c.in-Err.fault c.fault.result c.in-Err.ensures.read c.fault.ensures
+
+pub returns-in_err-held-clause-read : goal.returns-in_err-held-clause-read
+returns-in_err-held-clause-read g c =
+    of_error (λ fault. WereAllRead g.R.Read.remaining c.read_all.new.readers fault) c.from_residual-in_err-held.result c.in_err-held.field-0.0 c.from_residual-in_err-held.ensures
+    c.in_err-held.ensures.read

@@ -8,9 +8,9 @@ use Rattle.afdx_merging.specs.Inner.Merging.{HasMerged, least_of}
 use Rattle.afdx_merging.proofs.Failing.{of_error}
 use Rattle.afdx_compare.specs.declared.sources.CompareFault.TheVariants.{Memory}
 use Rattle.afdx_compare.specs.Sources.{Sources}
-use Rattle.afdx_compare.specs.Found.{IsCompareFault}
+use Rattle.afdx_compare.specs.Found.{IsCompareFault, WereAllRead}
 use Rattle.afdx_compare.proofs.Clocked.{sources_many}
-use Rattle.afdx_compare.proofs.Faulting.{fault_within, fault_is}
+use Rattle.afdx_compare.proofs.Faulting.{fault_within, fault_is, fault_read}
 use Rattle.afdx_compare.proofs.Reading.{starts, next_may, next_read, read_out}
 use Rattle.afdx_compare.proofs.findings.read_all.Goals as goal
 
@@ -118,3 +118,10 @@ returns-in_err-take_next-in-Ok-Some-clause-err g c =
     let s = c.args.sources.now in
     of_error (λ fault. (first : List g.row.R.Denot) → HasMerged rem s.clocks first c.args.readers.now c.args.merging.now [] → IsCompareFault rem s.captures first fault) c.from_residual.result Memory
     c.from_residual.ensures (λ first merged. tt)
+
+pub returns-in-Err-clause-read : goal.returns-in-Err-clause-read
+returns-in-Err-clause-read g c = fault_read g.R.Read.remaining c.args.sources.now.captures c.next.new.readers c.in-Err.fault c.fault.result c.in-Err.ensures.read c.fault.ensures
+
+pub returns-in_err-take_next-in-Ok-Some-clause-read : goal.returns-in_err-take_next-in-Ok-Some-clause-read
+returns-in_err-take_next-in-Ok-Some-clause-read g c =
+    of_error (λ fault. WereAllRead g.R.Read.remaining c.next.new.readers fault) c.from_residual.result Memory c.from_residual.ensures tt
