@@ -1,5 +1,5 @@
 -- What a port sends, and what its next record was sent as.
-use Rattle.std.proofs.Common.{◌≡◌, ℕ, ◌<◌, ◌≤◌, ◌==◌, false, nat_lt, List, map, length, slice_get, slice_index, Option, Some, None, refl, ap, sym, ◌∙◌, inl, inr}
+use Rattle.std.proofs.Common.{◌≡◌, ℕ, ◌<◌, ◌≤◌, false, nat_lt, List, map, length, slice_get, slice_index, Option, Some, refl, ap, sym, ◌∙◌, inl, inr}
 use Rattle.std.specs.List.{AllByRecursion, position_or_len}
 use Rattle.std.proofs.lemmas.Bool.{cases_Bool, ltb-true, ltb-false}
 use Rattle.afdx_pcap.specs.Record.{Record}
@@ -16,7 +16,7 @@ use Rattle.afdx_session.specs.Inner.Settled.{IsAt}
 use Rattle.afdx_session.proofs.Showing.{sent_is}
 use Rattle.afdx_paced.specs.Paced.{Lane, Paced, arrivals, captures_of, sends_up_to, after_put, sent_behind, next_sent_of}
 use Rattle.afdx_paced.specs.Laws.{from, below, MergesAreCut, LaterRecordsSendNothing, SendsGoOn}
-use Rattle.afdx_paced.specs.Inner.Parts.{Parts, lane_of, lanes_of, waiting_of}
+use Rattle.afdx_paced.specs.Inner.Parts.{Parts, lane_of, waiting_of}
 use Rattle.afdx_paced.specs.Inner.Kept.{paced_of, IsOfTable, IsCut, given_of, HasLeft, IsGoing}
 use Rattle.afdx_paced.specs.declared.feeder.Feeder.{Feeder}
 use Rattle.afdx_paced.proofs.Lists.{all_weaker}
