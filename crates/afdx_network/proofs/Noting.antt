@@ -15,7 +15,8 @@ use Rattle.afdx_port.specs.declared.Sent.{Sent}
 use Rattle.afdx_core.specs.Merge.{Capture, merged}
 use Rattle.afdx_session.specs.Output.{written}
 use Rattle.afdx_session.specs.Streams.{sent_up_to}
-use Rattle.afdx_paced.specs.Paced.{Lane, Paced, arrivals, capture_of, changed, came_in, went_out, lane_at, sends_up_to, put_refusal, after_put, after_going, after_leaving, GoesOut, sent_behind, next_sent_of}
+use Rattle.afdx_paced.specs.Paced.{Lane, Paced, arrivals, capture_of, changed, came_in, went_out, lane_at, sends_up_to, put_refusal, after_put, after_going, after_leaving, GoesOut}
+use Rattle.afdx_paced.specs.Paced.{sent_behind, next_sent_of}
 use Rattle.afdx_paced.specs.Laws.{LaterRecordsSendNothing, SendsGoOn}
 use Rattle.afdx_wiring.specs.declared.layout.End.{End}
 use Rattle.afdx_wiring.specs.declared.layout.Wire.{Wire}
