@@ -107,13 +107,14 @@ def interfaces_unasked(reading: Reading) -> dict[int, str]:
     found = {place: reading.recording.interfaces[place] for place, _, _, _ in reading.left.rows()}
     numbers = {place: str(interface.number) for place, interface in found.items()
                if not any(taker.is_asked(interface) for taker in reading.takers)}
-    return dict.fromkeys(numbers, f", interface{'s' * (len(numbers) > 1)} {listed(numbers.values())}")
+    what = "interface" if len(numbers) == 1 else "interfaces"
+    return dict.fromkeys(numbers, f", {what} {listed(numbers.values())}")
 
 
 def listed(names: Iterable[str]) -> str:
     """Returns names in a row, the first ones if they are many."""
     names = list(names)
-    return " ".join(names[:MOST_NAMED]) + " .." * (len(names) > MOST_NAMED)
+    return " ".join(names if len(names) <= MOST_NAMED else [*names[:MOST_NAMED], ".."])
 
 
 def interface_note(taker: Taker) -> str:
