@@ -14,8 +14,6 @@ from afdx.icd.spreadsheet import Formula, Row, Struck
 T = TypeVar("T")
 UNITS = {"ms", "us", "ns"}  # at the ends of keys
 UNSAVED = "a formula whose value was not saved with it"
-
-
 NOTE = "no more than two cells of this row are filled: if it is a note, it has to go"
 STRUCK = "struck through, and read all the same: if this row does not count, it has to go"
 

@@ -22,8 +22,6 @@ BINS = 64  # medians through which a line is laid
 NEARLY = 0.8  # of the frames for one offset, from which on another one is as likely
 NOISE, SUPPOSED = 2000, 4  # ns by which so many frames more are taken to be off: few frames may fit by chance
 SURE = 4  # times the error of the drift, beyond which it is none of the noise
-
-
 AGAIN = "the same frames come again and again: more than one offset fits"
 
 
