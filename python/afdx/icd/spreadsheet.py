@@ -7,11 +7,11 @@ import warnings
 from collections.abc import Iterable, Iterator
 from dataclasses import dataclass
 from pathlib import Path
-from typing import Any
+from typing import IO, Any
 from xml.etree import ElementTree
 from zipfile import ZipFile
 
-import openpyxl
+from openpyxl.reader.excel import ExcelReader
 from openpyxl.utils import coordinate_to_tuple, range_boundaries
 
 from afdx import files
@@ -38,10 +38,9 @@ class Struck(str):
 
 @dataclass(frozen=True)
 class Marks:
-    """What tells that a cell's value is none, or is struck through."""
+    """What tells that a cell's value is none, or is struck through in part."""
     none: str  # what was saved with formulas that were not computed
-    styles: set[str]  # of cells that are struck through, by number
-    texts: set[str]  # those that all sheets share and that are struck through in part, so too
+    texts: set[str]  # those that all sheets share and that are struck through in part, by number
 
 
 @dataclass(frozen=True)
@@ -69,6 +68,12 @@ def text_of(value: object) -> str:
     return str(value).strip()
 
 
+def text_in(cell: Any) -> str:
+    """Returns the text of a workbook's cell, marked if all of it is struck through."""
+    text = text_of(cell.value)
+    return Struck(text) if text and cell.font.strike else text
+
+
 def is_uncomputed(parts: ZipFile) -> bool:
     """Returns whether a workbook says that all its formulas have to be computed when it is opened, and no program has
     left the order in which it computed them. XlsxWriter saves 0 with formulas, and such a workbook."""
@@ -83,22 +88,20 @@ def has_strike(text: ElementTree.Element) -> bool:
     return any(strike.get("val") not in ("0", "false") for strike in text.iter(f"{PARTS}strike"))
 
 
-def marks_of(book: Any, parts: ZipFile) -> Marks:
-    styles = {str(at) for at, style in enumerate(book._cell_styles) if book._fonts[style.fontId].strike}
+def marks_of(parts: ZipFile) -> Marks:
     shared = list(ElementTree.fromstring(parts.read(SHARED))) if SHARED in parts.namelist() else []
     texts = {str(at) for at, text in enumerate(shared) if has_strike(text)}
-    return Marks(UNCOMPUTED if is_uncomputed(parts) else "", styles, texts)
+    return Marks(UNCOMPUTED if is_uncomputed(parts) else "", texts)
 
 
-def elements_of(sheet: Any) -> Iterator[ElementTree.Element]:
-    """Returns a sheet's rows and merged ranges one by one. What they have beside values openpyxl does not say of a
-    sheet that it reads row by row."""
-    with sheet._get_source() as source:
-        for _, element in ElementTree.iterparse(source):
-            if element.tag in (MERGED, ROW):
-                yield element
-            if element.tag == ROW:
-                element.clear()
+def elements_of(part: IO[bytes]) -> Iterator[ElementTree.Element]:
+    """Returns a sheet's rows and merged ranges one by one. What they have beside values and fonts openpyxl does not say
+    of a sheet that it reads row by row."""
+    for _, element in ElementTree.iterparse(part):
+        if element.tag in (MERGED, ROW):
+            yield element
+        if element.tag == ROW:
+            element.clear()
 
 
 def is_saved(cell: ElementTree.Element, none: str) -> bool:
@@ -125,19 +128,19 @@ def put_formula(rows: list[Row], line: int, column: int, cell: ElementTree.Eleme
 
 
 def put_struck(cells: list[str], column: int, cell: ElementTree.Element, marks: Marks) -> None:
-    """Marks the text of a cell that is struck through."""
+    """Marks the text of a cell that is struck through in part."""
     shared = cell.findtext(f"{PARTS}v") if cell.get("t") == "s" else None
-    is_struck = cell.get("s") in marks.styles or shared in marks.texts or has_strike(cell)
+    is_struck = shared in marks.texts or has_strike(cell)
     text = cells[column - 1] if column <= len(cells) else ""
     if is_struck and text and not isinstance(text, Formula):
         cells[column - 1] = Struck(text)
 
 
-def put_marks(rows: list[Row], sheet: Any, marks: Marks) -> list[str]:
-    """Puts formulas without values where they stand, and marks what is struck through. Returns the ranges of merged
-    cells, A2:B5 for instance."""
+def put_marks(rows: list[Row], part: IO[bytes], marks: Marks) -> list[str]:
+    """Puts formulas without values where they stand, and marks what is struck through in part. Returns the ranges of
+    merged cells, A2:B5 for instance."""
     ranges, line = [], 0
-    for element in elements_of(sheet):
+    for element in elements_of(part):
         if element.tag == MERGED:
             ranges.append(element.attrib["ref"])
             continue
@@ -169,14 +172,14 @@ def workbook_rows(text: bytes) -> tuple[list[Row], str]:
     """Returns the rows of a workbook's first visible sheet, of formulas the values that were saved with them, and the
     sheet's name if more than one is visible. How large the sheet says that it is does not count: programs other than
     Excel write less than there is."""
-    book = openpyxl.load_workbook(io.BytesIO(text), read_only=True, data_only=True)
-    sheet, *others = (sheet for sheet in book.worksheets if sheet.sheet_state == "visible")
+    reader = ExcelReader(io.BytesIO(text), read_only=True, data_only=True)
+    reader.read()
+    sheet, *others = (sheet for sheet in reader.wb.worksheets if sheet.sheet_state == "visible")
     sheet.reset_dimensions()
-    values = sheet.iter_rows(values_only=True)
-    rows = [Row(line, [text_of(value) for value in row]) for line, row in enumerate(values, 1)]
-    with ZipFile(io.BytesIO(text)) as parts:
-        marks = marks_of(book, parts)
-    spread(rows, put_marks(rows, sheet, marks))
+    rows = [Row(line, [text_in(cell) for cell in cells]) for line, cells in enumerate(sheet.iter_rows(), 1)]
+    part = next(link.target for found, link in reader.parser.find_sheets() if found.name == sheet.title)
+    with reader.archive as parts, parts.open(part) as source:
+        spread(rows, put_marks(rows, source, marks_of(parts)))
     return rows, sheet.title if others else ""
 
 
