@@ -18,11 +18,18 @@ class Waiting:
 waiting = Waiting()
 
 
+def pass_over(*_: object) -> None:
+    """Takes a signal that comes while the command ends."""
+
+
 def end(number: int, _: FrameType | None = None) -> None:
     """Ends the command, with no traceback; no further signal disturbs that."""
     if waiting.waits:
         waiting.number = number
         return
+    for ending in ENDING:
+        signal.signal(ending, pass_over)
+    signal.raise_signal(number)  # has Python take all that came at once: of one that is ignored it prints a traceback
     for ending in ENDING:
         signal.signal(ending, signal.SIG_IGN)
     raise SystemExit(128 + number)  # not sys.exit, whose exception pandas cannot raise again while it reads

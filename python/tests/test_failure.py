@@ -42,6 +42,20 @@ def fail(arguments):
 sys.exit(run(fail))
 """
 
+# a command that two signals end at once
+TWICE = """
+import signal, sys
+from afdx.failure import run
+
+def main(arguments):
+    signal.pthread_sigmask(signal.SIG_BLOCK, (signal.SIGINT, signal.SIGTERM))
+    signal.raise_signal(signal.SIGINT)
+    signal.raise_signal(signal.SIGTERM)
+    signal.pthread_sigmask(signal.SIG_UNBLOCK, (signal.SIGINT, signal.SIGTERM))
+
+sys.exit(run(main))
+"""
+
 # a command that runs a program, and takes long from the program's first word to its own next step
 RUNNING = """
 import subprocess, sys, time
@@ -129,6 +143,12 @@ def test_a_signal(tmp_path: Path, number: signal.Signals) -> None:
         assert process.communicate() == ("", "")
     assert process.returncode == 128 + number
     assert list(tmp_path.iterdir()) == []
+
+
+def test_two_signals_at_once(tmp_path: Path) -> None:
+    with begun(tmp_path, TWICE) as process:
+        assert process.communicate() == ("", "")
+    assert process.returncode == 128 + signal.SIGINT
 
 
 def test_a_signal_while_pandas_reads(tmp_path: Path) -> None:
