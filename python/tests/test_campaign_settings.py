@@ -72,6 +72,19 @@ def test_a_damaged_list_of_tasks(tmp_path: Path, text: str) -> None:
         "`afdx-campaign run` lists them",))
 
 
+def test_a_list_of_tasks_that_is_cut(tmp_path: Path) -> None:
+    """Checks one that is cut at the end of a line: fewer tasks would be all of them."""
+    file = campaign(tmp_path)
+    put_plan(read_campaign(file), tasks_of(read_campaign(file)))
+    listed = tmp_path / "campaign/tasks.jsonl"
+    for words in (["status"], ["page"], ["again", "--status", "5"]):
+        listed.write_text("".join(listed.read_text().splitlines(keepends=True)[:-1]))
+        with pytest.raises(Failure) as failure:
+            main([words[0], str(file), *words[1:]])
+        assert (failure.value.status, failure.value.lines) == (5, (
+            f"afdx-campaign: no list of tasks, or one of another version: {listed}: `afdx-campaign run` lists them",))
+
+
 def test_a_list_of_tasks_is_of_one_campaign_file(tmp_path: Path, capsys: pytest.CaptureFixture[str]) -> None:
     """Checks that another file is refused by all that read the list, and that one that changed is told."""
     file = campaign(tmp_path)

@@ -127,8 +127,8 @@ def origin_of(campaign: Campaign) -> dict[str, str]:
 
 
 def put_plan(campaign: Campaign, tasks: list[Task]) -> None:
-    """Puts the list of tasks, below a line that says of which campaign file it is."""
-    rows = [origin_of(campaign), *map(asdict, tasks)]
+    """Puts the list of tasks, below a line that says of which campaign file it is and how many they are."""
+    rows = [origin_of(campaign) | {"tasks": len(tasks)}, *map(asdict, tasks)]
     put_text(plan_file(campaign.root), "".join(f"{json.dumps(row)}\n" for row in rows))
 
 
@@ -141,6 +141,8 @@ def get_plan(campaign: Campaign) -> list[Task]:
             origin = json.loads(next(file, ""))
             said = str(origin["file"]), str(origin["hash"])
             tasks = [replace(task_of(json.loads(line)), root=str(root)) for line in file]
+        if len(tasks) != origin["tasks"]:
+            raise ValueError
     except FileNotFoundError as error:
         raise failure(DEVICE, f"no tasks in {root}: `afdx-campaign run` lists them") from error
     except OSError as error:
