@@ -292,6 +292,14 @@ def test_the_names_of_a_network_s_files() -> None:
     assert answers.inputs_of(asked, "in")["in/A/port-1.pcap"] == "in/A/port-1.pcap"
 
 
+def test_tables_of_one_name() -> None:
+    """Checks that the switch tells tables apart that lie in other folders, and not those that are one file."""
+    tables = {"A": Path("/one/table.toml"), "B": Path("/other/table.toml"), "C": Path("/one/c.toml"),
+              "D": Path("/one/c.toml")}
+    asked = replace(answered.asked(), name="net.toml", layout=Layout(tables, answered.WIRES))
+    assert list(map(asked.shown_table, tables)) == ["table.toml of A", "table.toml of B", "c.toml", "c.toml"]
+
+
 @pytest.mark.parametrize("text", ["switch = []\n", "wire = []\n"])
 def test_a_network_without_switches(tmp_path: Path, monkeypatch: pytest.MonkeyPatch, text: str) -> None:
     monkeypatch.chdir(tmp_path)

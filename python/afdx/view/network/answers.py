@@ -36,8 +36,10 @@ class Asked:
     tables: dict[str, Table]
 
     def shown_table(self, switch: str) -> str:
-        """Returns what the page shows of the name of a switch's table."""
-        return shown(str(self.layout.tables[switch]), str(Path(self.name).parent))
+        """Returns what the page shows of the name of a switch's table, with the switch if another table is shown so."""
+        names = {path: shown(str(path), str(Path(self.name).parent)) for path in self.layout.tables.values()}
+        name = names[self.layout.tables[switch]]
+        return f"{name} of {switch}" if list(names.values()).count(name) > 1 else name
 
 
 @dataclass(frozen=True)
