@@ -152,6 +152,20 @@ def test_a_mirror_of_both_directions(folder: Folder, later: int, count: int, sho
         "does the recording hold what leaves the switch too? take only what comes in, port-1"][:shown])
 
 
+def test_a_link_without_sequence_numbers(folder: Folder) -> None:
+    """Checks that it is not taken for a mirror of both directions, also beside others."""
+    came = [Record(AT + number * 10**6, frame(number % 2, fill=number % 2 * number)) for number in range(100)]
+    assert folder.run(ONE, a_pcap=captures.pcap(came))[::2] == (0, [])
+
+
+def test_a_mirror_of_links_in_step(folder: Folder) -> None:
+    """Checks links whose frames end with the same bytes for longer than 5 ms, as their sequence numbers are equal."""
+    came = [Record(AT + number * 10**6, frame(number % 10, fill=number // 10)) for number in range(100)]
+    both = sorted([*came, *(replace(one, stamp=one.stamp + 1000) for one in came)], key=lambda one: one.stamp)
+    _, _, [said] = folder.run(ONE, a_pcap=captures.pcap(both))
+    assert "100 of 200 frames looked at" in said
+
+
 def tagged(data: bytes, *kinds: str) -> bytes:
     return data[:12] + b"".join(bytes.fromhex(kind) + b"\x20\x05" for kind in kinds) + data[12:]
 

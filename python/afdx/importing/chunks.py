@@ -2,6 +2,7 @@
 from dataclasses import dataclass, replace
 
 import numpy as np
+import numpy.typing as npt
 
 from afdx.importing.copying import copied, permuted, places_of
 from afdx.recordings.columns import ROOM, Column, Origin, at_any
@@ -9,6 +10,7 @@ from afdx.recordings.faults import Place
 
 SOON = 5_000_000  # ns; a link's frames that are so near have other sequence numbers
 KEY = 8  # bytes at a frame's end, which its sequence number is among
+LINK, LINK_SIZE = 4, 2  # where a frame has its link, and in how many bytes
 
 
 @dataclass(frozen=True)
@@ -109,14 +111,26 @@ class Ordered:
 
     def repeated(self, most: int) -> int:
         """Counts those of the first so many records whose frames have the bytes of an earlier one, of an earlier stamp,
-        SOON before or sooner. Only where the ends of frames are the same all bytes are compared."""
-        key = at_any(self.text, "<u8")[self.at[1:most + 1] - KEY]
+        SOON before or sooner, but for those of links without sequence numbers, which go on so for longer. Only where
+        links and the ends of frames are the same all bytes are compared."""
+        key = self.keys(most)
         order = np.argsort(key, kind="stable")
         stamp, key = self.stamp.take(order), key.take(order)
         apart = stamp[1:] - stamp[:-1]
-        near = np.flatnonzero((key[1:] == key[:-1]) & (apart > 0) & (apart <= SOON))
+        same = (key[1:] == key[:-1]) & (apart <= SOON)
+        begin = np.flatnonzero(np.append(True, ~same))
+        lasts = np.append(stamp[begin[1:] - 1], stamp[-1]) - stamp[begin]
+        is_short = np.repeat(lasts <= SOON, np.diff(begin, append=len(stamp)))
+        near = np.flatnonzero(same & (apart > 0) & is_short[1:])
         return sum(self.frame(before) == self.frame(after)
                    for before, after in zip(order[near].tolist(), order[near + 1].tolist()))
+
+    def keys(self, most: int) -> npt.NDArray[np.uint64]:
+        """Returns what the first so many frames end with, together with their links."""
+        begin, end = self.at[:-1][:most], self.at[1:most + 1]
+        link = at_any(self.text, "<u2")[np.minimum(begin + ROOM + LINK, end - LINK_SIZE)]
+        key: npt.NDArray[np.uint64] = at_any(self.text, "<u8")[end - KEY] ^ (link.astype(np.uint64) << np.uint64(32))
+        return key
 
     def frame(self, index: int) -> bytes:
         return bytes(self.text[self.at[index] + ROOM:self.at[index + 1]])
