@@ -123,6 +123,12 @@ cable_delay() {
         printf '[columns.wires]\ndelay_ns = "Cable delay [ns]"\n' >>delays/map.toml && unchanged delays
 }
 
+# default_priority: the priority under a heading that the mapping does not name, beside a default for it.
+default_priority() {
+    cp -r lists prio && sed -i '/^priority = /d' prio/map.toml && printf '[defaults]\npriority = "L"\n' >>prio/map.toml && one_line 3 prio \
+        '"PRIO" may be this column: the mapping has to name it, or "" for none, prio/icd.csv line 1, column priority'
+}
+
 # note: a title above a list and a note under it have a line each.
 note() {
     local what="no more than two cells of this row are filled: if it is a note, it has to go"
@@ -185,6 +191,7 @@ for column in "buffer Port buffer [byte]" "buffer TxBuffer" "buffer Buf." "max_d
     check "the heading ${column#* }" looks_like ends "${column%% *}" "${column#* }"
 done
 check "the heading Cable delay [ns]" cable_delay
+check "the heading PRIO beside a default" default_priority
 check "a note and a title" note
 check "a cover before the list" in_a_workbook covered 3 "none of the headings VL_ID, SRC_ES, DST_ES, bag_ms, jitter_us, PRIO: \
 is the list on another sheet, is there a title above them, or has the mapping to name them?, covered/icd.xlsx sheet \"Cover\" line 1"

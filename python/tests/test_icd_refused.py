@@ -390,14 +390,17 @@ def test_another_heading_of_what_ports_have(tmp_path: Path, order: int, section:
     assert column not in found[order].places
 
 
-def test_a_column_that_a_default_stands_for_is_not_passed_over(tmp_path: Path) -> None:
+@pytest.mark.parametrize("column, heading, default", [
+    ("jitter_us", "Jitters", "0"), ("priority", "Prio", '"low"'), ("priority", "VL PRIO", '"low"')])
+def test_a_column_that_a_default_stands_for_is_not_passed_over(tmp_path: Path, column: str, heading: str,
+                                                               default: str) -> None:
     """Checks that it is one that may be missing: its heading too has to begin with no more than the same letters."""
-    paths = worked_lists.write(tmp_path, worked_lists.LINKS.replace("jitter_us", "Jitters"))
+    paths = worked_lists.write(tmp_path, worked_lists.LINKS.replace(column, heading))
     path = tmp_path / "map.toml"
-    path.write_text("[defaults]\njitter_us = 0\n", encoding="utf-8")
-    what = '"Jitters" may be this column: the mapping has to name it, or "" for none'
+    path.write_text(f"[defaults]\n{column} = {default}\n", encoding="utf-8")
+    what = f'"{heading}" may be this column: the mapping has to name it, or "" for none'
     assert refusal(paths, "--mapping", str(path)).lines == (
-        f"afdx-icd: {what}, {paths[0]} line 1, column jitter_us",)
+        f"afdx-icd: {what}, {paths[0]} line 1, column {column}",)
 
 
 def test_no_likely_heading_of_a_column_that_has_to_be_there(tmp_path: Path) -> None:

@@ -15,7 +15,7 @@ BAG = Column("bag_ms", one_of(1, 2, 4, 8, 16, 32, 64, 128))
 JITTER = Column("jitter_us", whole(0, 10_000))
 SIZE = Column("max_size", whole(SMALLEST, LARGEST), "")
 PAYLOAD = Column("udp_payload", whole(0, LARGEST - HEADERS), "")
-PRIORITY = Column("priority", word("high", "low"))
+PRIORITY = Column("priority", word("high", "low"), None, ("prio",))
 POLICE = Column("police", word("byte", "frame"), "byte", ("polic",))
 VIA = Column("via", parts, "", ("rout",))
 
