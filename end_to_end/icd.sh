@@ -195,8 +195,10 @@ check "the heading PRIO beside a default" default_priority
 check "a note and a title" note
 check "a cover before the list" in_a_workbook covered 3 "none of the headings VL_ID, SRC_ES, DST_ES, bag_ms, jitter_us, PRIO: \
 is the list on another sheet, is there a title above them, or has the mapping to name them?, covered/icd.xlsx sheet \"Cover\" line 1"
-check "a row that is struck through" in_a_workbook struck 0 "warning: struck through, and read all the same: if this row does not \
-count, it has to go, struck/icd.xlsx line 3, column 1, value \"102\""
+struck="warning: struck through, and read all the same: if this"
+check "a column and a row that are struck through" in_a_workbook struck 0 "$struck column does not count, it has to go, struck/icd.xlsx \
+line 1, column PRIO
+afdx-icd: $struck row does not count, it has to go, struck/icd.xlsx line 3, column 1, value \"102\""
 check "a network that is refused" too_tight
 check "its tables all the same" unchecked
 rm -rf made

@@ -302,20 +302,22 @@ def test_a_note_in_merged_cells_has_one_line(tmp_path: Path) -> None:
     assert refusal(paths).lines == (line(NOTE, paths[0], 3, "1", "Note: all"),)
 
 
-def test_rows_that_are_struck_through_are_warned_of(tmp_path: Path) -> None:
-    """Checks the first cell of such a row that is read; other columns do not count."""
+def test_what_is_struck_through_is_warned_of(tmp_path: Path) -> None:
+    """Checks the first cell of such a row that is read, and columns whose headings are struck; others do not count."""
     paths = worked_lists.write(tmp_path)
     paths[0] = tmp_path / "icd.xlsx"
     book = openpyxl.Workbook()
     for cells in ([*GOOD, "remark"], [*GOOD.values(), "old"], [*(GOOD | {"id": 21, "via": "A"}).values(), "old"]):
         book.active.append(cells)
-    for place in ("L2", "E3", "F3", "L3"):
+    for place in ("L2", "E3", "F3", "L3", "L1", "H1", "H2"):
         book.active[place].font = Font(strike=True)
     book.save(paths[0])
     complaints = Complaints()
     network.read(lists_of("afdx-icd", paths, mapping.read("afdx-icd", None), complaints))
-    what = "warning: struck through, and read all the same: if this row does not count, it has to go"
-    assert complaints.warnings("afdx-icd") == [line(what, paths[0], 3, "5", "8")] and not complaints.found
+    what = "warning: struck through, and read all the same: if this {} does not count, it has to go"
+    assert complaints.warnings("afdx-icd") == [
+        f"afdx-icd: {what.format('column')}, {paths[0]} line 1, column {list(GOOD)[7]}",
+        line(what.format("row"), paths[0], 3, "5", "8")] and not complaints.found
 
 
 def test_missing_columns_of_all_lists_at_once(tmp_path: Path) -> None:

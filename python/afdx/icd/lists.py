@@ -15,7 +15,7 @@ T = TypeVar("T")
 UNITS = {"ms", "us", "ns"}  # at the ends of keys
 UNSAVED = "a formula whose value was not saved with it"
 NOTE = "no more than two cells of this row are filled: if it is a note, it has to go"
-STRUCK = "struck through, and read all the same: if this row does not count, it has to go"
+STRUCK = "struck through, and read all the same: if this {} does not count, it has to go"
 
 
 def names_of(column: Column[Any]) -> list[list[str]]:
@@ -54,6 +54,7 @@ class List:
         self.places: dict[str, int] = {}
         for column in known:
             self.find(column)
+        self.struck = self.warn_of_struck_columns(known)
         needed = [column for column in known if not self.may_be_missing(column)]
         self.is_there = self.seems_there(needed)
         if self.is_there:
@@ -130,9 +131,19 @@ class List:
         elif likely:
             self.complain_of_heading(column, f'{likely} may be this column: the mapping has to name it, or "" for none')
 
+    def place_of_heading(self, column: Column[Any]) -> Place:
+        return Place(self.order, self.sheet.heading.line, 0, self.sheet.place, self.heading(column), None)
+
     def complain_of_heading(self, column: Column[Any], what: str) -> None:
-        place = Place(self.order, self.sheet.heading.line, 0, self.sheet.place, self.heading(column), None)
-        self.complaints.note(place, what)
+        self.complaints.note(self.place_of_heading(column), what)
+
+    def warn_of_struck_columns(self, known: Columns) -> set[int]:
+        """Warns of the columns that are read and whose headings are struck through; returns where they are."""
+        headings = self.sheet.heading.cells
+        struck = [column for column in known
+                  if column.key in self.places and isinstance(headings[self.places[column.key]], Struck)]
+        self.complaints.doubts += [(self.place_of_heading(column), STRUCK.format("column")) for column in struck]
+        return {self.places[column.key] for column in struck}
 
     def rows(self) -> Iterator[Row]:
         """Returns the rows. A cell that no heading is above, as an unquoted separator makes them, is a complaint. A row
@@ -148,10 +159,10 @@ class List:
                 self.complain_beside(row, NOTE, [at for at, text in enumerate(row.cells) if text][:1])
 
     def warn_of_struck(self, row: Row) -> None:
-        """Warns of the first cell that is read and struck through."""
-        read = [at for at in sorted(self.places.values()) if at < len(row.cells)]
+        """Warns of the first cell that is read and struck through, in a column whose heading is not."""
+        read = [at for at in sorted(set(self.places.values()) - self.struck) if at < len(row.cells)]
         struck = [at for at in read if isinstance(row.cells[at], Struck)]
-        self.complaints.doubts += [(self.place_beside(row, at), STRUCK) for at in struck[:1]]
+        self.complaints.doubts += [(self.place_beside(row, at), STRUCK.format("row")) for at in struck[:1]]
 
     def place_beside(self, row: Row, at: int) -> Place:
         return Place(self.order, row.line, at, self.sheet.place, str(at + 1), row.cells[at])
