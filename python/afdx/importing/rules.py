@@ -86,6 +86,10 @@ def is_end_systems(value: Any) -> bool:
     ) and len(set(map(int, value))) == len(value)
 
 
+def is_tables(value: Any) -> bool:
+    return isinstance(value, list) and all(isinstance(one, dict) for one in value)
+
+
 A_PORT = 'a port from 1 to 24, as "port-1" or "SW1/port-1"'
 OF_SOURCES: dict[str, tuple[Callable[[Any], bool], str]] = {
     "file": (is_pattern, "the name of a file in RAW, or a pattern of names"),
@@ -102,8 +106,7 @@ OF_SOURCES: dict[str, tuple[Callable[[Any], bool], str]] = {
     "drift_from_ns": (is_whole(0, MOST_OFFSET), "a stamp, in ns since 1970"),
 }
 OF_THE_TOP: dict[str, tuple[Callable[[Any], bool], str]] = {
-    "source": (lambda value: isinstance(value, list) and all(isinstance(one, dict) for one in value),
-               "an array of tables, [[source]]"),
+    "source": (is_tables, "an array of tables, [[source]]"),
     "window_ms": (is_whole(0, MOST_WINDOW), f"a whole number, 0 to {MOST_WINDOW}"),
     "silent": (lambda value: isinstance(value, list) and all(map(is_port, value)),
                f"an array, of which each is {A_PORT}"),
@@ -142,17 +145,18 @@ def faults_of_silent(rules: Rules) -> list[str]:
 
 
 def rules_of(text: bytes) -> Rules:
-    """Reads the rules. Raises RulesFault with all that is wrong."""
+    """Reads the rules. Raises RulesFault with all that is wrong; of ports that are silent and get frames only if
+    nothing else is."""
     try:
         top = toml.content(text)
     except toml.NotToml as error:
         raise RulesFault([f"no TOML: {error}"]) from error
     faults = faults_of(top, OF_THE_TOP, "top")
     tables = top.get("source", [])
-    if not faults:
-        faults = [fault for number, table in enumerate(tables, 1)
-                  for fault in faults_of_source(table, f"source {number}")]
+    if is_tables(tables):
         faults += [] if tables else ["top: no source"]
+        faults += [fault for number, table in enumerate(tables, 1)
+                   for fault in faults_of_source(table, f"source {number}")]
     if faults:
         raise RulesFault(faults)
     of_all = {key: value for key, value in top.items() if key != "source"}
