@@ -1,6 +1,7 @@
 """The offset and the drift between two recorders."""
 import os
 import random
+import tracemalloc
 from collections.abc import Callable
 from pathlib import Path
 
@@ -189,6 +190,18 @@ def test_what_cannot_be_aligned(tmp_path: Path, a: list[Record], b: list[Record]
     with pytest.raises(Failure) as caught:
         main(["--align", str(tmp_path / "a"), str(tmp_path / "b")])
     assert caught.value.lines == (f"afdx-import: {said.format(tmp_path)}, {tmp_path}/a and {tmp_path}/b",)
+
+
+def test_frames_that_come_for_hours_take_little_memory() -> None:
+    """Checks it of frames of the same bytes, of which each could pair with any other: a thousand million pairs."""
+    stamp = AT + np.arange(40_000) * 2 * 10**6
+    seen = Sightings(AT, 1, np.zeros(len(stamp), np.uint64), stamp)
+    tracemalloc.start()
+    with pytest.raises(Unaligned):
+        aligned(seen, seen)
+    peak = tracemalloc.get_traced_memory()[1]
+    tracemalloc.stop()
+    assert peak < 150 * 2**20
 
 
 def test_a_bounded_part_of_many_frames_is_kept() -> None:

@@ -17,7 +17,8 @@ WINDOW = 1_000_000  # ns by which differences of the same frames may vary
 NEVER = 2**62  # ns, farther than any two stamps are apart
 MOST_DRIFT = 1 / (1 - 200e-6) - 1  # of two clocks: 200 parts in a million by the faster one
 SLICES = 32  # at most so many parts of the time are looked at by themselves,
-OF_SLICE, SAMPLES = 50, 500  # of about so many frames at least, of which so many are tried
+OF_SLICE, SAMPLES = 50, 500  # of about so many frames at least, of which so many are tried,
+MOST_PAIRS = 2**20  # in so many pairs at most: those that come least often in the first recording
 BINS = 64  # medians through which a line is laid
 NEARLY = 0.8  # of the frames for one offset, from which on another one is as likely
 NOISE, SUPPOSED = 2000, 4  # ns by which so many frames more are taken to be off: few frames may fit by chance
@@ -147,6 +148,13 @@ class Occurrences:
         at = begin[which] + np.arange(len(which)) - (np.cumsum(count) - count)[which]
         return stamp[which] - self.stamp[at], which, self.gap[at]
 
+    def rarest(self, key: npt.NDArray[np.uint64]) -> Column:
+        """Returns the places, in order, of those of these frames that make the fewest pairs, MOST_PAIRS in all: frames
+        that come again and again for hours would make pairs without end, and tell no offset."""
+        count = np.searchsorted(self.key, key, "right") - np.searchsorted(self.key, key)
+        order = np.argsort(count, kind="stable")
+        return np.sort(order[np.cumsum(count[order]) <= MOST_PAIRS])
+
     def nearest(self, key: npt.NDArray[np.uint64], expected: Column) -> Column:
         """Returns the places of those frames of the same bytes that were seen nearest to what is expected."""
         begin, end = np.searchsorted(self.key, key), np.searchsorted(self.key, key, "right")
@@ -175,7 +183,8 @@ def voted(first: Occurrences, key: npt.NDArray[np.uint64], stamp: Column, gap: C
     window each frame pairs with one at most. Where most of the pairs in the window are others, nothing is agreed."""
     begin = max(0, (len(key) - SAMPLES) // 2)
     middle = slice(begin, begin + SAMPLES)
-    key, stamp, gap = key[middle], stamp[middle], gap[middle]
+    some = begin + first.rarest(key[middle])
+    key, stamp, gap = key[some], stamp[some], gap[some]
     differences, which, other_gap = first.all_differences(key, stamp)
     width = WINDOW + round(MOST_DRIFT * int(stamp[-1] - stamp[0]))
     alone = np.minimum(gap[which], other_gap) > width
