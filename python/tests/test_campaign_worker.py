@@ -19,7 +19,7 @@ from afdx.campaign.worker.program import TIMED_OUT, Program, Said
 from afdx.campaign.worker.questions import ask, remove_parts
 from afdx.campaign.worker.stamps import first_stamp
 from afdx.campaign.worker.task import Task, identity_of
-from afdx.campaign.worker.work import answer_at, note_change, work, work_hard
+from afdx.campaign.worker.work import Outcome, answer_at, note_change, work, work_hard
 from captures import header, words
 from tests.campaign_samples import DELAYS, HEADING, PASSED, PATIENCE, QUIET, SEEN, await_number, ends, row, task
 
@@ -62,6 +62,14 @@ def test_a_child_may_end_as_its_time_does(monkeypatch: pytest.MonkeyPatch) -> No
 
     monkeypatch.setattr(os, "waitid", wait_longer)
     assert Program("/bin/true", 0.2, 1 << 30)().status == TIMED_OUT
+
+
+def test_thousands_of_tries(tmp_path: Path, monkeypatch: pytest.MonkeyPatch) -> None:
+    pauses: list[float] = []
+    monkeypatch.setattr("afdx.campaign.worker.work.time.sleep", pauses.append)
+    monkeypatch.setattr("afdx.campaign.worker.work.work", lambda asked, attempt: Outcome(5, attempt == 2000))
+    assert work_hard(task(tmp_path, tries=3000)) == Outcome(5, True)
+    assert (len(pauses), pauses[0], max(pauses)) == (1999, 0.2, 30)
 
 
 def test_a_fault_that_passes_is_none(tmp_path: Path) -> None:

@@ -20,6 +20,7 @@ from afdx.campaign.worker.stamps import first_stamp
 from afdx.campaign.worker.task import FORM, Task, content_of, table_identity
 
 LOST = 137  # as of a process that was killed
+LONGEST = 30.0  # seconds between two tries of a task
 AGAIN = ("device", "memory", "timeout", "signal", "program")  # faults of which another try may rid the task
 PASSING = (*AGAIN, "changed")  # faults that another worker of the task may not meet: they leave what is kept
 
@@ -91,7 +92,7 @@ def work_hard(task: Task) -> Outcome:
         outcome = work(task, attempt)
         if outcome.answered:
             return outcome
-        time.sleep(min(30.0, 0.1 * 2 ** attempt))
+        time.sleep(min(LONGEST, 0.1 * 2 ** min(attempt, 9)))  # of more a float has no room for the power
     return work(task, task.tries)
 
 
