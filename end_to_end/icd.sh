@@ -204,6 +204,8 @@ check "its tables all the same" unchecked
 rm -rf made
 check "more jitter than a table can have" past_ten_milliseconds
 check "no program, no folder" nowhere
+check "a Python without its modules" "$BASH" -c "! /usr/bin/python3 -S '$icd' a b c d 2>said.txt &&
+    grep -q '^afdx-icd: no networkx, openpyxl, tomlkit in .*: install python3-networkx python3-openpyxl python3-tomlkit ' said.txt"
 for command in "$icd" "$diff"; do
     check "$(basename "$command") --help" "$command" --help
 done

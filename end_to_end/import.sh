@@ -157,6 +157,10 @@ check "a faulty recording" changes_nothing 3 "afdx-import: 4294967295 bytes capt
 printf '[[source]]\nfile = "*.pcapng.gz"\nport = 3\n' >wrong.toml
 check "faulty rules" changes_nothing 3 "afdx-import: source 1: unknown key port, wrong.toml
 afdx-import: source 1: needs either to or end_systems, wrong.toml" wrong.toml
+for command in afdx-import afdx-skew; do
+    check "$command: a Python without its modules" "$BASH" -c "! /usr/bin/python3 -S '$top/python/bin/$command' a b c 2>said.txt &&
+        grep -q '^$command: no numpy, .*zstandard in .*: install python3-numpy .*python3-zstandard ' said.txt"
+done
 check "a mirror of both directions" mirrored
 check "tags" untagged
 check "memory of twice the recording" memory_stays

@@ -1,8 +1,11 @@
 """Finds out whether the modules that a command rests on are installed."""
 import logging
 import sys
+from collections.abc import Callable, Sequence
+from importlib import import_module
 from importlib.util import find_spec
 
+from afdx import signals
 from afdx.failure import DEVICE, Failure
 
 
@@ -15,3 +18,15 @@ def need(command: str, *names: str) -> None:
                               f"install {packages} and use /usr/bin/python3")
     if "matplotlib" in names:  # where it looks for fonts, once for each user, it warns that this takes long
         logging.getLogger("matplotlib.font_manager").setLevel(logging.ERROR)
+
+
+def main_of(command: str, module: str, *names: str) -> Callable[[Sequence[str]], int]:
+    """Returns the `main` of a command's module, which is imported once it is called and these modules are there: their
+    import takes some time, in which a signal has to wait (`afdx.view.making`)."""
+    def main(arguments: Sequence[str]) -> int:
+        need(command, *names)
+        with signals.held():
+            found = import_module(module)
+        status: int = found.main(arguments)
+        return status
+    return main
