@@ -38,6 +38,7 @@ FAULTS = [
     ("echo afdx: memory >&2; exit 5", "memory", 5, "afdx: memory", 2),
     ("kill -KILL $$", "signal", 137, "", 2),
     ("exec sleep 1000", "timeout", 124, "", 2),
+    (r"printf '\303\244\n'; exit 4", "refused", 4, "", 1),  # letters that no afdx prints
     ("exit 4", "refused", 4, "", 1)]
 
 

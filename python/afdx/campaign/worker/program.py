@@ -45,7 +45,8 @@ class Program:
             status = self._run(arguments, text, line)
             text.seek(0)
             line.seek(0)
-            return Said(status, text.read().decode("ascii"), line.read().decode("utf-8", "surrogateescape").strip())
+            return Said(status, text.read().decode("ascii", "replace"),
+                        line.read().decode("utf-8", "surrogateescape").strip())
 
     def _run(self, arguments: tuple[str, ...], text: IO[bytes], line: IO[bytes]) -> int:
         began = time.monotonic()
