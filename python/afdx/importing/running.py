@@ -73,11 +73,15 @@ class Import:
         self.readings = {path: Reading(Recording(path, str(path.relative_to(raw)), piece), begin)
                          for path, begin in first.items()}
         self.takers: list[tuple[Reading, Taker]] = []
+        # of each port, by the taker's number, how far recordings have come that feed it and have not ended
+        self.progress: dict[str, dict[int, int]] = {name: {} for name in rules.ports}
         for source, paths in zip(rules.sources, found):
             begins = [begin for path in paths if (begin := first[path]) is not None]
             anchor = min(begins, default=0) if source.drift_from_ns is None else source.drift_from_ns
             for path in paths:
                 self.add(self.readings[path], source, anchor)
+        for reading in self.readings.values():
+            self.note_progress(reading)
 
     @property
     def faults(self) -> list[RecordingFault]:
@@ -109,11 +113,18 @@ class Import:
         except RecordingFault as fault:
             reading.fault = fault
             reading.ended = True
-        ports = dict.fromkeys(port for taker in reading.takers for port in taker.names)
-        progress = [(taker, other.progress(taker)) for other, taker in self.takers
-                    if not other.ended and not ports.keys().isdisjoint(taker.names)]
-        for port in ports:
-            self.ports[port].ordering.settle({taker.number: far for taker, far in progress if port in taker.names})
+        self.note_progress(reading)
+        for port in dict.fromkeys(port for taker in reading.takers for port in taker.names):
+            self.ports[port].ordering.settle(self.progress[port])
+
+    def note_progress(self, reading: Reading) -> None:
+        """Notes how far a recording has come for each port that it feeds, or that it has ended."""
+        for taker in reading.takers:
+            for port in taker.names:
+                if reading.ended:
+                    del self.progress[port][taker.number]
+                else:
+                    self.progress[port][taker.number] = reading.progress(taker)
 
     def key(self, reading: Reading) -> int:
         return min((reading.progress(taker) for taker in reading.takers), default=LONG_AGO)
