@@ -291,6 +291,12 @@ def test_a_note_under_a_list_has_one_line(tmp_path: Path) -> None:
         assert refusal(paths, "--mapping", str(path)).lines == (line(what, paths[1], 7, "port", number),)
 
 
+def test_a_row_of_few_texts_is_no_note(tmp_path: Path) -> None:
+    paths = worked_lists.write(tmp_path, ends=worked_lists.ENDS + "1,A,1,\n")
+    assert refusal(paths).lines == (
+        line(f"{paths[1]} line 2 has it too", paths[1], 7, "port", "1"), line("empty", paths[1], 7, "mbit", ""))
+
+
 def test_a_note_in_merged_cells_has_one_line(tmp_path: Path) -> None:
     paths = worked_lists.write(tmp_path)
     paths[0] = tmp_path / "icd.xlsx"

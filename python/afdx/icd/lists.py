@@ -1,6 +1,7 @@
 """Finds the columns of a list and reads its cells."""
 import json
 from collections.abc import Iterable, Iterator
+from itertools import groupby
 from pathlib import Path
 from typing import Any, TypeVar, cast
 
@@ -39,8 +40,9 @@ def looks_like(heading: str, name: list[str]) -> bool:
 
 
 def is_short(row: Row) -> bool:
-    """Returns whether one or two cells of a row are filled. Those of a merged range have one text."""
-    return len(set(filter(None, row.cells))) <= 2
+    """Returns whether one or two cells of a row are filled. Neighbours of one text, as those of a merged range are,
+    count as one."""
+    return sum(text != "" for text, _ in groupby(row.cells)) <= 2
 
 
 class List:
