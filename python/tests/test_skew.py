@@ -105,6 +105,12 @@ def test_faults(tmp_path: Path, capsys: pytest.CaptureFixture[str]) -> None:
     with pytest.raises(Failure) as caught:
         run(tmp_path)
     assert caught.value.lines == (f"afdx-skew: neither pcap nor pcapng, {tmp_path}/b/port-1.pcap, header, offset 0",)
+    (tmp_path / "b" / "port-1.pcap").unlink()
+    (tmp_path / "b" / "port-1.pcap").symlink_to(tmp_path / "gone")
+    with pytest.raises(Failure) as caught:
+        run(tmp_path)
+    assert (caught.value.status, caught.value.lines) == (
+        5, (f"afdx-skew: cannot read {tmp_path}/b/port-1.pcap: No such file or directory",))
     assert capsys.readouterr().out == ""
 
 

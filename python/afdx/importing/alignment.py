@@ -153,7 +153,8 @@ class Occurrences:
         that come again and again for hours would make pairs without end, and tell no offset."""
         count = np.searchsorted(self.key, key, "right") - np.searchsorted(self.key, key)
         order = np.argsort(count, kind="stable")
-        return np.sort(order[np.cumsum(count[order]) <= MOST_PAIRS])
+        found: Column = np.sort(order[np.cumsum(count[order]) <= MOST_PAIRS])
+        return found
 
     def nearest(self, key: npt.NDArray[np.uint64], expected: Column) -> Column:
         """Returns the places of those frames of the same bytes that were seen nearest to what is expected."""

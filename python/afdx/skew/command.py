@@ -1,6 +1,7 @@
 """Runs the command afdx-skew."""
 import argparse
 import heapq
+import os
 from collections.abc import Iterator, Sequence
 from glob import glob
 from pathlib import Path
@@ -81,7 +82,7 @@ def paired(port: str, folders: Sequence[Path], options: argparse.Namespace) -> P
     paths = [(network, folder / f"{port}.pcap") for network, folder in enumerate(folders)]
     apart_us: int | None = options.apart_us
     pairing = Pairing(options.within_ms * MILLISECOND, None if apart_us is None else apart_us * MICROSECOND)
-    both = (copies_of(network, path) for network, path in paths if path.exists())
+    both = (copies_of(network, path) for network, path in paths if os.path.lexists(path))
     for copy in heapq.merge(*both, key=lambda copy: copy.stamp):
         pairing.add(copy)
     pairing.give_up_before(None)
