@@ -50,7 +50,8 @@ def refused(*arguments: str) -> Failure:
 
 @pytest.mark.parametrize("arguments", [
     ["table.toml", ".", "page.htm"], ["--", "-table.toml", ".", "page.html"], ["--", "table.toml", ".", "-page.html"],
-    ["--", "table.toml", "-in", "page.html"], ["table.toml", ".", "page.html", "--answers=-here"]])
+    ["--", "table.toml", "-in", "page.html"], ["table.toml", ".", "page.html", "--answers=-here"],
+    ["table.toml", ".", "page.html", "--answers", "here", "--recorded", "out", "--offset", "3"]])
 def test_names_that_are_refused(arguments: list[str], capsys: pytest.CaptureFixture[str]) -> None:
     with pytest.raises(SystemExit) as ended:
         command.main(arguments)

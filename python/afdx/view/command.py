@@ -40,7 +40,14 @@ def recordings_of(parser: argparse.ArgumentParser, options: argparse.Namespace) 
         parser.error(f"{handed[0].partition('=')[0]} is for compare, which is run for --recorded alone")
     if options.recorded is not None and options.unchecked:
         parser.error("recordings are compared by an accepted table alone: --recorded goes without --unchecked")
-    return None if options.recorded is None else Asked(options.recorded, handed)
+    if options.recorded is None:
+        return None
+    asked = Asked(options.recorded, handed)
+    try:
+        asked.offsets()
+    except ValueError:  # with --answers no program refuses it
+        parser.error("--offset has to be PORT=NS, more with commas between")
+    return asked
 
 
 def options_of(arguments: Sequence[str]) -> argparse.Namespace:
