@@ -118,6 +118,47 @@ before,r0015,5,device,3,cannot read $room/odd/r0015/port-3.pcap: Too many levels
 before,r0016,5,missing,1,no port-3.pcap in $room/odd/r0016"
 }
 
+# script_in_its_place: what a script in the place of the program prints, and how it ends, is a fault of that recording alone. What it
+# began ends with it at its time limit, and with a run that is interrupted.
+script_in_its_place() {
+    local driver
+    campaign script 'recordings = ["few/*"]' && printf '%s\n' '[limits]' 'tries = 2' 'timeout_s = 4' >>script.toml
+    cat >wrapped <<END && chmod +x wrapped && sed -i "s|^program = .*|program = \"$room/wrapped\"|" script.toml
+#!/bin/sh
+case \$1:\$3 in
+survey:*/r0014) printf 'caf\303\251\n' ;;
+survey:*/r0015) sleep 1000 & echo \$! >>"$room/begun"; wait; exit ;;
+survey:*/r0016) "$AFDX" "\$@" | sed 's/^\(link,.*[0-9],\)0,/\19223372036854775808,/'; exit ;;
+survey:*/r0017) readlink /proc/self/fd/2 >"$room/printed"; printf '\033[31m' >&2; head -c 20000000 /dev/zero >&2; exit 255 ;;
+esac
+exec "$AFDX" "\$@"
+END
+    mkdir few/r0018 && cp recordings/recordings/r0018/* few/r0018 && ends_so 1 "" run script.toml -j 5 || return 1
+    cut -c1-130 script/csv/faults.csv
+    is "$(tail -n +2 script/csv/faults.csv | cut -d, -f2-5 | xargs)" \
+        "r0014,76,garbled,1 r0015,124,timeout,2 r0016,76,garbled,1 r0017,255,refused,1" || return 1
+    grep -F 'r0014,76,garbled,1,"the program printed what no afdx prints, line 1: caf' script/csv/faults.csv &&
+        grep -F 'r0016,76,garbled,1,"the program printed what no afdx prints, a number from 9223372036854775808 on"' script/csv/faults.csv &&
+        grep -E '^before,r0017,255,refused,1,\\x1b\[31m(\\x00)+.* \.\.$' script/csv/faults.csv && [ "$(wc -c <script/csv/faults.csv)" -lt 2000 ] &&
+        grep -q "^$room/scratch/" printed && grep ',r0018$' script/csv/worst.csv && [ "$(wc -l <begun)" -eq 2 ] || return 1
+    "$campaign" again script.toml --status 124 && sed -i 's/^timeout_s.*/timeout_s = 1000/' script.toml
+    "$campaign" run script.toml &
+    driver=$!
+    until [ "$(wc -l <begun)" -eq 3 ]; do sleep 0.1; done
+    kill -TERM "$driver"
+    wait "$driver"
+    [ $? -eq 6 ] && { while read -r child; do has_ended "$child" || return 1; done <begun; }
+}
+
+# has_ended PROCESS: it ends within ten seconds; one that nobody waits for may stay as a zombie.
+has_ended() {
+    for _ in $(seq 100); do
+        sed 's/.*) //' "/proc/$1/stat" 2>/dev/null | grep -q '^[^ZX]' || return 0
+        sleep 0.1
+    done
+    return 1
+}
+
 # full_disk: a root without room ends it with status 5 and a line; with room the same command goes on, to the same answers.
 full_disk() {
     local as_root=()
@@ -172,6 +213,7 @@ check "what changed is asked anew" asks_anew
 check "an answer that was forgotten, or removed, comes anew" answers_anew
 check "a recording that was away" comes_back
 check "a named pipe, and a capture out of reach" pipes_are_faults
+check "a script in the place of the program" script_in_its_place
 check "a network" asks_of_networks
 check "a full disk" full_disk
 check "a line that says how far it is" tells_progress

@@ -17,9 +17,11 @@ import campaign_recordings
 from afdx import files
 from afdx.campaign import worker
 from afdx.campaign.engines import Options, dask, local, slurm
+from afdx.campaign.worker.program import Program, Said
+from afdx.campaign.worker.questions import ask
 from afdx.campaign.worker.task import Task
 from afdx.campaign.worker.work import Outcome, answer_at, work_hard
-from tests.campaign_samples import PATIENCE, QUIET, await_number, campaign, ends, task
+from tests.campaign_samples import GOOD, PATIENCE, QUIET, await_number, campaign, ends, task
 
 COMMAND = str(Path(__file__).parents[1] / "bin" / "afdx-campaign")
 
@@ -116,6 +118,24 @@ def test_no_more_threads_than_tasks(tmp_path: Path, monkeypatch: pytest.MonkeyPa
     assert most <= before + 1
 
 
+def test_what_nobody_foresaw_ends_no_others(tmp_path: Path, monkeypatch: pytest.MonkeyPatch,
+                                            capsys: pytest.CaptureFixture[str]) -> None:
+    """Checks that such a task is lost, with a traceback, and that the other one has its answer."""
+    def asked(own: Task, program: Program, scratch: Path) -> Said:
+        if own.recording.name == "r0":
+            raise KeyError("unforeseen")
+        return ask(own, program, scratch)
+
+    monkeypatch.setattr("afdx.campaign.worker.work.ask", asked)
+    tasks = [task(tmp_path, name=f"r{number}") for number in range(2)]
+    noted: list[tuple[Task | None, Outcome | None]] = []
+    local.run(tasks, range(2), Options(tmp_path, "local", 1, 1.0, lambda *words: noted.append(words)))
+    assert [words for words in noted if words[0]] == [(tasks[0], Outcome(137, True)), (tasks[1], Outcome(0, True))]
+    lost = answer_at(tasks[0].answer)
+    assert (lost["fault"], lost["status"], lost["line"]) == ("lost", 137, "KeyError: 'unforeseen'")
+    assert capsys.readouterr().err.endswith("KeyError: 'unforeseen'\n")
+
+
 def test_two_drivers_of_one_campaign_keep_all(tmp_path: Path) -> None:
     """Checks that both end well, and that each recording's captures are those of a driver alone."""
     for number in range(12):
@@ -150,9 +170,10 @@ def test_answers_that_are_forgotten_meanwhile_are_told(tmp_path: Path) -> None:
 
 
 def test_an_interrupt_ends_the_driver_and_its_children_at_once(tmp_path: Path) -> None:
-    file = campaign(tmp_path)
-    for name in ("monday", "tuesday"):
-        (tmp_path / f"flights/{name}/run1/act").write_text(f'echo $$ >"{tmp_path}/{name}"; exec sleep 1000')
+    """Checks that also what a child has begun ends, and that this is no answer."""
+    file = campaign(tmp_path, f"{GOOD}[limits]\ntries = 1\n")
+    for name, act in (("monday", "echo $$ >{}; exec sleep 1000"), ("tuesday", "sleep 1000 & echo $! >{}; wait")):
+        (tmp_path / f"flights/{name}/run1/act").write_text(act.format(f'"{tmp_path}/{name}"'))
     driver = subprocess.Popen([sys.executable, COMMAND, "run", str(file)], stderr=subprocess.PIPE, text=True)
     pids = [await_number(tmp_path / name) for name in ("monday", "tuesday")]
     driver.terminate()

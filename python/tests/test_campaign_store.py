@@ -13,7 +13,7 @@ import pytest
 
 from afdx.campaign.answers import digest, forget
 from afdx.campaign.findings import LOST_NAMES, QUESTIONS
-from afdx.campaign.rows import rows_of
+from afdx.campaign.worker.rows import rows_of
 from afdx.campaign.store import collected, store_file
 from afdx.campaign.worker.task import Table, Task
 from afdx.campaign.worker.work import answer_at, work_hard
@@ -22,12 +22,13 @@ from tests.campaign_samples import HEADING, PASSED, row, task
 
 Rows = list[dict[str, Any]]
 
+HOW = {"seconds": 1.0, "processor": 0.5, "memory": 10, "tries": 1, "host": "h", "at": 0.0}
+
 
 def put(asked: Task, status: int, text: str, begin: int) -> None:
     """Puts an answer by hand."""
-    how = {"seconds": 1.0, "processor": 0.5, "memory": 10, "tries": 1, "host": "h", "at": 0.0}
     answer = {"key": asked.key, "status": status, "fault": "capture" if status else "",
-              "line": "line" if status else "", "text": text, "begin": begin, "how": how}
+              "line": "line" if status else "", "text": text, "begin": begin, "how": HOW}
     asked.answer.parent.mkdir(parents=True, exist_ok=True)
     asked.answer.write_bytes(gzip.compress(json.dumps(answer).encode()))
 
@@ -231,7 +232,7 @@ def test_a_fault_of_a_file_whose_name_is_no_utf_8(tmp_path: Path) -> None:
 
 def test_a_damaged_store_is_named(tmp_path: Path) -> None:
     asked = task(tmp_path)
-    put(asked, 0, "", 0)
+    put(asked, 0, HEADING, 0)
     root = Path(asked.root)
     with collected(root, [asked]):
         pass
@@ -258,7 +259,9 @@ def test_a_damaged_answer_is_named(tmp_path: Path, text: bytes) -> None:
     assert error.value.filename == str(asked.answer)
 
 
-@pytest.mark.parametrize("field, value", [("key", "0" * 64), ("status", "0"), ("text", None), ("how", {"at": 0.0})])
+@pytest.mark.parametrize("field, value", [
+    ("key", "0" * 64), ("status", "0"), ("text", None), ("how", {"at": 0.0}), ("begin", 2**63), ("status", -2**63),
+    ("how", HOW | {"seconds": 2**63}), ("how", HOW | {"at": float("nan")})])
 def test_an_answer_of_other_fields_is_damaged(tmp_path: Path, field: str, value: object) -> None:
     asked = task(tmp_path)
     put(asked, 0, "", 0)
@@ -270,7 +273,8 @@ def test_an_answer_of_other_fields_is_damaged(tmp_path: Path, field: str, value:
     assert error.value.strerror == "damaged: remove it, and `run` asks again"
 
 
-@pytest.mark.parametrize("text", ["kind,link\nlink,1\n", "kind,link,passed,policed\nlink,abc,1,0\n"])
+@pytest.mark.parametrize("text", ["", "kind,link\nlink,1\n", *(
+    f"kind,link,passed,policed\nlink,{fields}\n" for fields in ("abc,1,0", f"1,{2**63},0", "1,1,0\nlink,1,1,0"))])
 def test_rows_that_no_program_prints_are_named(tmp_path: Path, text: str) -> None:
     asked = task(tmp_path)
     put(asked, 0, text, 0)

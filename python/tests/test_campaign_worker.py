@@ -32,7 +32,21 @@ POLICED = QUIET.replace(PASSED, BABBLED) + f"""
     echo "{SPAN}"
 }}
 """
+GARBLED = "the program printed what no afdx prints, "
 FAULTS = [
+    (r"printf 'caf\303\251\n'; " + QUIET, "garbled", 76, f"{GARBLED}line 1: caf\ufffd\ufffd", 1),
+    (rf"{QUIET}printf '\377\n'", "garbled", 76, f"{GARBLED}line 5: \ufffd", 1),
+    ("echo hello; echo x,y", "garbled", 76, f"{GARBLED}line 1: hello", 1),
+    (f"{QUIET}echo link,10", "garbled", 76, f"{GARBLED}line 5: link,10", 1),
+    (QUIET + QUIET, "garbled", 76, f"{GARBLED}two rows of one link", 1),
+    (QUIET.replace("200", str(2**63)), "garbled", 76, f"{GARBLED}a number from {2**63} on", 1),
+    ("exit 0", "garbled", 76, f"{GARBLED}nothing", 1),
+    (r"printf 'one\ntwo\t\033[31mred\177\n' >&2; exit 7", "refused", 7, r"one two \x1b[31mred\x7f", 1),
+    ("head -c 5000 /dev/zero | tr '\\000' e >&2; exit 7", "refused", 7, "e" * 1000 + " ..", 1),
+    ("head -c 1000 /dev/zero | tr '\\000' e >&2; exit 7", "refused", 7, "e" * 1000, 1),
+    ("exit 192", "signal", 192, "", 2),
+    ("exit 193", "refused", 193, "", 1),
+    ("exit 255", "refused", 255, "", 1),
     ("echo afdx: capture P3 Magic, port 1 >&2; exit 3", "capture", 3, "afdx: capture P3 Magic, port 1", 1),
     ("echo afdx: device get x >&2; exit 5", "device", 5, "afdx: device get x", 2),
     ("echo afdx: memory >&2; exit 5", "memory", 5, "afdx: memory", 2),
@@ -51,7 +65,7 @@ def test_faults_are_answers(tmp_path: Path, act: str, fault: str, status: int, l
     assert list((tmp_path / "scratch").iterdir()) == []
 
 
-def test_a_child_may_end_as_its_time_does(monkeypatch: pytest.MonkeyPatch) -> None:
+def test_a_child_may_end_as_its_time_does(tmp_path: Path, monkeypatch: pytest.MonkeyPatch) -> None:
     """Checks that a child's time is over when it has ended and was not reaped yet."""
     waitid = os.waitid
 
@@ -62,7 +76,20 @@ def test_a_child_may_end_as_its_time_does(monkeypatch: pytest.MonkeyPatch) -> No
         return found
 
     monkeypatch.setattr(os, "waitid", wait_longer)
-    assert Program("/bin/true", 0.2, 1 << 30)().status == TIMED_OUT
+    assert Program("/bin/true", 0.2, 1 << 30, tmp_path)().status == TIMED_OUT
+
+
+@pytest.mark.parametrize("after, status", [("wait", 124), (QUIET, 0)])
+def test_what_a_child_has_begun_ends_with_it(tmp_path: Path, after: str, status: int) -> None:
+    asked = task(tmp_path, f'sleep 1000 & echo $! >"$folder/begun"; {after}', timeout=5, tries=1)
+    assert work_hard(asked).status == status
+    assert ends(await_number(Path(asked.recording.folder, "begun")))
+
+
+def test_what_a_child_prints_is_in_scratch(tmp_path: Path) -> None:
+    asked = task(tmp_path, f'readlink /proc/self/fd/2 >"$folder/printed"; {QUIET}')
+    assert work_hard(asked).status == 0
+    assert Path(asked.recording.folder, "printed").read_text().startswith(f"{asked.scratch}/.afdx-campaign-scratch-")
 
 
 def test_thousands_of_tries(tmp_path: Path, monkeypatch: pytest.MonkeyPatch) -> None:
@@ -232,7 +259,7 @@ def test_what_is_kept_is_of_the_newest_answer(tmp_path: Path, keep: str, kept: l
 
 
 @pytest.mark.parametrize("act, kept", [
-    ("exit 3", []), ("kill -KILL $$", ["old.pcap"]),
+    ("exit 3", []), ("kill -KILL $$", ["old.pcap"]), ('echo >"$out/port-1.pcap"; echo garbled', []),
     (f'touch -d 2001-01-01 "$folder/port-2.pcap"\n{QUIET}', ["old.pcap"]),
     (f'echo >"$out/port-1.pcap"\n{QUIET}', ["port-1.pcap"])])
 def test_faults_that_may_pass_leave_what_is_kept(tmp_path: Path, act: str, kept: list[str]) -> None:
@@ -398,7 +425,7 @@ def test_a_child_dies_with_its_worker(tmp_path: Path) -> None:
     script.write_text("#!/bin/sh\necho $$ >\"$1\"\nexec sleep 1000\n")
     script.chmod(0o755)
     worker = started("import sys; from afdx.campaign.worker.program import Program\n"
-                     "Program(sys.argv[1], 1000.0, 1 << 30)(sys.argv[2])", str(script), str(tmp_path / "pid"))
+                     "Program(sys.argv[1], 1000.0, 1 << 30, '/tmp')(sys.argv[2])", str(script), str(tmp_path / "pid"))
     child = await_number(tmp_path / "pid")
     worker.send_signal(signal.SIGKILL)
     worker.wait()
@@ -408,6 +435,6 @@ def test_a_child_dies_with_its_worker(tmp_path: Path) -> None:
 
 
 def test_a_child_of_a_missing_program(tmp_path: Path) -> None:
-    said = Program(str(tmp_path / "none"), PATIENCE, 1 << 30)("run")
+    said = Program(str(tmp_path / "none"), PATIENCE, 1 << 30, tmp_path)("run")
     assert said.status == 127
     assert "No such file" in said.line

@@ -11,7 +11,7 @@ from typing import Any
 import numpy
 from numpy.typing import NDArray
 
-from afdx.campaign.rows import FILTERED
+from afdx.campaign.worker.rows import FILTERED
 
 LEAST_RUNS = 20  # recordings from which a step is looked for
 CHANCE = 0.01  # of a step by chance among all links and ports of a table, from which it is no finding

@@ -13,6 +13,7 @@ from afdx.campaign.failures import COMMAND, gone
 from afdx.campaign.plan import get_plan, put_plan, tasks_of
 from afdx.campaign.progress import Progress, speed
 from afdx.campaign.settings import Campaign, read_campaign
+from afdx.campaign.worker.program import end_all
 from afdx.campaign.worker.questions import remove_parts
 from afdx.campaign.worker.task import Task
 from afdx.failure import Failure, failing_of, tell
@@ -36,10 +37,12 @@ def main(arguments: Sequence[str]) -> int:
 
 
 def end_at_once(failure: Failure) -> NoReturn:
-    """Tells of a failure and ends as a kill does, with all threads and the children that they wait for.
+    """Tells of a failure and ends as a kill does, with all threads and the children that they wait for, and with what
+    these began.
 
     An interpreter that ends in good order beside threads that work crashes now and then.
     """
+    end_all()
     tell(*failure.lines)
     os._exit(failure.status)
 

@@ -7,7 +7,7 @@ from dataclasses import dataclass
 from typing import Any
 
 from afdx.campaign.changes import outliers, trends
-from afdx.campaign.rows import FILTERED
+from afdx.campaign.worker.rows import FILTERED
 
 BINS = 50  # of the slack histogram
 

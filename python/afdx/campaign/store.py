@@ -1,6 +1,5 @@
 """Keeps the store: SQLite, made of the answers alone by one writer, so that it can be removed and made again."""
 import contextlib
-import csv
 import errno
 import sqlite3
 from collections.abc import Iterator, Sequence
@@ -9,8 +8,8 @@ from typing import Any
 
 from afdx.campaign.answers import files_there
 from afdx.campaign.failures import failure
-from afdx.campaign.rows import PORT, Rows, rows_of
 from afdx.campaign.worker.files import locked
+from afdx.campaign.worker.rows import PORT, rows_of
 from afdx.campaign.worker.task import Task
 from afdx.campaign.worker.work import Answer, answer_at
 from afdx.failure import DEVICE
@@ -137,20 +136,21 @@ def add(base: sqlite3.Connection, task: Task, table: int, file: str, answer: Ans
     if answer["status"]:
         line = answer["line"].encode("utf-8", "surrogateescape").decode("utf-8", "replace")  # as a file may be called
         base.execute("insert into faults values (?, ?, ?, ?)", (run, answer["status"], answer["fault"], line))
-    rows = rows_in(answer, task.answer)
-    ports = [(*place, *values) for place, values in rows.ports.items()]
+        return
+    try:
+        add_rows(base, run, answer["text"])
+    except (ValueError, OverflowError, sqlite3.IntegrityError) as error:
+        said = "has rows that no afdx prints: remove it, and `run` asks again"
+        raise OSError(errno.EIO, said, str(task.answer)) from error
+
+
+def add_rows(base: sqlite3.Connection, run: int | None, text: str) -> None:
+    """Adds the rows of an answer."""
+    rows = rows_of(text)
     insert(base, "links", run, rows.links)
     insert(base, "delays", run, rows.delays)
     insert(base, "spells", run, rows.spells)
-    insert(base, "ports", run, ports)
-
-
-def rows_in(answer: Answer, path: Path) -> Rows:
-    """Reads the rows of an answer; raises OSError if the program did not print such."""
-    try:
-        return rows_of(answer["text"])
-    except (LookupError, ValueError, csv.Error) as error:
-        raise OSError(errno.EIO, "has rows that no afdx prints: remove it, and `run` asks again", str(path)) from error
+    insert(base, "ports", run, [(*place, *values) for place, values in rows.ports.items()])
 
 
 def insert(base: sqlite3.Connection, table: str, run: int | None, rows: Sequence[tuple[Any, ...]]) -> None:

@@ -4,6 +4,7 @@
 """
 from __future__ import annotations
 
+import contextlib
 import os
 import signal
 import subprocess
@@ -11,9 +12,22 @@ import tempfile
 import threading
 import time
 from dataclasses import dataclass, field
-from typing import IO
+from pathlib import Path
+from typing import IO, NoReturn
 
 TIMED_OUT = 124  # as timeout(1) ends
+READ = 4096  # bytes of standard error, at most: what is kept of it is shorter
+
+
+@dataclass
+class Children:
+    """Are the children of this process; each is the first of a process group."""
+    beginning: set[int] = field(default_factory=set)  # the threads that begin one
+    running: set[int] = field(default_factory=set)  # their numbers
+    ending: bool = False  # whether this process is about to end, so that none begins
+
+
+CHILDREN = Children()
 
 
 @dataclass(frozen=True)
@@ -38,32 +52,36 @@ class Program:
     path: str
     timeout: float  # seconds
     memory: int  # bytes of address space
+    scratch: Path  # the folder for what is printed
     used: Used = field(default_factory=Used)
 
     def __call__(self, *arguments: str) -> Said:
-        with tempfile.TemporaryFile() as text, tempfile.TemporaryFile() as line:
+        with tempfile.TemporaryFile(dir=self.scratch) as text, tempfile.TemporaryFile(dir=self.scratch) as line:
             status = self._run(arguments, text, line)
             text.seek(0)
             line.seek(0)
             return Said(status, text.read().decode("ascii", "replace"),
-                        line.read().decode("utf-8", "surrogateescape").strip())
+                        line.read(READ).decode("utf-8", "surrogateescape").strip())
 
     def _run(self, arguments: tuple[str, ...], text: IO[bytes], line: IO[bytes]) -> int:
         began = time.monotonic()
-        child = subprocess.Popen([*limits(self.memory), self.path, *arguments], stdin=subprocess.DEVNULL, stdout=text,
-                                 stderr=line, start_new_session=True)
+        child = begun([*limits(self.memory), self.path, *arguments], text, line)
         late = threading.Event()
 
         def end() -> None:
             late.set()
-            os.kill(child.pid, signal.SIGKILL)  # `child.kill` would reap a child that has just ended
+            end_group(child.pid)
 
         timer = threading.Timer(self.timeout, end)
-        timer.start()
-        # the child is not reaped before the timer is over, so its number can be no other process's
-        os.waitid(os.P_PID, child.pid, os.WEXITED | os.WNOWAIT)
+        try:
+            timer.start()
+            # the child is not reaped before the timer is over, so its number can be no other process's
+            os.waitid(os.P_PID, child.pid, os.WEXITED | os.WNOWAIT)
+        finally:
+            end_group(child.pid)  # also what a script has begun and left
         timer.cancel()
         timer.join()
+        leave(child.pid)
         _, ended, usage = os.wait4(child.pid, 0)
         child.returncode = os.waitstatus_to_exitcode(ended)
         self.used.seconds += time.monotonic() - began
@@ -72,6 +90,49 @@ class Program:
         if late.is_set():
             return TIMED_OUT
         return child.returncode if child.returncode >= 0 else 128 - child.returncode
+
+
+def end_group(child: int) -> None:
+    """Kills a child that is not reaped, and all that it began which is in its process group."""
+    with contextlib.suppress(ProcessLookupError, PermissionError):
+        os.killpg(child, signal.SIGKILL)
+
+
+def begun(words: list[str], text: IO[bytes], line: IO[bytes]) -> subprocess.Popen[bytes]:
+    """Begins a child and notes it, unless this process is about to end: then its thread goes no further."""
+    thread = threading.get_ident()
+    CHILDREN.beginning.add(thread)
+    try:
+        if not CHILDREN.ending:
+            child = subprocess.Popen(words, stdin=subprocess.DEVNULL, stdout=text, stderr=line, start_new_session=True)
+            CHILDREN.running.add(child.pid)
+            return child
+    finally:
+        CHILDREN.beginning.discard(thread)
+    return stay()
+
+
+def leave(child: int) -> None:
+    """Notes that a child is over. If this process is about to end by a signal, its thread goes no further: what became
+    of a child is no answer then."""
+    if CHILDREN.ending:
+        stay()
+    CHILDREN.running.discard(child)
+
+
+def stay() -> NoReturn:
+    """Has a thread go no further, until this process ends."""
+    while True:
+        threading.Event().wait()
+
+
+def end_all() -> None:
+    """Kills all children with what they began: this process is about to end."""
+    CHILDREN.ending = True
+    while CHILDREN.beginning:
+        time.sleep(0.01)
+    for child in list(CHILDREN.running):
+        end_group(child)
 
 
 def limits(memory: int) -> list[str]:

@@ -1,12 +1,13 @@
 """Asks the questions that there are of a recording; each is answered by comma-separated values that afdx writes."""
 from __future__ import annotations
 
-import csv
+import contextlib
 import shutil
 from pathlib import Path
 
 from afdx.campaign.worker.files import put_copy, remove_left, remove_old
 from afdx.campaign.worker.program import Program, Said
+from afdx.campaign.worker.rows import rows_of
 from afdx.campaign.worker.task import Task
 
 ASKS = ("survey", "run", "trace")
@@ -25,31 +26,33 @@ def ask(task: Task, program: Program, scratch: Path) -> Said:
     said = program(*of_networks, "survey", *files, *options, CSV)
     if task.ask == "survey" or said.status:
         return said
-    traced = run(task, program, scratch, (*of_networks, "trace", *files), options, polices(said.text))
+    traced = run(task, program, scratch, (*of_networks, "trace", *files), options, said.text)
     return traced if traced.status else said
 
 
 def run(task: Task, program: Program, scratch: Path, arguments: tuple[str, ...], options: tuple[str, ...],
-        policed: bool | None = None) -> Said:
-    """Runs a command that puts files, and leaves these there if the task asks to keep them."""
+        report: str | None = None) -> Said:
+    """Runs a command that puts files, and leaves these there if the task asks to keep them, by a report if it prints
+    none."""
     out = scratch / OUT
     for folder in folders_in(task, out):
         folder.mkdir(parents=True)
     said = program(*arguments, str(out), *options)
-    if said.status or not wanted(task.keep, polices(said.text) if policed is None else policed):
+    if said.status or not wanted(task.keep, said.text if report is None else report):
         shutil.rmtree(out)
     return said
 
 
 def polices(report: str) -> bool:
-    """Returns whether a report says of a link that its frames were policed."""
-    rows = csv.DictReader(report.splitlines())
-    return any(row["kind"] == "link" and row["policed"] != "0" for row in rows)
+    """Returns whether a report says of a link that its frames were policed; what is no report does not."""
+    with contextlib.suppress(ValueError):
+        return any(policed for *_, policed in rows_of(report).links)
+    return False
 
 
-def wanted(keeps: str, policed: bool) -> bool:
+def wanted(keeps: str, report: str) -> bool:
     """Returns whether the outputs of a recording are kept."""
-    return keeps == "all" or keeps == "policed" and policed
+    return keeps == "all" or keeps == "policed" and polices(report)
 
 
 def kept_place(task: Task) -> Path:

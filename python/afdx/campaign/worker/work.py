@@ -1,12 +1,16 @@
 """Does a task: asks its question and puts the answer."""
 from __future__ import annotations
 
+import contextlib
 import errno
 import gzip
 import json
 import os
+import shutil
+import signal
 import socket
 import time
+import traceback
 import zlib
 from dataclasses import dataclass
 from pathlib import Path
@@ -15,14 +19,19 @@ from typing import TypedDict
 from afdx.campaign.worker.captures import CHANGED, DEVICE, INPUT, Refused, check_captures, check_listed
 from afdx.campaign.worker.files import put, scratch_folder
 from afdx.campaign.worker.program import TIMED_OUT, Program, Said, Used
-from afdx.campaign.worker.questions import ask, keep
+from afdx.campaign.worker.questions import OUT, ask, keep
+from afdx.campaign.worker.rows import ROOM, check_room, rows_of
 from afdx.campaign.worker.stamps import first_stamp
 from afdx.campaign.worker.task import FORM, Task, content_of, table_identity
 
 LOST = 137  # as of a process that was killed
 LONGEST = 30.0  # seconds between two tries of a task
+GARBLED = 76  # as sysexits.h has it of what does not keep to a protocol
 AGAIN = ("device", "memory", "timeout", "signal", "program")  # faults of which another try may rid the task
 PASSING = (*AGAIN, "changed")  # faults that another worker of the task may not meet: they leave what is kept
+
+MOST = 1000  # letters of a line that are kept
+CONTROLS = {number: f"\\x{number:02x}" for number in (*range(32), *range(127, 160))} | {9: " ", 10: " ", 13: " "}
 
 PROGRAMS: dict[tuple[str, int, int], str] = {}  # the hash of each, by size and time of change
 
@@ -67,8 +76,8 @@ def work(task: Task, attempt: int) -> Outcome:
     """
     if task.answer.exists():
         return Outcome(status_of(task.answer), True)
-    program = Program(task.program, task.timeout, address_space(task.memory))
     with scratch_folder(task.scratch) as scratch:
+        program = Program(task.program, task.timeout, address_space(task.memory), scratch)
         try:
             said = asked(task, program, scratch)
             fault = fault_of(said)
@@ -87,6 +96,20 @@ def work(task: Task, attempt: int) -> Outcome:
 
 
 def work_hard(task: Task) -> Outcome:
+    """Does a task for an engine that has many others: what nobody foresaw of this one ends none of them. A file that
+    fails may be one that all need."""
+    try:
+        return work_often(task)
+    except OSError:
+        raise
+    except Exception as error:
+        with contextlib.suppress(OSError):
+            traceback.print_exc()
+        put_lost(task, f"{type(error).__name__}: {error}")
+        return Outcome(status_of(task.answer), True)
+
+
+def work_often(task: Task) -> Outcome:
     """Does a task in as many tries as it has."""
     for attempt in range(1, task.tries):
         outcome = work(task, attempt)
@@ -109,14 +132,25 @@ def asked(task: Task, program: Program, scratch: Path) -> Said:
         raise Refused("program", DEVICE, f"cannot read {error.filename}: {error.strerror}") from error
     if changed:
         raise Refused("changed", CHANGED, f"the {' and the '.join(changed)} changed since the tasks were listed")
+    if not said.status:
+        check_rows(said, scratch)
     return said
+
+
+def check_rows(said: Said, scratch: Path) -> None:
+    """Refuses what no afdx prints, so that the store can read all that is an answer; nothing is kept with it."""
+    try:
+        check_room(rows_of(said.text))
+    except ValueError as error:
+        shutil.rmtree(scratch / OUT, ignore_errors=True)
+        raise Refused("garbled", GARBLED, f"the program printed what no afdx prints, {error}") from error
 
 
 def fault_of(said: Said) -> str:
     """Returns the kind of a fault; empty if there is none."""
     kinds = {0: "", INPUT: "capture", DEVICE: "memory" if said.line == "afdx: memory" else "device",
              TIMED_OUT: "timeout", 126: "program", 127: "program"}
-    return kinds.get(said.status, "signal" if said.status > 128 else "refused")
+    return kinds.get(said.status, "signal" if 128 < said.status < 128 + signal.NSIG else "refused")
 
 
 def address_space(memory: int) -> int:
@@ -138,12 +172,18 @@ def put_answer(task: Task, said: Said, fault: str, used: Used, tries: int) -> No
     recording, table = task.recording, task.table
     answer: Answer = {
         "form": FORM, "key": task.key, "recording": recording.name, "size": recording.size, "table": table.name,
-        "ask": task.ask, "status": said.status, "fault": fault, "line": said.line, "text": said.text,
+        "ask": task.ask, "status": said.status, "fault": fault, "line": shown(said.line), "text": said.text,
         "begin": first_stamp(os.path.join(recording.folder, file) for file in recording.files),
         "how": {"seconds": used.seconds, "processor": used.processor, "memory": used.memory, "tries": tries,
                 "host": socket.gethostname(), "at": time.time()}}
     text = json.dumps(answer, separators=(",", ":")).encode()
     put(task.answer, lambda file: file.write(gzip.compress(text, 6, mtime=0)))
+
+
+def shown(line: str) -> str:
+    """Returns a line as files and terminals take it: one, without control characters, and not too long."""
+    plain = line.translate(CONTROLS)
+    return plain if len(plain) <= MOST else f"{plain[:MOST]} .."
 
 
 def changes_folder(root: str | Path) -> Path:
@@ -187,7 +227,7 @@ def check_answer(answer: Answer, path: Path) -> None:
     if not (all(isinstance(value, int) for value in numbers) and all(isinstance(value, str) for value in texts)
             and all(isinstance(value, (int, float)) for value in measured)):
         raise TypeError
-    if answer["key"] != path.name.partition(".")[0]:
+    if not all(abs(value) < ROOM for value in (*numbers, *measured)) or answer["key"] != path.name.partition(".")[0]:
         raise ValueError
 
 

@@ -1,8 +1,10 @@
 """Reads the rows that afdx writes of a run, as numbers, all in one pass: there may be millions."""
+from __future__ import annotations
+
 import csv
 from dataclasses import dataclass, field
-
-from afdx.printed import number
+from itertools import chain
+from typing import Any
 
 Number = int | None
 Row = tuple[Number, ...]
@@ -16,8 +18,9 @@ PORT = (*INGRESS, *(f"{priority}_{word}" for priority in ("high", "low") for wor
 BEGIN = {"in": 0, "high": len(INGRESS), "low": len(INGRESS) + len(EGRESS), "buffer": len(PORT) - len(HELD)}
 COLUMNS = {"in": tuple(word.replace("_", "-") for word in INGRESS), "high": EGRESS, "low": EGRESS,
            "buffer": ("occupied", "buffer", "at")}
-DELAYS = ("sent", "least", "greatest", "bound")
+DELAYS = ("least", "greatest", "bound")
 SPELL = ("policed", "least_early", "greatest_early")
+ROOM = 1 << 63  # from which on the store has no room for a number
 
 
 @dataclass
@@ -36,9 +39,9 @@ class Rows:
 
     def delay(self, place: Place, row: dict[str, str]) -> None:
         """Notes the delays of a link, at an output port or, of a network, at the port where it leads out."""
-        sent, least, greatest, bound = (number(row[column]) for column in DELAYS)
+        least, greatest, bound = (number(row[column]) for column in DELAYS)
         switch, port = place
-        self.delays.append((switch, int(row["link"]), port, sent, least, greatest, bound))
+        self.delays.append((switch, int(row["link"]), port, int(row["sent"]), least, greatest, bound))
 
     def spell(self, switch: str, row: dict[str, str]) -> None:
         """Notes a spell; of a network `from` and `to` are ports."""
@@ -48,13 +51,47 @@ class Rows:
 
 
 def rows_of(text: str) -> Rows:
-    """Reads the rows of the report, of `measure` and of spells; of a network each names its switch, or its port has."""
+    """Reads the rows of the report, of `measure` and of spells; of a network each names its switch, or its port has.
+
+    ValueError is raised, with the line that is to blame if one is, of a text that no afdx prints.
+    """
     rows = Rows()
-    reader = csv.reader(text.splitlines())
-    heading: list[str] = next(reader, [])
-    for fields in reader:
-        read(rows, dict(zip(heading, fields)))
+    lines = text.splitlines()
+    check_lines(lines)
+    reader = csv.reader(lines)
+    heading = next(reader)
+    try:
+        for fields in reader:
+            read(rows, dict(zip(heading, fields)))
+    except (LookupError, ValueError, csv.Error) as error:
+        raise ValueError(f"line {reader.line_num}: {lines[reader.line_num - 1]}") from error
     return rows
+
+
+def check_lines(lines: list[str]) -> None:
+    """Raises ValueError if there is none, no heading, or one with letters that are not ASCII."""
+    if not lines:
+        raise ValueError("nothing")
+    for place, line in enumerate(lines, 1):
+        if not line.isascii() or place == 1 and "kind" not in line.split(","):
+            raise ValueError(f"line {place}: {line}")
+
+
+def check_room(rows: Rows) -> None:
+    """Raises ValueError of rows for which the store has no room: two of one key, or a number that is too large."""
+    tables: list[tuple[list[tuple[Any, ...]], int]] = [(rows.links, 2), (rows.delays, 3), (rows.spells, 3)]  # and keys
+    if any(len({row[:keys] for row in table}) < len(table) for table, keys in tables):
+        raise ValueError("two rows of one link")
+    numbers = chain.from_iterable(chain(
+        (row[1:] for table, _ in tables for row in table),
+        ((port, *values) for (_, port), values in rows.ports.items())))
+    if not all(value is None or -ROOM <= value < ROOM for value in numbers):
+        raise ValueError(f"a number from {ROOM} on")
+
+
+def number(field: str) -> Number:
+    """Returns the number of a field, None of an empty one."""
+    return int(field) if field else None
 
 
 def place_of(port: str) -> Place:
