@@ -122,7 +122,7 @@ before,r0016,5,missing,1,no port-3.pcap in $room/odd/r0016"
 # began ends with it at its time limit, and with a run that is interrupted.
 script_in_its_place() {
     local driver
-    campaign script 'recordings = ["few/*"]' && printf '%s\n' '[limits]' 'tries = 2' 'timeout_s = 4' >>script.toml
+    campaign script 'recordings = ["few/*"]' && printf '%s\n' '[limits]' 'tries = 2' 'timeout_s = 2' >>script.toml
     cat >wrapped <<END && chmod +x wrapped && sed -i "s|^program = .*|program = \"$room/wrapped\"|" script.toml
 #!/bin/sh
 case \$1:\$3 in

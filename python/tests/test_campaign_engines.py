@@ -129,7 +129,7 @@ def test_what_nobody_foresaw_ends_no_others(tmp_path: Path, monkeypatch: pytest.
     monkeypatch.setattr("afdx.campaign.worker.work.ask", asked)
     tasks = [task(tmp_path, name=f"r{number}") for number in range(2)]
     noted: list[tuple[Task | None, Outcome | None]] = []
-    local.run(tasks, range(2), Options(tmp_path, "local", 1, 1.0, lambda *words: noted.append(words)))
+    local.run(tasks, range(2), Options(tmp_path, "local", 1, 1.0, lambda own, outcome: noted.append((own, outcome))))
     assert [words for words in noted if words[0]] == [(tasks[0], Outcome(137, True)), (tasks[1], Outcome(0, True))]
     lost = answer_at(tasks[0].answer)
     assert (lost["fault"], lost["status"], lost["line"]) == ("lost", 137, "KeyError: 'unforeseen'")

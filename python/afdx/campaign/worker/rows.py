@@ -2,6 +2,7 @@
 from __future__ import annotations
 
 import csv
+from collections.abc import Sequence
 from dataclasses import dataclass, field
 from itertools import chain
 from typing import Any
@@ -79,7 +80,7 @@ def check_lines(lines: list[str]) -> None:
 
 def check_room(rows: Rows) -> None:
     """Raises ValueError of rows for which the store has no room: two of one key, or a number that is too large."""
-    tables: list[tuple[list[tuple[Any, ...]], int]] = [(rows.links, 2), (rows.delays, 3), (rows.spells, 3)]  # and keys
+    tables: list[tuple[Sequence[tuple[Any, ...]], int]] = [(rows.links, 2), (rows.delays, 3), (rows.spells, 3)]
     if any(len({row[:keys] for row in table}) < len(table) for table, keys in tables):
         raise ValueError("two rows of one link")
     numbers = chain.from_iterable(chain(
