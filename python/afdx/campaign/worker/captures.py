@@ -6,7 +6,7 @@ import os
 from afdx.campaign.worker.task import IRREGULAR, MISSING, Recording, identity_by, signs_of
 
 INPUT, DEVICE = 3, 5  # the program's statuses of a capture that it refuses, and if a file fails
-CHANGED = 75
+CHANGED, GARBLED = 75, 76  # as sysexits.h has them of what may pass and of what does not keep to a protocol
 
 
 class Refused(Exception):

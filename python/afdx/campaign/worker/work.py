@@ -16,7 +16,7 @@ from dataclasses import dataclass
 from pathlib import Path
 from typing import TypedDict
 
-from afdx.campaign.worker.captures import CHANGED, DEVICE, INPUT, Refused, check_captures, check_listed
+from afdx.campaign.worker.captures import CHANGED, DEVICE, GARBLED, INPUT, Refused, check_captures, check_listed
 from afdx.campaign.worker.files import put, scratch_folder
 from afdx.campaign.worker.program import TIMED_OUT, Program, Said, Used
 from afdx.campaign.worker.questions import OUT, ask, keep
@@ -26,7 +26,6 @@ from afdx.campaign.worker.task import FORM, Task, content_of, table_identity
 
 LOST = 137  # as of a process that was killed
 LONGEST = 30.0  # seconds between two tries of a task
-GARBLED = 76  # as sysexits.h has it of what does not keep to a protocol
 AGAIN = ("device", "memory", "timeout", "signal", "program")  # faults of which another try may rid the task
 PASSING = (*AGAIN, "changed")  # faults that another worker of the task may not meet: they leave what is kept
 
