@@ -17,6 +17,7 @@ import campaign_recordings
 from afdx import files
 from afdx.campaign import worker
 from afdx.campaign.engines import Options, dask, local, slurm
+from afdx.campaign.failures import INTERRUPTED
 from afdx.campaign.worker.program import Program, Said
 from afdx.campaign.worker.questions import ask
 from afdx.campaign.worker.task import Task
@@ -63,6 +64,18 @@ def test_slurm_gets_paths_as_they_are(tmp_path: Path, monkeypatch: pytest.Monkey
     assert queued.submit() == "7"
     assert f"--output={tmp_path}/100%%j ".encode() + b"\xff/slurm.log\n" in (tmp_path / "words").read_bytes()
     assert os.fsencode(shlex.quote(str(queued.file))) in (tmp_path / "job").read_bytes()
+
+
+def test_an_array_that_is_queued_as_a_signal_comes_is_cancelled(tmp_path: Path) -> None:
+    """Checks it of a Ctrl-C, which goes to the driver and to all that is of its group."""
+    made = {"sbatch": "kill -INT -$PPID; sleep 0.1; echo 7", "squeue": "echo RUNNING",
+            "scancel": f"echo $1 >{tmp_path}/cancelled"}
+    for name, what in made.items():
+        (tmp_path / name).write_text(f"#!/bin/sh\n{what}\n")
+        (tmp_path / name).chmod(0o755)
+    driver = subprocess.run([COMMAND, "run", str(campaign(tmp_path)), "--engine", "slurm"], capture_output=True,
+                            text=True, env={**os.environ, "PATH": f"{tmp_path}:{os.environ['PATH']}"}, process_group=0)
+    assert (driver.returncode, (tmp_path / "cancelled").read_text()) == (INTERRUPTED, "7\n"), driver.stderr
 
 
 @pytest.mark.parametrize("future", [

@@ -12,6 +12,7 @@ from itertools import chain
 from pathlib import Path
 
 import afdx
+from afdx import signals
 from afdx.campaign.engines import Options
 from afdx.campaign.failures import failure, file_failure, gone
 from afdx.campaign.worker.files import put_text
@@ -74,20 +75,23 @@ class Round:
         """Sends the array and waits for its end."""
         lines = (json.dumps([asdict(self.tasks[number]) for number in job]) for job in self.jobs)
         put_text(self.file, "".join(f"{line}\n" for line in lines))
-        array = self.submit()
+        array = ""
         try:
+            with signals.held():  # so that an array that is queued is known, and cancelled
+                array = self.submit()
             while self.is_queued(array):
                 time.sleep(PAUSE)
                 self.note()
         except SystemExit:  # by a signal
-            subprocess.run(["scancel", array], capture_output=True, check=False)
+            if array:
+                subprocess.run(["scancel", array], capture_output=True, check=False)
             raise
         self.note()
         self.file.unlink()
 
     def submit(self) -> str:
         """Has Slurm queue the array; returns its number. A percent sign of a path is no pattern, and a path that is not
-        UTF-8 goes there as it is."""
+        UTF-8 goes there as it is. A Ctrl-C ends no sbatch, which may have queued the array."""
         need = max(self.tasks[number].memory for number in self.waiting)
         partition = self.options.address.partition(":")[2]
         command = ["sbatch", "--parsable", "--requeue", "--ntasks=1", "--job-name=afdx-campaign",
@@ -96,7 +100,7 @@ class Round:
                    *([f"--partition={partition}"] if partition else [])]
         try:
             said = subprocess.run(command, input=self.script(), capture_output=True, errors="surrogateescape",
-                                  check=False)
+                                  check=False, process_group=0)
         except OSError as error:
             raise file_failure("run sbatch", error) from error
         if said.returncode:
