@@ -240,6 +240,7 @@ def test_a_recording_that_is_taken_twice(folder: Folder) -> None:
     """Checks that a recording that is taken by its name and compressed is warned of; frames that differ have one stamp
     too, and equal ones another."""
     records = [Record(AT + stamp, frame(fill=fill)) for stamp, fill in ((0, 1), (0, 2), (0, 3), (7, 1), (8, 2))]
+    records[1] = replace(records[1], frame=records[1].frame[:-8] + records[0].frame[-8:])
     text = captures.pcap(records)
     rules = ONE.replace("a.pcap", "a.pcap*")
     assert folder.run(rules, a_pcap=text)[2] == []

@@ -97,23 +97,23 @@ class Ordered:
 
     def twice(self) -> int:
         """Counts the records of which one of the same stamp has the same bytes before them. Only where neighbours have
-        one stamp are bytes compared."""
-        count, end = 0, -1
-        seen: set[bytes] = set()
-        for before in np.flatnonzero(self.stamp[1:] == self.stamp[:-1]).tolist():
-            if before != end:
-                seen = {self.record(before)}
-            end = before + 1
-            record = self.record(end)
-            count += record in seen
-            seen.add(record)
-        return count
+        one stamp, and links and the ends of frames are the same, bytes are compared."""
+        same = self.stamp[1:] == self.stamp[:-1]
+        some = np.flatnonzero(np.append(same, False) | np.append(False, same))
+        if not len(some):
+            return 0
+        key, stamp = self.keys(some), self.stamp.take(some)
+        order = np.lexsort((key, stamp))
+        key, stamp = key.take(order), stamp.take(order)
+        alike = (key[1:] == key[:-1]) & (stamp[1:] == stamp[:-1])
+        places = some.take(order[np.append(alike, False) | np.append(False, alike)]).tolist()
+        return len(places) - len({self.record(place) for place in places})
 
     def repeated(self, most: int) -> int:
         """Counts those of the first so many records whose frames have the bytes of an earlier one, of an earlier stamp,
         SOON before or sooner, but for those of links without sequence numbers, which go on so for longer. Only where
         links and the ends of frames are the same all bytes are compared."""
-        key = self.keys(most)
+        key = self.keys(np.arange(min(most, len(self.stamp))))
         order = np.argsort(key, kind="stable")
         stamp, key = self.stamp.take(order), key.take(order)
         apart = stamp[1:] - stamp[:-1]
@@ -125,9 +125,9 @@ class Ordered:
         return sum(self.frame(before) == self.frame(after)
                    for before, after in zip(order[near].tolist(), order[near + 1].tolist()))
 
-    def keys(self, most: int) -> npt.NDArray[np.uint64]:
-        """Returns what the first so many frames end with, together with their links."""
-        begin, end = self.at[:-1][:most], self.at[1:most + 1]
+    def keys(self, places: Column) -> npt.NDArray[np.uint64]:
+        """Returns what these frames end with, together with their links."""
+        begin, end = self.at.take(places), self.at.take(places + 1)
         link = at_any(self.text, "<u2")[np.minimum(begin + ROOM + LINK, end - LINK_SIZE)]
         key: npt.NDArray[np.uint64] = at_any(self.text, "<u8")[end - KEY] ^ (link.astype(np.uint64) << np.uint64(32))
         return key
