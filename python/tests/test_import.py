@@ -9,7 +9,7 @@ import sys
 from collections.abc import Callable
 from dataclasses import dataclass, replace
 from pathlib import Path
-from unittest.mock import patch
+from unittest.mock import Mock, patch
 
 import pytest
 from hypothesis import given
@@ -415,6 +415,7 @@ def test_each_faulty_recording_is_named_and_nothing_is_put(folder: Folder) -> No
     ("window_ms = true\nwindow = 3\n[[source]]", 3,
      ["top: unknown key window, {}/rules.toml", "top: window_ms has to be a whole number, 0 to 60000, {}/rules.toml",
       "source 1: file is missing, {}/rules.toml", "source 1: needs either to or end_systems, {}/rules.toml"]),
+    ('"a\\nb" = 1\n' + ONE, 3, ['top: unknown key "a\\nb", {}/rules.toml']),
     ("source = 3", 3, ["top: source has to be an array of tables, [[source]], {}/rules.toml"]),
     (ONE + "mbit = 100\n" + TWO + "drift_from_ns = 5\n", 3,
      ["source 1: mbit counts only with stamps of the frames' starts: stamps = \"start\" is missing, {}/rules.toml",
@@ -656,8 +657,11 @@ def test_late_by_less_than_the_window_where_too_many_wait(folder: Folder) -> Non
     assert folder.captures() == {}
 
 
-def test_a_folder_in_the_place_of_a_capture(folder: Folder) -> None:
+def test_a_folder_in_the_place_of_a_capture(folder: Folder, monkeypatch: pytest.MonkeyPatch) -> None:
+    """Checks that it is what is told, also if a new file cannot be removed."""
     (folder.path / "in" / "port-2.pcap").mkdir(parents=True)
     status, lines, said = folder.run(ONE + TWO, a_pcap=captures.pcap(A), b_pcap=captures.pcap(A))
     assert (status, lines, said) == (5, [], [f"afdx-import: cannot write {folder.path}/in/port-2.pcap: Is a directory"])
     assert folder.captures() == {}
+    monkeypatch.setattr(Path, "unlink", Mock(side_effect=PermissionError))
+    assert folder.run(ONE + TWO, a_pcap=captures.pcap(A), b_pcap=captures.pcap(A)) == (5, [], said)

@@ -71,11 +71,13 @@ class Captures:
                     os.replace(file.name, self.paths[port])
 
     def close(self) -> None:
-        """Closes the new files, and removes those that have not been moved, and the folders that are empty then."""
+        """Closes the new files, and removes those that have not been moved, and the folders that are empty then, as far
+        as the system lets it: what failed before is what is told."""
         for file in self.files.values():
             with suppress(OSError):  # what could not be written is removed
                 file.close()
-            Path(file.name).unlink(missing_ok=True)
+            with suppress(OSError):
+                Path(file.name).unlink()
         for folder in reversed(self.folders):
-            if not any(folder.iterdir()):
+            with suppress(OSError):  # as if it is not empty
                 folder.rmdir()
