@@ -22,6 +22,7 @@ from afdx.campaign.worker.program import Program, Said
 from afdx.campaign.worker.questions import ask
 from afdx.campaign.worker.task import Task
 from afdx.campaign.worker.work import Outcome, answer_at, work_hard
+from afdx.failure import DEVICE, Failure
 from tests.campaign_samples import GOOD, PATIENCE, QUIET, await_number, campaign, ends, task
 
 COMMAND = str(Path(__file__).parents[1] / "bin" / "afdx-campaign")
@@ -147,6 +148,15 @@ def test_what_nobody_foresaw_ends_no_others(tmp_path: Path, monkeypatch: pytest.
     lost = answer_at(tasks[0].answer)
     assert (lost["fault"], lost["status"], lost["line"]) == ("lost", 137, "KeyError: 'unforeseen'")
     assert capsys.readouterr().err.endswith("KeyError: 'unforeseen'\n")
+
+
+def test_more_threads_than_the_system_gives(tmp_path: Path, monkeypatch: pytest.MonkeyPatch) -> None:
+    """Checks that they are a failure of the system's, and no defect."""
+    monkeypatch.setattr(threading.Thread, "start", Mock(side_effect=RuntimeError("can't start new thread")))
+    with pytest.raises(Failure) as failed:
+        local.run([task(tmp_path)], [0], Options(tmp_path, "local", 1, 1.0, lambda *_: None))
+    assert (failed.value.status, failed.value.lines) == (
+        DEVICE, ("afdx-campaign: cannot begin 1 threads: can't start new thread",))
 
 
 def test_two_drivers_of_one_campaign_keep_all(tmp_path: Path) -> None:

@@ -1,13 +1,15 @@
 """Does the tasks by threads of the driver, each with one child at a time: one that is killed is a status, no more."""
 import os
 import threading
-from collections.abc import Iterator, Sequence
+from collections.abc import Callable, Iterator, Sequence
 from contextlib import contextmanager
 from queue import Empty, SimpleQueue
 
 from afdx.campaign.engines import Options
+from afdx.campaign.failures import failure
 from afdx.campaign.worker.task import Task
 from afdx.campaign.worker.work import Outcome, work_hard
+from afdx.failure import DEVICE
 
 SHARE = 0.8  # of the machine's memory, for all tasks together
 PAUSE = 1.0  # seconds between looks
@@ -50,13 +52,21 @@ def run(tasks: Sequence[Task], left: Sequence[int], options: Options) -> None:
                 return
             done.put((number, outcome_of(tasks[number], memory)))
 
-    for _ in range(min(options.jobs, len(left))):
-        threading.Thread(target=work, daemon=True).start()
+    begin(work, min(options.jobs, len(left)))
     for _ in left:
         number, outcome = next_of(done, options)
         if isinstance(outcome, Exception):
             raise outcome
         options.note(tasks[number], outcome)
+
+
+def begin(work: Callable[[], None], count: int) -> None:
+    """Begins so many threads. A system that gives fewer would not give their children either."""
+    try:
+        for _ in range(count):
+            threading.Thread(target=work, daemon=True).start()
+    except RuntimeError as error:
+        raise failure(DEVICE, f"cannot begin {count} threads: {error}") from error
 
 
 def outcome_of(task: Task, memory: Memory) -> Outcome | Exception:
