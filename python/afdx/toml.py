@@ -1,4 +1,6 @@
 """Reads TOML, as far as Python knows it: the program takes TOML 1.1, Python 1.0."""
+import json
+import re
 import tomllib
 from pathlib import Path
 from typing import Any
@@ -9,6 +11,11 @@ from afdx.failure import INPUT, Failure
 
 class NotToml(Exception):
     """Is raised for a text that is no TOML, or that has a number or a nesting that Python has no room for."""
+
+
+def shown(key: str) -> str:
+    """Returns a key as TOML has it, on one line."""
+    return key if re.fullmatch("[A-Za-z0-9_-]+", key) else json.dumps(key, ensure_ascii=False)
 
 
 def content(text: bytes) -> dict[str, Any]:

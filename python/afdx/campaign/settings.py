@@ -113,7 +113,7 @@ class Section:
     def end(self) -> None:
         """Refuses keys that are left."""
         for key in self.values:
-            raise self.fail(f"unknown key {key}")
+            raise self.fail(f"unknown key {toml.shown(key)}")
 
 
 def read_campaign(path: Path) -> Campaign:

@@ -71,7 +71,7 @@ class Reading:
         texts = {}
         for key, value in found.items():
             if key not in keys:
-                self.wrong.append(f"no such key, {place}.{key}")
+                self.wrong.append(f"no such key, {place}.{toml.shown(key)}")
             elif isinstance(value, str) or number and type(value) is int:
                 texts[key] = str(value)
             else:

@@ -115,7 +115,7 @@ OF_THE_TOP: dict[str, tuple[Callable[[Any], bool], str]] = {
 
 def faults_of(table: dict[str, Any], keys: dict[str, tuple[Callable[[Any], bool], str]], place: str) -> list[str]:
     """Returns what is wrong with the values of a table, each by itself."""
-    unknown = [f"{place}: unknown key {key}" for key in table if key not in keys]
+    unknown = [f"{place}: unknown key {toml.shown(key)}" for key in table if key not in keys]
     wrong = [f"{place}: {key} has to be {meaning}" for key, (is_sound, meaning) in keys.items()
              if key in table and not is_sound(table[key])]
     return unknown + wrong
