@@ -40,9 +40,14 @@ def is_there(word: str, folder: Path, names: set[str]) -> bool:
     return any(fnmatch(name, form) for form in (pattern, near, f"*/{pattern}") for name in names)
 
 
+def prose(page: Path) -> str:
+    """Reads a page without its blocks of code."""
+    return re.sub(r"^ *```.*?^ *```$", "", page.read_text(encoding="utf-8"), flags=re.M | re.S)
+
+
 def anchors(page: Path) -> set[str]:
     """Returns the sections of a page, as links name them."""
-    heads = re.findall(r"^#+ (.*)$", page.read_text(encoding="utf-8"), re.M)
+    heads = re.findall(r"^#+ (.*)$", prose(page), re.M)
     return {re.sub(r"[^\w\- ]", "", head.lower()).replace(" ", "-") for head in heads}
 
 
@@ -53,8 +58,8 @@ def links(text: str) -> list[str]:
 def faults(page: Path) -> Iterator[str]:
     names = there()
     folder = page.parent
-    prose = re.sub(r"^```.*?^```$", "", page.read_text(encoding="utf-8"), flags=re.M | re.S)
-    plain = re.sub(r"`[^`\n]*`", "", prose)
+    text = prose(page)
+    plain = re.sub(r"`[^`\n]*`", "", text)
     for link in links(plain):
         file, _, anchor = link.partition("#")
         target = (TOP / folder / file).resolve() if file else TOP / page
@@ -62,7 +67,7 @@ def faults(page: Path) -> Iterator[str]:
             yield f"{page}: no {link}"
         elif anchor and anchor not in anchors(target):
             yield f"{page}: no section {link}"
-    for word in re.findall(r"`([^`\n]+)`", prose) + re.findall(r"<!-- quote (\S+)", prose):
+    for word in re.findall(r"`([^`\n]+)`", text) + re.findall(r"<!-- quote (\S+)", text):
         if is_path(word) and not is_there(word, folder, names):
             yield f"{page}: no {word}"
 
