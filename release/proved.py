@@ -19,6 +19,7 @@ from pathlib import Path
 FILE = Path(__file__).resolve().parents[1] / "crates/afdx/src/version.rt"
 NOT_PROVED = "not proved"
 END = '";\n'
+ENDING = (signal.SIGINT, signal.SIGTERM, signal.SIGHUP)
 
 
 def proved() -> str:
@@ -56,10 +57,17 @@ def say(before: str, *lines: str) -> None:
 def run(words: list[str]) -> int:
     """Runs a command to its end, with the signals that this process gets, and answers its status."""
     with subprocess.Popen(words) as process:
-        for number in (signal.SIGINT, signal.SIGTERM, signal.SIGHUP):
+        for number in ENDING:
             signal.signal(number, lambda number, _: process.send_signal(number))
         status = process.wait()
     return status if status >= 0 else 128 - status
+
+
+def end(number: int, _: object) -> None:
+    """Ends this process in good order, so that the file is as before; no further signal disturbs that."""
+    for ending in ENDING:
+        signal.signal(ending, signal.SIG_IGN)
+    sys.exit(128 + number)
 
 
 def main() -> None:
@@ -68,6 +76,8 @@ def main() -> None:
     words = parser.parse_args().command
     if not words:
         parser.error("no command")
+    for number in ENDING:
+        signal.signal(number, end)
     before, named = parts()
     say(before, named, NOT_PROVED)  # a run that was killed may have left the other
     line = proved()
