@@ -214,3 +214,15 @@ def test_a_bounded_part_of_many_frames_is_kept() -> None:
         assert MOST_KEPT // 4 < sampler.count <= MOST_KEPT
     kept = [set(np.concatenate(sampler.keys).tolist()) for sampler in samplers]
     assert kept[0] == kept[1]
+
+
+def test_frames_that_are_most_of_all_push_out_no_others(tmp_path: Path) -> None:
+    """Checks it, and what is said if there are no others."""
+    text = captures.record(AT, frame(1, 1)) * (MOST_KEPT + 9)
+    for name, some in ("a", 0), ("b", 99):
+        others = [Record(AT + 10**9 * number, frame(2, number)) for number in range(some)]
+        (tmp_path / name).write_bytes(captures.pcap(others) + text)
+    with pytest.raises(Unaligned, match="again and again"):
+        aligned(sightings(tmp_path / "a"), sightings(tmp_path / "b"))
+    found = aligned(sightings(tmp_path / "b"), sightings(tmp_path / "b"))
+    assert (found.offset_ns, found.pairs) == (0, 99)

@@ -1,5 +1,6 @@
 """Finds the offset and the drift between two recorders' clocks, from the frames that both have recorded."""
 import hashlib
+from collections.abc import Sequence
 from dataclasses import dataclass
 from pathlib import Path
 
@@ -38,6 +39,11 @@ class Sightings:
     key: npt.NDArray[np.uint64]
     stamp: Column
     broken: Place | None = None  # where the recording breaks off, if it does
+    often: Sequence[int] = ()  # keys of frames that came too often to be kept
+
+    def has(self, keys: Sequence[int]) -> bool:
+        """Returns whether frames of one of these keys were seen."""
+        return not set(keys).isdisjoint(self.often) or bool(np.isin(np.array(keys, np.uint64), self.key).any())
 
 
 @dataclass(frozen=True)
@@ -77,24 +83,34 @@ class Alignment:
 
 
 class Sampler:
-    """Keeps the frames whose key is low enough for a list of bounded length."""
+    """Keeps the frames whose key is low enough for a list of bounded length, without those whose key once was that of
+    most of the list: they tell no offset, and would push out all others."""
 
     def __init__(self) -> None:
         self.limit = 2**64 - 1
+        self.often: list[int] = []  # keys
         self.keys: list[npt.NDArray[np.uint64]] = []
         self.stamps: list[Column] = []
         self.count = 0
 
     def add(self, key: npt.NDArray[np.uint64], stamp: Column) -> None:
-        low = key <= np.uint64(self.limit)
+        low = self.is_kept(key)
         self.keys.append(key[low])
         self.stamps.append(stamp[low])
         self.count += int(np.count_nonzero(low))
         while self.count > MOST_KEPT:
-            self.limit //= 2
             key, stamp = np.concatenate(self.keys), np.concatenate(self.stamps)
-            low = key <= np.uint64(self.limit)
+            middle = np.sort(key)[len(key) // 2]
+            if 2 * np.count_nonzero(key == middle) > len(key):
+                self.often.append(int(middle))
+            else:
+                self.limit //= 2
+            low = self.is_kept(key)
             self.keys, self.stamps, self.count = [key[low]], [stamp[low]], int(np.count_nonzero(low))
+
+    def is_kept(self, key: npt.NDArray[np.uint64]) -> npt.NDArray[np.bool_]:
+        low: npt.NDArray[np.bool_] = key <= np.uint64(self.limit)
+        return low & ~np.isin(key, np.array(self.often, np.uint64)) if self.often else low
 
 
 def sightings(path: Path) -> Sightings:
@@ -108,7 +124,8 @@ def sightings(path: Path) -> Sightings:
     if first is None:
         raise Unaligned(f"no frames, {path}")
     tick = max(interface.tick for interface in recording.interfaces)
-    return Sightings(first, tick, np.concatenate(sampler.keys), np.concatenate(sampler.stamps), recording.broken)
+    return Sightings(first, tick, np.concatenate(sampler.keys), np.concatenate(sampler.stamps), recording.broken,
+                     sampler.often)
 
 
 def keyed(batch: Batch, checks: dict[int, CheckSequences]) -> tuple[npt.NDArray[np.uint64], Column]:
@@ -250,7 +267,8 @@ def aligned(first: Sightings, second: Sightings) -> Alignment:
     occurrences, others = Occurrences(first), Occurrences(second)
     both = np.flatnonzero(np.isin(others.key, first.key))
     if not len(both):
-        raise Unaligned("no frame is in both recordings")
+        is_again = first.has(second.often) or second.has(first.often)
+        raise Unaligned(AGAIN if is_again else "no frame is in both recordings")
     both = both[np.argsort(others.stamp[both], kind="stable")]
     key, stamp, gap = others.key[both], others.stamp[both], others.gap[both]
     votes = [voted(occurrences, key[part], stamp[part], gap[part])
