@@ -454,3 +454,42 @@ def test_formulas_whose_values_were_not_saved(tmp_path: Path) -> None:
     book.active["K1"] = "via"
     book.save(paths[0])
     assert refusal(paths).lines == (line("a formula whose value was not saved with it", paths[0], 2, "police", "=H2"),)
+
+
+ERROR = "an error of the spreadsheet in place of a value: it has to be mended there"
+
+
+@pytest.mark.parametrize("text", ["#N/A", "#REF!", "#NAME?", "#VALUE!", "#DIV/0!", "#NV", "#BEZUG!", "#\u00a1VALOR!",
+                                  "#N/D", "Err:502"])
+def test_errors_of_a_spreadsheet_in_a_csv(tmp_path: Path, text: str) -> None:
+    """Checks that no end system gets such a name, and that a row of them is no note."""
+    paths = worked_lists.write(tmp_path, worked_lists.LINKS.replace("A1,A2", f"{text},A2"),
+                               worked_lists.ENDS + ",".join([text] * 4) + "\n")
+    assert refusal(paths).lines == (line(ERROR, paths[0], 5, "from", text), *(
+        line(ERROR, paths[1], 7, column, text) for column in worked_lists.ENDS.splitlines()[0].split(",")))
+    paths = worked_lists.write(tmp_path, worked_lists.LINKS.replace("via", text))
+    assert refusal(paths).lines == (line(ERROR, paths[0], 1, "11", text),)
+
+
+@pytest.mark.parametrize("name", ["#1", "#1/2", "No. #4", "#A", "Err", "NV", "N/A"])
+def test_names_that_are_no_errors(tmp_path: Path, name: str) -> None:
+    lists = [text.replace("A2", name) for text in (worked_lists.LINKS, worked_lists.ENDS)]
+    complaints = Complaints()
+    read = network.read(lists_of("afdx-icd", worked_lists.write(tmp_path, *lists), mapping.read("afdx-icd", None),
+                                 complaints))
+    assert name in read.ends and not complaints.found
+
+
+def test_errors_in_a_workbook(tmp_path: Path) -> None:
+    """Checks a lookup that failed in several rows; of a column that is not read none counts."""
+    paths = worked_lists.write(tmp_path)
+    paths[0] = tmp_path / "icd.xlsx"
+    book = openpyxl.Workbook()
+    for cells in ([*GOOD, "remark"], [*(GOOD | {"from": "#N/A"}).values(), "#REF!"],
+                  [*(GOOD | {"id": 21, "to": "#N/A"}).values()], [*(GOOD | {"id": 22, "via": "#SPILL!"}).values()]):
+        book.active.append(cells)
+    book.active["K4"].data_type = "e"
+    book.active["C2"].font = Font(strike=True)
+    book.save(paths[0])
+    assert refusal(paths).lines == tuple(line(ERROR, paths[0], *place) for place in (
+        (2, "from", "#N/A"), (3, "to", "#N/A"), (4, "via", "#SPILL!")))

@@ -11,7 +11,7 @@ from openpyxl.styles import Font
 
 from afdx.failure import INPUT, Failure
 from afdx.icd import spreadsheet
-from afdx.icd.spreadsheet import Formula, Row, Struck
+from afdx.icd.spreadsheet import Error, Formula, Row, Struck
 
 PRINTABLE = strategies.characters(blacklist_categories=("Cs", "Cc"))
 CELLS = strategies.text(PRINTABLE | strategies.sampled_from(',;"\n'))
@@ -137,6 +137,25 @@ def test_formulas_that_no_program_has_computed(tmp_path: Path, said: str, chain:
     assert rows == [Row(1, ["id", "jitter_us"]), Row(2, ["0", "0" if is_computed else "=A2+1"]), Row(3, ["0", "2"]),
                     Row(4, ["0", "0"])]
     assert isinstance(rows[1].cells[1], Formula) == (not is_computed)
+
+
+def test_errors_of_a_spreadsheet(tmp_path: Path) -> None:
+    """Checks that an error is told from a text: one that was put in as such, also struck through or over merged cells,
+    and those that were saved with a formula and with that of an array."""
+    book, text = openpyxl.Workbook(), io.BytesIO()
+    for cells in (["id", "to", "via"], ["#N/A", "=A1", "=A1"], ["#REF!", None, "#N/A!"], ["x", "y"]):
+        book.active.append(cells)
+    book.active["A3"].font = Font(strike=True)
+    book.active.merge_cells("A3:A4")
+    book.save(text)
+    made = changed(text.getvalue(), "xl/worksheets/sheet1.xml", {
+        b'<c r="B2"><f>A1</f><v></v>': b'<c r="B2" t="e"><f>A1</f><v>#VALUE!</v>',
+        b'<c r="C2"><f>A1</f><v></v>': b'<c r="C2" t="e"><f t="array" ref="C2:C3">A1</f><v>#N/A</v>'})
+    rows = read(tmp_path / "list.xlsx", made)
+    assert [row.cells for row in rows[1:]] == [
+        ["#N/A", "#VALUE!", "#N/A"], ["#REF!", "", "#N/A!"], ["#REF!", "y"]]
+    assert [[isinstance(cell, Error) for cell in row.cells] for row in rows] == [
+        [False] * 3, [True] * 3, [True, False, True], [True, False]]
 
 
 def test_what_is_struck_through(tmp_path: Path) -> None:

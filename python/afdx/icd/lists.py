@@ -10,11 +10,12 @@ from afdx.icd.cells import Column, Unfit, one_line, words_of
 from afdx.icd.columns import NAME, Columns
 from afdx.icd.complaints import Complaints, Place
 from afdx.icd.mapping import ListMapping
-from afdx.icd.spreadsheet import Formula, Row, Struck
+from afdx.icd.spreadsheet import Error, Formula, Row, Struck
 
 T = TypeVar("T")
 UNITS = {"ms", "us", "ns"}  # at the ends of keys
 UNSAVED = "a formula whose value was not saved with it"
+ERROR = "an error of the spreadsheet in place of a value: it has to be mended there"
 NOTE = "no more than two cells of this row are filled: if it is a note, it has to go"
 STRUCK = "struck through, and read all the same: if this {} does not count, it has to go"
 
@@ -39,10 +40,18 @@ def looks_like(heading: str, name: list[str]) -> bool:
     return found or "".join(words).startswith(letters) or "".join(words).endswith(letters)
 
 
+def none_in(text: str) -> str:
+    """Returns why a text is no value, or nothing if it is one."""
+    if isinstance(text, Formula):
+        return UNSAVED
+    return ERROR if isinstance(text, Error) else ""
+
+
 def is_short(row: Row) -> bool:
-    """Returns whether one or two cells of a row are filled. Neighbours of one text, as those of a merged range are,
-    count as one."""
-    return sum(text != "" for text, _ in groupby(row.cells)) <= 2
+    """Returns whether one or two cells of a row are filled, none with an error. Neighbours of one text, as those of a
+    merged range are, count as one."""
+    has_error = any(isinstance(text, Error) for text in row.cells)
+    return not has_error and sum(text != "" for text, _ in groupby(row.cells)) <= 2
 
 
 class List:
@@ -63,8 +72,9 @@ class List:
             self.complain_of_headings(known)
         else:
             self.complain_of_all(needed)
-        self.complain_beside(sheet.heading, UNSAVED, [
-            at for at, heading in enumerate(sheet.heading.cells) if isinstance(heading, Formula)])
+        for at, heading in enumerate(sheet.heading.cells):
+            if none_in(heading):
+                self.complain_beside(sheet.heading, none_in(heading), [at])
 
     def heading(self, column: Column[Any]) -> str:
         """Returns what a column is called: in the list, or what is looked for if the list lacks it."""
@@ -196,8 +206,8 @@ class List:
         try:
             if text is None:
                 raise Unfit("empty")
-            if isinstance(text, Formula):
-                raise Unfit(UNSAVED)
+            if none_in(text):
+                raise Unfit(none_in(text))
             return column.reader(text)
         except Unfit as unfit:
             self.complain(row, column, str(unfit))

@@ -18,6 +18,7 @@ from afdx import files
 from afdx.failure import INPUT, Failure
 
 SEPARATORS = (",", "\t", ";")
+ERROR = re.compile(r"#\S+[!?]|#[^\W\d]/[^\W\d]|#NV|Err:[0-9]{3}")  # as text: #REF!, #N/A, German #BEZUG!, #NV ..
 SAID = re.compile(r"sep=([,;\t])[,;\t]*\r?\n")
 WORKBOOK, CHAIN = "xl/workbook.xml", "xl/calcChain.xml"  # parts of an .xlsx: the second is Excel's, if it computed
 SHARED = "xl/sharedStrings.xml"  # texts of all sheets
@@ -34,6 +35,10 @@ class Formula(str):
 
 class Struck(str):
     """A text that is struck through, or a part of it."""
+
+
+class Error(str):
+    """An error of the spreadsheet in place of a value, as #N/A."""
 
 
 @dataclass(frozen=True)
@@ -68,10 +73,17 @@ def text_of(value: object) -> str:
     return str(value).strip()
 
 
+def told(text: str) -> str:
+    """Returns a text, marked if it is one that spreadsheets write for an error, in whatever language."""
+    return Error(text) if ERROR.fullmatch(text) else text
+
+
 def text_in(cell: Any) -> str:
-    """Returns the text of a workbook's cell, marked if all of it is struck through."""
+    """Returns the text of a workbook's cell, marked if it is an error, or all of it is struck through."""
     text = text_of(cell.value)
-    return Struck(text) if text and cell.font.strike else text
+    if cell.data_type == "e":
+        return Error(text)
+    return Struck(text) if text and cell.font.strike else told(text)
 
 
 def is_uncomputed(parts: ZipFile) -> bool:
@@ -132,7 +144,7 @@ def put_struck(cells: list[str], column: int, cell: ElementTree.Element, marks: 
     shared = cell.findtext(f"{PARTS}v") if cell.get("t") == "s" else None
     is_struck = shared in marks.texts or has_strike(cell)
     text = cells[column - 1] if column <= len(cells) else ""
-    if is_struck and text and not isinstance(text, Formula):
+    if is_struck and text and not isinstance(text, (Formula, Error)):
         cells[column - 1] = Struck(text)
 
 
@@ -198,7 +210,7 @@ def separated_rows(text: str) -> list[Row]:
     reader = csv.reader(io.StringIO(text[begin:], newline=""), delimiter=separator, strict=True)
     rows, line = [], first + 1
     for cells in reader:
-        rows.append(Row(line, [cell.strip() for cell in cells]))
+        rows.append(Row(line, [told(cell.strip()) for cell in cells]))
         line = first + reader.line_num + 1
     return rows
 
