@@ -83,8 +83,8 @@ lowered() {
 
 # all_at_once: each bad row has its line, and nothing is made.
 all_at_once() {
-    cp -r lists bad && sed -i '3s/;L$/;X/; 5s/^104/101/; 7s/;ES16|ES12;/;ES7;/; 8s/;ES8;/;#N\/A;/' bad/icd.csv && sed -i '4s/;100$/;1/' bad/ends.csv &&
-        refuses 3 bad && diff - said.txt <<END && [ ! -e made ]
+    cp -r lists bad && sed -i '3s/;L$/;X/; 5s/^104/101/; 7s/;ES16|ES12;/;ES7;/; 8s/;ES8;/;#N\/A;/' bad/icd.csv &&
+        sed -i '4s/;100$/;1/' bad/ends.csv && refuses 3 bad && diff - said.txt <<END && [ ! -e made ]
 afdx-icd: not high or low, bad/icd.csv line 3, column PRIO, value "X"
 afdx-icd: bad/icd.csv line 2 has it too, bad/icd.csv line 5, column VL_ID, value "101"
 afdx-icd: ES7 would send to itself, bad/icd.csv line 7, column DST_ES, value "ES7"
@@ -117,9 +117,10 @@ looks_like() {
         one_line 3 alike "\"$3\" may be this column: the mapping has to name it, or \"\" for none, alike/$1.csv line 1, column $2"
 }
 
-# cable_delay: the delay of the cables under such a heading, which the mapping may name.
+# cable_delay: the delay of the cables under such a heading, which the mapping may name; another one is on two lines, with commas.
 cable_delay() {
-    cp -r lists delays && sed -i '1s/DELAY_NS/Cable delay [ns]/' delays/wires.csv && one_line 3 delays \
+    cp -r lists delays && sed -i '1s/DELAY_NS/Cable delay [ns]/; 1s/^/"Cable,\nin,the,drawing,of,all";/; 2,$s/^/x;/' delays/wires.csv &&
+        one_line 3 delays \
         '"Cable delay [ns]" may be this column: the mapping has to name it, or "" for none, delays/wires.csv line 1, column delay_ns' &&
         printf '[columns.wires]\ndelay_ns = "Cable delay [ns]"\n' >>delays/map.toml && unchanged delays
 }

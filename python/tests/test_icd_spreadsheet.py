@@ -53,6 +53,18 @@ def test_separators_and_line_ends(tmp_path: Path, text: bytes) -> None:
     assert read(tmp_path / "list.csv", text) == [Row(1, ["id", "to"]), Row(2, ["1", "A"])]
 
 
+@pytest.mark.parametrize("text, headings", [
+    (b'"VL\nid";to', ["VL\nid", "to"]), (b'\r\n"VL,\r\nid,,";to', ["VL,\r\nid,,", "to"]),
+    (b'id;"to\n,"', ["id", "to\n,"]), (b'id;"to, via, and so on"', ["id", "to, via, and so on"]),
+    (b'"a ""new"", longer, id";to', ['a "new", longer, id', "to"]), (b'id;19"', ["id", '19"']),
+    (b'19";to', ['19"', "to"]), (b'id;"to""\n,,"', ["id", 'to"\n,,'])])
+def test_what_is_within_quotes_in_headings_does_not_separate(tmp_path: Path, text: bytes, headings: list[str]) -> None:
+    """Checks that an inch does not begin what is within quotes; the same list with tabs is read so too."""
+    for separator in (b";", b"\t"):
+        rows = read(tmp_path / "list.csv", (text + b"\n1;A\n").replace(b";", separator))
+        assert [row.cells for row in rows] == [headings, ["1", "A"]]
+
+
 def test_a_first_line_that_says_the_separator(tmp_path: Path) -> None:
     rows = read(tmp_path / "list.csv", b'\xef\xbb\xbfsep=;\r\nid,a,b;to\r\n1;A\r\n')
     assert rows == [Row(2, ["id,a,b", "to"]), Row(3, ["1", "A"])]

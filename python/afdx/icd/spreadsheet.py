@@ -19,6 +19,7 @@ from afdx.failure import INPUT, Failure
 
 SEPARATORS = (",", "\t", ";")
 ERROR = re.compile(r"#\S+[!?]|#[^\W\d]/[^\W\d]|#NV|Err:[0-9]{3}")  # as text: #REF!, #N/A, German #BEZUG!, #NV ..
+QUOTED = re.compile(r'(?<![^,;\t])"(?:[^"]|"")*+"')  # a cell from its first quote to its last, whatever the separator
 SAID = re.compile(r"sep=([,;\t])[,;\t]*\r?\n")
 WORKBOOK, CHAIN = "xl/workbook.xml", "xl/calcChain.xml"  # parts of an .xlsx: the second is Excel's, if it computed
 SHARED = "xl/sharedStrings.xml"  # texts of all sheets
@@ -196,8 +197,8 @@ def workbook_rows(text: bytes) -> tuple[list[Row], str]:
 
 
 def separator_of(text: str) -> str:
-    """Returns the separator that the first line has most of."""
-    first = text.lstrip("\r\n").split("\n", 1)[0]
+    """Returns the separator that the first row has most of outside quotes, in which there may be line feeds too."""
+    first = QUOTED.sub("", text.lstrip("\r\n")).split("\n", 1)[0]
     return max(SEPARATORS, key=first.count)
 
 
