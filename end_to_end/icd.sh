@@ -84,12 +84,16 @@ lowered() {
 # all_at_once: each bad row has its line, and nothing is made.
 all_at_once() {
     cp -r lists bad && sed -i '3s/;L$/;X/; 5s/^104/101/; 7s/;ES16|ES12;/;ES7;/; 8s/;ES8;/;#N\/A;/' bad/icd.csv &&
+        echo '101;ES2_101;ES2;ES20;64;250;33;L' >>bad/icd.csv && echo 'SW2;21;SW1;21;1000;0' >>bad/wires.csv &&
         sed -i '4s/;100$/;1/' bad/ends.csv && refuses 3 bad && diff - said.txt <<END && [ ! -e made ]
 afdx-icd: not high or low, bad/icd.csv line 3, column PRIO, value "X"
 afdx-icd: bad/icd.csv line 2 has it too, bad/icd.csv line 5, column VL_ID, value "101"
 afdx-icd: ES7 would send to itself, bad/icd.csv line 7, column DST_ES, value "ES7"
 afdx-icd: an error of the spreadsheet in place of a value: it has to be mended there, bad/icd.csv line 8, column SRC_ES, value "#N/A"
+afdx-icd: bad/icd.csv line 2 has it too, with another DST_ES: all receivers have to stand in one row, with | between them, \
+bad/icd.csv line 122, column VL_ID, value "101"
 afdx-icd: not one of 10, 100, 1000, bad/ends.csv line 4, column MBIT, value "1"
+afdx-icd: bad/wires.csv line 2 is the same cable: one row is for both directions, bad/wires.csv line 8, column SWITCH_A, value "SW2"
 END
 }
 

@@ -60,6 +60,7 @@ BAD_WIRES = [
     ("switch_a", "", "empty"),
     ("port_a", "1", "{ends} line 2 has it too"),
     ("switch_b", "A", "the cable leads to its own switch"),
+    ("port_a", "20", "{wires} line 2 has it too"),
     ("port_b", "21", "{wires} line 3 has it too"),
     ("delay_ns", "1000001", "not from 0 to 1000000"),
 ]
@@ -128,6 +129,25 @@ def test_bad_rows_of_all_lists_at_once(tmp_path: Path) -> None:
         line(f"{paths[0]} line 2 has it too", paths[0], 5, "id", "10"),
         line(f"{paths[1]} line 2 has it too", paths[1], 3, "port", "1"),
         line("not a whole number", paths[2], 2, "delay_ns", "-50"))
+
+
+def test_a_row_for_each_receiver(tmp_path: Path) -> None:
+    """Checks that it is said of rows that differ in no other column that is read, and of no other rows."""
+    links = ",".join([*GOOD, "remark"]) + "\n"
+    for change in ({}, {"to": "C1"}, {"to": "C2"}, {"to": "C1", "via": "C"}, {}):
+        links += row(GOOD | change | {"remark": f"{len(links)}"})
+    paths = worked_lists.write(tmp_path, links)
+    all_in_one = ", with another to: all receivers have to stand in one row, with | between them"
+    assert refusal(paths).lines == tuple(
+        line(f"{paths[0]} line 2 has it too{more}", paths[0], number, "id", "20")
+        for number, more in ((3, all_in_one), (4, all_in_one), (5, ""), (6, "")))
+
+
+@pytest.mark.parametrize("cells, number, value", [("B,20,A,20,1000,50", 2, "B"), ("A,22,C,22,100,25", 4, "A")])
+def test_a_row_for_each_direction_of_a_cable(tmp_path: Path, cells: str, number: int, value: str) -> None:
+    paths = worked_lists.write(tmp_path, wires=worked_lists.WIRES + cells + "\n")
+    what = f"{paths[2]} line {number} is the same cable: one row is for both directions"
+    assert refusal(paths).lines == (line(what, paths[2], 5, "switch_a", value),)
 
 
 def test_a_payload_of_another_size(tmp_path: Path) -> None:

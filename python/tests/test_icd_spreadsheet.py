@@ -222,6 +222,7 @@ def test_a_heading_of_merged_cells_is_above_each_of_their_columns(tmp_path: Path
 
 UTF_16 = "zero bytes, as UTF-16 has them: it has to be UTF-8"
 NO_XLSX = "a spreadsheet that is no .xlsx: save it as .xlsx or .csv"
+PASSWORD = "an .xlsx with a password, or an old .xls: save it as .xlsx without a password"
 XLSX = "an .xlsx by its bytes: its name has to end so"
 KIND = b"application/vnd.openxmlformats-officedocument.spreadsheetml.sheet.main+xml"
 MACROS = {KIND: b"application/vnd.ms-excel.sheet.macroEnabled.main+xml"}
@@ -249,6 +250,7 @@ def test_a_workbook_with_lists_to_choose_from_is_read_without_a_warning(
     ("list.csv", workbook([["id"]])[:200], f"{NO_XLSX}, {{}}"),
     ("list.ods", b"PK\3\4" + bytes(504), f"{NO_XLSX}, {{}}"),
     ("list.xls", b"\xd0\xcf\x11\xe0\xa1\xb1\x1a\xe1" + bytes(504), f"{NO_XLSX}, {{}}"),
+    ("list.xlsx", b"\xd0\xcf\x11\xe0\xa1\xb1\x1a\xe1" + bytes(504), f"{PASSWORD}, {{}}"),
     ("list.xlsx", b"id,to\n", "not a workbook that can be read, {}")])
 def test_files_that_are_no_lists(tmp_path: Path, name: str, text: bytes, line: str) -> None:
     with pytest.raises(Failure) as ended:

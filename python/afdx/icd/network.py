@@ -1,5 +1,7 @@
 """Reads the three lists as a network: its end systems, the cables between its switches, and its virtual links."""
+from collections.abc import Callable
 from dataclasses import dataclass, field
+from functools import partial
 from pathlib import Path
 from typing import Any
 
@@ -63,13 +65,21 @@ class Once:
     """Keeps which row has something first, and complains of a later one."""
 
     def __init__(self) -> None:
-        self.rows: dict[object, str] = {}
+        self.rows: dict[object, tuple[str, Row]] = {}
 
-    def take(self, of: List, row: Row, column: Column[Any], *key: object) -> None:
+    def take(self, of: List, row: Row, column: Column[Any], *key: object,
+             hint: Callable[[Row], str] = lambda other: "") -> None:
+        """Takes it for a row, or complains, with what the hint says of the row that has it."""
         if key in self.rows:
-            of.complain(row, column, f"{self.rows[key]} has it too")
+            place, other = self.rows[key]
+            of.complain(row, column, f"{place} has it too{hint(other)}")
         elif None not in key:
-            self.rows[key] = f"{of.sheet.place} line {row.line}"
+            self.rows[key] = (f"{of.sheet.place} line {row.line}", row)
+
+    def same(self, *keys: object) -> str:
+        """Returns the place of the row that has all of these, or nothing."""
+        places = {self.rows[key][0] if key in self.rows else "" for key in keys}
+        return places.pop() if len(places) == 1 else ""
 
 
 class Named:
@@ -106,6 +116,20 @@ def read_ends(of: List, network: Network, ports: Once) -> None:
             network.ends[name] = port
 
 
+def take_ports(of: List, row: Row, a: Port, b: Port, ports: Once) -> None:
+    """Takes the ports of a cable. Of a cable that has a row already, as that of the other direction, it complains once."""
+    ends = (a.switch, a.number), (b.switch, b.number)
+    same = ports.same(*ends)
+    if same and ends[0] != ends[1]:
+        of.complain(row, columns.SWITCH_A, f"{same} is the same cable: one row is for both directions")
+        return
+    ports.take(of, row, columns.PORT_A, *ends[0])
+    if a.switch == b.switch is not None:
+        of.complain(row, columns.SWITCH_B, "the cable leads to its own switch")
+    else:
+        ports.take(of, row, columns.PORT_B, *ends[1])
+
+
 def read_cables(of: List, network: Network, ports: Once) -> None:
     """Reads the cables, each between ports of its own at two switches."""
     of_ends, of_cables = set(network.switches), Named()
@@ -114,11 +138,7 @@ def read_cables(of: List, network: Network, ports: Once) -> None:
         a = Port(of.cell(row, columns.SWITCH_A), of.cell(row, columns.PORT_A), *line)
         b = Port(of.cell(row, columns.SWITCH_B), of.cell(row, columns.PORT_B), *line)
         delay = of.cell(row, columns.WIRE_DELAY)
-        ports.take(of, row, columns.PORT_A, a.switch, a.number)
-        if a.switch == b.switch is not None:
-            of.complain(row, columns.SWITCH_B, "the cable leads to its own switch")
-        else:
-            ports.take(of, row, columns.PORT_B, b.switch, b.number)
+        take_ports(of, row, a, b, ports)
         network.switches |= {a.switch, b.switch}
         of_cables.add(row, columns.SWITCH_A, a.switch)
         of_cables.add(row, columns.SWITCH_B, b.switch)
@@ -156,6 +176,14 @@ def check_names(of: List, link: Link, network: Network) -> None:
         of.complain(link.row, columns.VIA, f"no such switch as {switch}")
 
 
+def one_row_for_all(of: List, row: Row, other: Row) -> str:
+    """Says what to do about two rows of a link that differ in its receivers alone."""
+    differ = [column for column in columns.LINKS if of.text(row, column) != of.text(other, column)]
+    if differ != [columns.TARGETS]:
+        return ""
+    return f", with another {of.heading(columns.TARGETS)}: all receivers have to stand in one row, with | between them"
+
+
 def read_links(of: List, network: Network) -> None:
     """Reads the virtual links, each of its own number, between end systems that are there."""
     numbers = Once()
@@ -164,7 +192,7 @@ def read_links(of: List, network: Network) -> None:
                     of.cell(row, columns.TARGETS), of.cell(row, columns.BAG), of.cell(row, columns.JITTER),
                     size_of(of, row), of.cell(row, columns.PRIORITY), of.cell(row, columns.POLICE),
                     of.cell(row, columns.VIA))
-        numbers.take(of, row, columns.ID, link.id)
+        numbers.take(of, row, columns.ID, link.id, hint=partial(one_row_for_all, of, row))
         check_names(of, link, network)
         if of.is_sound(row):
             network.links.append(link)

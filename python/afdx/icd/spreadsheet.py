@@ -24,7 +24,8 @@ SAID = re.compile(r"sep=([,;\t])[,;\t]*\r?\n")
 WORKBOOK, CHAIN = "xl/workbook.xml", "xl/calcChain.xml"  # parts of an .xlsx: the second is Excel's, if it computed
 SHARED = "xl/sharedStrings.xml"  # texts of all sheets
 TYPES, XLSX = "[Content_Types].xml", b"spreadsheetml.sheet.main+xml"  # the part with its kind; .xlsm has another kind
-BOOKS = (b"PK\3\4", b"\xd0\xcf\x11\xe0")  # what .xlsm and .ods begin with, and what .xls does
+OLD = b"\xd0\xcf\x11\xe0"  # what .xls begins with, and an .xlsx with a password
+BOOKS = (b"PK\3\4", OLD)  # the first is what .xlsm and .ods begin with
 UNCOMPUTED = "0"  # the value of a formula that XlsxWriter did not compute
 PARTS = "{http://schemas.openxmlformats.org/spreadsheetml/2006/main}"  # before the tag of each part of a workbook
 ROW, MERGED = f"{PARTS}row", f"{PARTS}mergeCell"
@@ -234,7 +235,10 @@ def rows_of(command: str, path: Path) -> tuple[list[Row], str]:
                 warnings.simplefilter("ignore")  # openpyxl's are of what no value is in, as lists to choose from
                 return workbook_rows(text)
         except Exception as error:  # what the readers of ZIP and XML below openpyxl raise is nowhere listed
-            raise Failure(INPUT, f"{command}: not a workbook that can be read, {path}") from error
+            what = "not a workbook that can be read"
+            if text.startswith(OLD):
+                what = "an .xlsx with a password, or an old .xls: save it as .xlsx without a password"
+            raise Failure(INPUT, f"{command}: {what}, {path}") from error
     if text.startswith(BOOKS):
         what = "a spreadsheet that is no .xlsx: save it as .xlsx or .csv"
         if is_xlsx(text):
