@@ -262,6 +262,14 @@ def test_other_numbers_may_begin_with_zeros(tmp_path: Path) -> None:
     assert (first.bag_ms, first.jitter_us, first.max_size, net.ends["B1"].number) == (2, 40, 200, 1)
 
 
+def test_a_list_of_links_that_has_none_is_warned_of(tmp_path: Path) -> None:
+    paths = worked_lists.write(tmp_path, "\n" + worked_lists.LINKS.splitlines()[0] + "\n,,,\n")
+    complaints = Complaints()
+    network.read(lists_of("afdx-icd", paths, mapping.read("afdx-icd", None), complaints))
+    assert complaints.warnings("afdx-icd") == [
+        f"afdx-icd: warning: no links: the list is its headings alone, {paths[0]} line 2"] and not complaints.found
+
+
 NONE_OF_LINKS = "none of the headings id, from, to, bag_ms, jitter_us, priority: "
 ASKED = "is there a title above them, or has the mapping to name them?"
 NOTE = "no more than two cells of this row are filled: if it is a note, it has to go"

@@ -114,9 +114,9 @@ class List:
     def complain_of_all(self, needed: Columns) -> None:
         """Complains once of headings of which none is one of the list."""
         other = "is the list on another sheet, " if self.sheet.name else ""
-        place = Place(self.order, self.sheet.heading.line, 0, self.sheet.place, "", None)
-        self.complaints.note(place, f"none of the headings {', '.join(map(self.heading, needed))}: {other}"
-                                    "is there a title above them, or has the mapping to name them?")
+        what = f"none of the headings {', '.join(map(self.heading, needed))}"
+        asked = f"{other}is there a title above them, or has the mapping to name them?"
+        self.complaints.note(self.place_of_headings(), f"{what}: {asked}")
 
     def may_be_missing(self, column: Column[Any]) -> bool:
         return column.default is not None or column.key in self.mapping.defaults
@@ -143,6 +143,9 @@ class List:
         elif likely:
             self.complain_of_heading(column, f'{likely} may be this column: the mapping has to name it, or "" for none')
 
+    def place_of_headings(self) -> Place:
+        return Place(self.order, self.sheet.heading.line, 0, self.sheet.place, "", None)
+
     def place_of_heading(self, column: Column[Any]) -> Place:
         return Place(self.order, self.sheet.heading.line, 0, self.sheet.place, self.heading(column), None)
 
@@ -156,6 +159,11 @@ class List:
                   if column.key in self.places and isinstance(headings[self.places[column.key]], Struck)]
         self.complaints.doubts += [(self.place_of_heading(column), STRUCK.format("column")) for column in struck]
         return {self.places[column.key] for column in struck}
+
+    def warn_if_empty(self, what: str) -> None:
+        """Warns of a list without rows."""
+        if not self.sheet.rows:
+            self.complaints.doubts.append((self.place_of_headings(), what))
 
     def rows(self) -> Iterator[Row]:
         """Returns the rows. A cell that no heading is above, as an unquoted separator makes them, is a complaint. A row

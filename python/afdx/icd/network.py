@@ -117,7 +117,7 @@ def read_ends(of: List, network: Network, ports: Once) -> None:
 
 
 def take_ports(of: List, row: Row, a: Port, b: Port, ports: Once) -> None:
-    """Takes the ports of a cable. Of a cable that has a row already, as that of the other direction, it complains once."""
+    """Takes the ports of a cable. Of one that has a row already, as that of the other direction, it complains once."""
     ends = (a.switch, a.number), (b.switch, b.number)
     same = ports.same(*ends)
     if same and ends[0] != ends[1]:
@@ -187,6 +187,7 @@ def one_row_for_all(of: List, row: Row, other: Row) -> str:
 def read_links(of: List, network: Network) -> None:
     """Reads the virtual links, each of its own number, between end systems that are there."""
     numbers = Once()
+    of.warn_if_empty("no links: the list is its headings alone")
     for row in of.rows():
         link = Link(row, of.cell(row, columns.ID), of.cell(row, columns.NAME), of.cell(row, columns.SOURCE),
                     of.cell(row, columns.TARGETS), of.cell(row, columns.BAG), of.cell(row, columns.JITTER),
