@@ -11,7 +11,7 @@ icd=$top/python/bin/afdx-icd
 diff=$top/python/bin/afdx-diff
 cd "$room" || exit 1
 
-# lists NAME [shuffled|covered|struck]: the lists, as NAME/.
+# lists NAME [shuffled|covered|parted|struck]: the lists, as NAME/.
 lists() {
     /usr/bin/python3 "$top/end_to_end/icds.py" "$@"
 }
@@ -201,6 +201,10 @@ check "the heading PRIO beside a default" default_priority
 check "a note and a title" note
 check "a cover before the list" in_a_workbook covered 3 "none of the headings VL_ID, SRC_ES, DST_ES, bag_ms, jitter_us, PRIO: \
 is the list on another sheet, is there a title above them, or has the mapping to name them?, covered/icd.xlsx sheet \"Cover\" line 1"
+check "the headings alone on a sheet before the list" in_a_workbook parted 0 "warning: no links: the list is its headings alone, \
+parted/icd.xlsx sheet \"Part 1\" line 1
+afdx-icd: warning: not read, with headings as the first visible sheet has: if the rows of this one count, they have to be there, \
+parted/icd.xlsx sheet \"Sheet\" line 1"
 struck="warning: struck through, and read all the same: if this"
 check "a column and a row that are struck through" in_a_workbook struck 0 "$struck column does not count, it has to go, struck/icd.xlsx \
 line 1, column PRIO

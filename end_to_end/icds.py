@@ -80,9 +80,11 @@ def ways(rows: list[Row]) -> Iterator[str]:
 
 
 def change(book: Any, order: str) -> None:
-    """Puts a sheet before the links, or strikes the first of them and the last heading through."""
+    """Puts a sheet before the links, or their headings alone on one, or strikes the first of them and the last heading through."""
     if order == "covered":
         book.create_sheet("Cover", 0)["A1"] = "ICD rev C"
+    if order == "parted":
+        book.create_sheet("Part 1", 0).append([cell.value for cell in book["Sheet"][1]])
     if order == "struck":
         for cell in (*book.active[3], book.active[1][-1]):
             cell.font = Font(strike=True)
@@ -104,8 +106,9 @@ def write(path: Path, heading: Row, rows: Iterable[Row], order: str = "") -> Non
 def main() -> None:
     parser = argparse.ArgumentParser(description=__doc__, formatter_class=argparse.RawDescriptionHelpFormatter)
     parser.add_argument("folder", type=Path, help="is made")
-    parser.add_argument("order", nargs="?", choices=["shuffled", "covered", "struck"], help=(
-        "the same lists in workbooks: with their rows in another order, a cover before the links, or a link and a heading struck through"))
+    parser.add_argument("order", nargs="?", choices=["shuffled", "covered", "parted", "struck"], help=(
+        "the same lists in workbooks: with their rows in another order, a cover before the links, a sheet of their headings before "
+        "them, or a link and a heading struck through"))
     given = parser.parse_args()
     folder, chance = given.folder, Random(61)
     rows = list(links(chance))

@@ -134,7 +134,8 @@ def test_bad_rows_of_all_lists_at_once(tmp_path: Path) -> None:
 def test_a_row_for_each_receiver(tmp_path: Path) -> None:
     """Checks that it is said of rows that differ in no other column that is read, and of no other rows."""
     links = ",".join([*GOOD, "remark"]) + "\n"
-    for change in ({}, {"to": "C1"}, {"to": "C2"}, {"to": "C1", "via": "C"}, {}):
+    changes: list[dict[str, str]] = [{}, {"to": "C1"}, {"to": "C2"}, {"to": "C1", "via": "C"}, {}]
+    for change in changes:
         links += row(GOOD | change | {"remark": f"{len(links)}"})
     paths = worked_lists.write(tmp_path, links)
     all_in_one = ", with another to: all receivers have to stand in one row, with | between them"
@@ -301,6 +302,32 @@ def test_the_sheet_is_named_if_it_is_not_the_only_one(tmp_path: Path) -> None:
     assert refusal(paths).lines == (
         f'afdx-icd: {place} 2 has it too, {place} 3, column id, value "20"',
         f'afdx-icd: not one of 1, 2, 4, 8, 16, 32, 64, 128, {place} 3, column bag_ms, value "3"')
+
+
+@pytest.mark.parametrize("headings, above, state, is_told", [
+    (list(GOOD), 0, "visible", True), (list(GOOD), 0, "hidden", False), (list(GOOD), 19, "visible", True),
+    (list(GOOD), 20, "visible", False), (["id", "name", "from", "to", "offset"], 0, "visible", False),
+    (["VIA", "police", "priority", " Max_size", "bag_ms\n", "id"], 3, "visible", True),
+    (["rev", "date", "name"], 0, "visible", False)])
+def test_a_sheet_in_which_the_list_may_go_on(
+        tmp_path: Path, headings: list[str], above: int, state: str, is_told: bool) -> None:
+    """Checks that a sheet beside the list is told of if one of its first rows has most of the headings."""
+    paths = worked_lists.write(tmp_path)
+    paths[0] = tmp_path / "icd.xlsx"
+    book = openpyxl.Workbook()
+    book.create_sheet("part 2").sheet_state = state
+    for _ in range(above):
+        book["part 2"].append(["ICD rev C"])
+    for sheet, cells in ((book.active, list(GOOD)), (book.active, list(GOOD.values())), (book["part 2"], headings),
+                         (book["part 2"], list((GOOD | {"id": "21"}).values()))):
+        sheet.append(cells)
+    book.save(paths[0])
+    complaints = Complaints()
+    read = network.read(lists_of("afdx-icd", paths, mapping.read("afdx-icd", None), complaints))
+    what = "not read, with headings as the first visible sheet has: if the rows of this one count"
+    assert complaints.warnings("afdx-icd") == [
+        f'afdx-icd: warning: {what}, they have to be there, {paths[0]} sheet "part 2" line {above + 1}'] * is_told
+    assert [link.id for link in read.links] == [20] and not complaints.found
 
 
 def test_a_note_under_a_list_has_one_line(tmp_path: Path) -> None:

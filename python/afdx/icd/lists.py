@@ -17,7 +17,13 @@ UNITS = {"ms", "us", "ns"}  # at the ends of keys
 UNSAVED = "a formula whose value was not saved with it"
 ERROR = "an error of the spreadsheet in place of a value: it has to be mended there"
 NOTE = "no more than two cells of this row are filled: if it is a note, it has to go"
+OTHER = "not read, with headings as the first visible sheet has: if the rows of this one count, they have to be there"
 STRUCK = "struck through, and read all the same: if this {} does not count, it has to go"
+
+
+def folded(heading: str) -> str:
+    """Returns a heading as it is compared: on one line, in small letters."""
+    return one_line(heading).casefold()
 
 
 def names_of(column: Column[Any]) -> list[list[str]]:
@@ -70,6 +76,7 @@ class List:
         self.is_there = self.seems_there(needed)
         if self.is_there:
             self.complain_of_headings(known)
+            self.warn_of_other_sheets()
         else:
             self.complain_of_all(needed)
         for at, heading in enumerate(sheet.heading.cells):
@@ -84,9 +91,8 @@ class List:
 
     def places_of(self, column: Column[Any]) -> list[int]:
         """Returns where a column's heading stands."""
-        name = one_line(self.heading(column)).casefold()
-        headings = [one_line(heading).casefold() for heading in self.sheet.heading.cells]
-        return [place for place, heading in enumerate(headings) if heading == name]
+        name = folded(self.heading(column))
+        return [place for place, heading in enumerate(self.sheet.heading.cells) if folded(heading) == name]
 
     def find(self, column: Column[Any]) -> None:
         """Finds a column, unless the mapping says that there is none."""
@@ -151,6 +157,14 @@ class List:
 
     def complain_of_heading(self, column: Column[Any], what: str) -> None:
         self.complaints.note(self.place_of_heading(column), what)
+
+    def warn_of_other_sheets(self) -> None:
+        """Warns of visible sheets in which the list may go on: one of their first rows has most of the headings under
+        which it is read."""
+        headings = {folded(self.sheet.heading.cells[at]) for at in self.places.values()}
+        for path, rows in self.sheet.others.items():
+            like = [row for row in rows if 2 * len(headings.intersection(map(folded, row.cells))) > len(headings)]
+            self.complaints.doubts += [(Place(self.order, row.line, 0, path, "", None), OTHER) for row in like[:1]]
 
     def warn_of_struck_columns(self, known: Columns) -> set[int]:
         """Warns of the columns that are read and whose headings are struck through; returns where they are."""

@@ -5,7 +5,7 @@ import json
 import re
 import warnings
 from collections.abc import Iterable, Iterator
-from dataclasses import dataclass
+from dataclasses import dataclass, field
 from pathlib import Path
 from typing import IO, Any
 from xml.etree import ElementTree
@@ -26,6 +26,7 @@ SHARED = "xl/sharedStrings.xml"  # texts of all sheets
 TYPES, XLSX = "[Content_Types].xml", b"spreadsheetml.sheet.main+xml"  # the part with its kind; .xlsm has another kind
 OLD = b"\xd0\xcf\x11\xe0"  # what .xls begins with, and an .xlsx with a password
 BOOKS = (b"PK\3\4", OLD)  # the first is what .xlsm and .ods begin with
+FIRST = 20  # rows of a sheet beside the list in which its headings are looked for
 UNCOMPUTED = "0"  # the value of a formula that XlsxWriter did not compute
 PARTS = "{http://schemas.openxmlformats.org/spreadsheetml/2006/main}"  # before the tag of each part of a workbook
 ROW, MERGED = f"{PARTS}row", f"{PARTS}mergeCell"
@@ -64,6 +65,16 @@ class Sheet:
     name: str  # of the sheet, so too
     heading: Row
     rows: list[Row]
+    others: dict[str, list[Row]]  # the first rows of other visible sheets, by their places
+
+
+@dataclass(frozen=True)
+class Found:
+    """What is in a file: all rows of a list, the name of their sheet if it is not the only visible one, and the first
+    rows of the others, by name."""
+    rows: list[Row]
+    name: str = ""
+    others: dict[str, list[Row]] = field(default_factory=dict)
 
 
 def text_of(value: object) -> str:
@@ -182,19 +193,23 @@ def spread(rows: list[Row], ranges: Iterable[str]) -> None:
                 cells[left - 1:last] = first * (last - left + 1)
 
 
-def workbook_rows(text: bytes) -> tuple[list[Row], str]:
-    """Returns the rows of a workbook's first visible sheet, of formulas the values that were saved with them, and the
-    sheet's name if more than one is visible. How large the sheet says that it is does not count: programs other than
-    Excel write less than there is."""
+def sheet_rows(sheet: Any, most: int | None = None) -> list[Row]:
+    """Returns the rows of a sheet, or this number of them at most, of formulas the values that were saved with them.
+    How large the sheet says that it is does not count: programs other than Excel write less than there is."""
+    sheet.reset_dimensions()
+    return [Row(line, [text_in(cell) for cell in cells]) for line, cells in enumerate(sheet.iter_rows(max_row=most), 1)]
+
+
+def workbook_rows(text: bytes) -> Found:
+    """Returns the rows of a workbook's first visible sheet, and what there is beside it."""
     reader = ExcelReader(io.BytesIO(text), read_only=True, data_only=True)
     reader.read()
     sheet, *others = (sheet for sheet in reader.wb.worksheets if sheet.sheet_state == "visible")
-    sheet.reset_dimensions()
-    rows = [Row(line, [text_in(cell) for cell in cells]) for line, cells in enumerate(sheet.iter_rows(), 1)]
+    rows, first = sheet_rows(sheet), {other.title: sheet_rows(other, FIRST) for other in others}
     part = next(link.target for found, link in reader.parser.find_sheets() if found.name == sheet.title)
     with reader.archive as parts, parts.open(part) as source:
         spread(rows, put_marks(rows, source, marks_of(parts)))
-    return rows, sheet.title if others else ""
+    return Found(rows, sheet.title if others else "", first)
 
 
 def separator_of(text: str) -> str:
@@ -226,8 +241,8 @@ def is_xlsx(text: bytes) -> bool:
         return False
 
 
-def rows_of(command: str, path: Path) -> tuple[list[Row], str]:
-    """Returns all rows of a file, read by its ending, and the name of a sheet that is not the only one."""
+def rows_of(command: str, path: Path) -> Found:
+    """Returns what is in a file, read by its ending."""
     text = files.get(command, path)
     if path.suffix.lower() == ".xlsx":
         try:
@@ -248,7 +263,7 @@ def rows_of(command: str, path: Path) -> tuple[list[Row], str]:
         line = text.count(b"\n", 0, text.index(b"\0")) + 1
         raise Failure(INPUT, f"{command}: zero bytes, as UTF-16 has them: it has to be UTF-8, {path} line {line}")
     try:
-        return separated_rows(text.decode("utf-8-sig")), ""
+        return Found(separated_rows(text.decode("utf-8-sig")))
     except UnicodeDecodeError as error:
         line = text.count(b"\n", 0, error.start) + 1
         raise Failure(INPUT, f"{command}: not UTF-8, {path} line {line}") from error
@@ -256,11 +271,17 @@ def rows_of(command: str, path: Path) -> tuple[list[Row], str]:
         raise Failure(INPUT, f"{command}: not separated values: {error}, {path}") from error
 
 
+def place_of(path: Path, name: str) -> str:
+    """Returns a file's place, with the name of a sheet if there is one."""
+    return f"{path} sheet {json.dumps(name, ensure_ascii=False)}" if name else str(path)
+
+
 def read(command: str, path: Path) -> Sheet:
     """Reads a file; rows whose cells are all empty are left out."""
-    found, name = rows_of(command, path)
-    rows = [row for row in found if any(row.cells)]
-    place = f"{path} sheet {json.dumps(name, ensure_ascii=False)}" if name else str(path)
+    found = rows_of(command, path)
+    rows = [row for row in found.rows if any(row.cells)]
+    place = place_of(path, found.name)
     if not rows:
         raise Failure(INPUT, f"{command}: no heading, {place}")
-    return Sheet(place, name, rows[0], rows[1:])
+    others = {place_of(path, name): first for name, first in found.others.items()}
+    return Sheet(place, found.name, rows[0], rows[1:], others)
