@@ -19,7 +19,7 @@ use Rattle.afdx_load.specs.Accepted.{IsAccepted}
 use Rattle.afdx_grouping.specs.Groups.{lesser_load}
 use Rattle.afdx_isolation.specs.Table.{bound_of}
 use Rattle.afdx_core.specs.declared.step.Row.{Row as Arrived}
-use Rattle.afdx_core.specs.Merge.{merged}
+use Rattle.afdx_core.specs.Merge.{Arrival, merged}
 use Rattle.afdx_core.specs.State.{Run, State, port_after, sent_in}
 use Rattle.afdx_count.specs.Tally.{Tally}
 use Rattle.afdx_session.specs.Texts.{Text}
@@ -130,20 +130,20 @@ rate_is_within t p accepted among = by (find (leads_to p.id) t.links) refl where
 -- ---- a port
 
 -- what a finished switch sent is what is sent of what it took
-sent_is : (run : SwitchRun) (r : Run) (p : PortRow) → IsOfRun run r → sent_in r (Some p) ≡ sent_by run.table (merged run.outcome.read) p
+pub sent_is : (t : Content) (arrivals : List Arrival) (r : Run) (p : PortRow) → r.table ≡ t → r.rows ≡ rows_of t arrivals → r.finished ≡ true → sent_in r (Some p) ≡ sent_by t arrivals p
 unfolding sent_by
-sent_is run r p is =
-    ap (λ b. sent_of (done (port_after r.table r.rows r.latest b p))) is.all
-    ∙ ap (λ (c : Content). sent_of (done (port_after c r.rows r.latest true p))) is.table
-    ∙ ap (λ (rows : List Arrived). sent_of (done (port_after run.table rows r.latest true p))) is.rows
+sent_is t arrivals r p table rows all =
+    ap (λ b. sent_of (done (port_after r.table r.rows r.latest b p))) all
+    ∙ ap (λ (c : Content). sent_of (done (port_after c r.rows r.latest true p))) table
+    ∙ ap (λ (came : List Arrived). sent_of (done (port_after t came r.latest true p))) rows
 
 -- a port that is found
-record PortAt (t : Content) (number : ℕ) (p : PortRow) : Type 0 where
+pub record PortAt (t : Content) (number : ℕ) (p : PortRow) : Type 0 where
   pub row : port_row t number ≡ Some p
   pub has : Contains t.ports p
   pub number_is : p.id ≡ number
 
-port_of : (t : Content) (number : ℕ) (p : PortRow) → port_row t number ≡ Some p → PortAt t number p
+pub port_of : (t : Content) (number : ℕ) (p : PortRow) → port_row t number ≡ Some p → PortAt t number p
 port_of t number p row =
     let passes = found_passes (λ (q : PortRow). q.id == number) t.ports p row in
     record { row = row; has = passes.1; number_is = eqb-true p.id number passes.0 }
@@ -216,7 +216,7 @@ watched_runs_keep_bounds g lined keeps plain net given came left switches o of_f
       same_sent =
           ap (λ n. sent_from o.sent (end_at e.switch n)) (sym port_there.number_is)
           ∙ sent.each e.switch at.both p at.both_is (ap (λ (t : Content). port_row t p.id) at.is.table ∙ ap (port_row at.run.table) port_there.number_is ∙ port_there.row)
-          ∙ sent_is at.run at.both.1.run p at.is
+          ∙ sent_is at.run.table (merged at.run.outcome.read) at.both.1.run p at.is.table at.is.rows at.is.all
 
       within : All (λ (x : Sent). x.end ≤ x.item.stamp + bound) (of_link r.link.id (sent_by at.run.table (merged at.run.outcome.read) p))
       within =
