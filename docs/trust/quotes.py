@@ -42,6 +42,7 @@ ROOTS = [
     ("afdx_network_check", "outages_change_no_way"),
     ("afdx_network", "run"),
     ("afdx_network", "run_unchecked"),
+    ("afdx_network", "given_has_one_run"),
     ("afdx_network", "ways_deliver"),
     ("afdx_network", "ways_are_there"),
     ("afdx_network", "network_runs_deliver"),
@@ -49,6 +50,8 @@ ROOTS = [
     ("afdx_network", "others_change_nothing_in_networks"),
     ("afdx_network", "lesser_ways_deliver"),
     ("afdx_origins", "none_takes_more_than_its_way"),
+    ("afdx_network", "copies_end_apart"),
+    ("afdx_network", "delays_are_one"),
     ("afdx_network", "watched_runs_keep_bounds"),
     ("afdx_serve", "serve"),
 ]

@@ -99,7 +99,7 @@ abbrev pub Ascend : List ℕ → Type 0
 Ascend [] = Unit {0}
 Ascend (n ∷ ns) = AllByRecursion (λ m. n < m) ns × Ascend ns
 
-kept_rise : (p : ℕ → Bool) (ports : List PortRow) → PortsRise ports → Ascend (filter p (map (λ (q : PortRow). q.id) ports))
+pub kept_rise : (p : ℕ → Bool) (ports : List PortRow) → PortsRise ports → Ascend (filter p (map (λ (q : PortRow). q.id) ports))
 kept_rise p [] rises = tt
 kept_rise p (q ∷ ports) rises = by (p q.id) (kept_rise p ports rises.1) where
   by : (b : Bool) → Ascend (filter p (map (λ (x : PortRow). x.id) ports))

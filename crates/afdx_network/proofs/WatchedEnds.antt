@@ -7,9 +7,6 @@ use Rattle.std.specs.List.{AllByRecursion, AllZip, list_any}
 use Rattle.std.proofs.lemmas.Bool.{cases_lt, eqb-true, false≢true}
 use Rattle.std.proofs.lemmas.List.{length-map}
 use Rattle.std.proofs.lemmas.Option.{same_Some, slice_get-map, slice_get_within, get_or_from_slice_get}
-use Rattle.afdx_units.specs.declared.line.Speed.{Speed}
-use Rattle.afdx_units.specs.declared.line.Speed.TheVariants.{Ten, Hundred, Thousand}
-use Rattle.afdx_units.specs.Line.{cost_of}
 use Rattle.afdx_account.specs.declared.frame.Frame.{Frame}
 use Rattle.afdx_table.specs.declared.rows.PortRow.{PortRow}
 use Rattle.afdx_table.specs.Link.{Link}
@@ -40,6 +37,7 @@ use Rattle.afdx_origins.specs.Laws.{EndApart, OriginIsOne}
 use Rattle.afdx_origins.proofs.Rows.{same_end}
 use Rattle.afdx_network.specs.Watched.{IsEnded, AreEnded, PortsEndApart, WatchedRunsEndApart, WatchedDelaysAreOne}
 use Rattle.afdx_network.specs.Inner.Sites.{end_at}
+use Rattle.afdx_network.proofs.Earlier.{costs}
 use Rattle.afdx_network.proofs.Found.{all_at, of_all}
 use Rattle.afdx_network.proofs.Lengths.{found_row}
 use Rattle.afdx_network.proofs.WatchedBounds.{PortAt, port_of, sent_is}
@@ -69,11 +67,6 @@ ended_at (u ∷ tables) (texts ∷ came) (r ∷ left) (both ∷ switches) are (s
     record { texts = rest.texts; left = rest.left; both = rest.both; both_is = rest.both_is; ended = rest.ended }
 
 -- ---- the copies that a port sends
-
-costs : (speed : Speed) (size : ℕ) → 0 < cost_of speed size
-costs Ten size = omega arith
-costs Hundred size = omega arith
-costs Thousand size = omega arith
 
 past : (cost one other : ℕ) → 0 < cost → one + cost ≤ other → one < other
 past cost one other some le = omega (arith, some, le)
