@@ -1,6 +1,6 @@
 -- What is given for a network has one run.
-use Rattle.std.proofs.Common.{◌≡◌, ◌+◌, ◌<◌, ◌≤◌, ℕ, zero, suc, Bool, true, false, List, [], ◌∷◌, ◌++◌, map, filter, length, get_or, slice_get, Option, Some, None, refl, ap, sym, ◌∙◌, subst, arith, inl, inr}
-use Rattle.std.specs.Prelude.{All, Contains, ◌⊎◌}
+use Rattle.std.proofs.Common.{◌≡◌, ◌<◌, ◌≤◌, ℕ, zero, suc, Bool, true, false, List, [], ◌∷◌, ◌++◌, map, length, get_or, slice_get, Option, Some, None, refl, ap, sym, ◌∙◌, subst, arith, inl, inr}
+use Rattle.std.specs.Prelude.{Contains, ◌⊎◌}
 use Rattle.std.specs.List.{AllByRecursion}
 use Rattle.std.proofs.lemmas.Bool.{le-leb}
 use Rattle.std.proofs.lemmas.Option.{same_Some, slice_get_within}
@@ -27,12 +27,11 @@ use Rattle.afdx_wiring.specs.declared.layout.End.{End}
 use Rattle.afdx_wiring.specs.declared.layout.Wire.{Wire}
 use Rattle.afdx_network_check.specs.Net.{Network, wire_to}
 use Rattle.afdx_network.specs.Way.{delayed}
-use Rattle.afdx_network.specs.Runs.{Given, Brings, IsGiven, AreOutcomes, IsUncheckedRunOf}
+use Rattle.afdx_network.specs.Runs.{Given, Brings, AreOutcomes, IsUncheckedRunOf}
 use Rattle.afdx_network.specs.Given.{is_open, AreGiven}
 use Rattle.afdx_network.specs.Laws.{IsOfFile}
 use Rattle.afdx_network.specs.OneRun.{GivenHasOneRun}
 use Rattle.afdx_network.specs.Inner.Sites.{end_at}
-use Rattle.afdx_network.proofs.AllLeft.{there_at}
 use Rattle.afdx_network.proofs.Earlier.{early, all_early, below_early, same_delayed, same_out}
 use Rattle.afdx_network.proofs.Found.{all_at, of_all, one_port, contains_head, contains_tail}
 use Rattle.afdx_network.proofs.Lists.{all_unmap, all_weaken}

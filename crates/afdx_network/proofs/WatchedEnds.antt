@@ -1,5 +1,5 @@
 -- No port of a network sent two copies that ended at one instant, so the delays of a link at a port are reported in one way.
-use Rattle.std.proofs.Common.{◌≡◌, ◌+◌, ◌-◌, ◌<◌, ◌≤◌, ◌==◌, ◌||◌, ℕ, zero, suc, Bool, true, false, cond, List, [], ◌∷◌, map, filter, find, length, get_or, slice_get, Option, Some, None}
+use Rattle.std.proofs.Common.{◌≡◌, ◌+◌, ◌-◌, ◌<◌, ◌≤◌, ◌==◌, ◌||◌, ℕ, zero, suc, Bool, true, false, cond, List, [], ◌∷◌, map, filter, find, get_or, slice_get, Option, Some, None}
 use Rattle.std.proofs.Common.{is_some, refl, ap, sym, ◌∙◌, subst, arith, inl, inr}
 use Rattle.std.specs.Prelude.{All, Contains, option_and_then}
 use Rattle.std.specs.Option.{option_map}
@@ -9,17 +9,15 @@ use Rattle.std.proofs.lemmas.List.{length-map}
 use Rattle.std.proofs.lemmas.Option.{same_Some, slice_get-map, slice_get_within, get_or_from_slice_get}
 use Rattle.afdx_account.specs.declared.frame.Frame.{Frame}
 use Rattle.afdx_table.specs.declared.rows.PortRow.{PortRow}
-use Rattle.afdx_table.specs.Link.{Link}
 use Rattle.afdx_table.specs.Content.{Content, port_row}
 use Rattle.afdx_table.specs.Ports.{has_port}
 use Rattle.afdx_table.specs.WellFormed.{IsLink, IsWellFormed}
 use Rattle.afdx_table.specs.Inner.Found.{LinksAreFound}
 use Rattle.afdx_filter.specs.Frame.{frame_of}
 use Rattle.afdx_port.specs.declared.Sent.{Sent}
-use Rattle.afdx_measure.specs.declared.delays.Delays.{Delays}
 use Rattle.afdx_measure.specs.Delays.{summary_of}
 use Rattle.afdx_core.specs.Merge.{Arrival, merged}
-use Rattle.afdx_core.specs.State.{State, sent_in}
+use Rattle.afdx_core.specs.State.{State}
 use Rattle.afdx_count.specs.Tally.{Tally}
 use Rattle.afdx_session.specs.Texts.{Text}
 use Rattle.afdx_session.specs.Output.{sent_by, written, output_of}
@@ -40,7 +38,7 @@ use Rattle.afdx_network.specs.Inner.Sites.{end_at}
 use Rattle.afdx_network.proofs.Earlier.{costs}
 use Rattle.afdx_network.proofs.Found.{all_at, of_all}
 use Rattle.afdx_network.proofs.Lengths.{found_row}
-use Rattle.afdx_network.proofs.WatchedBounds.{PortAt, port_of, sent_is}
+use Rattle.afdx_network.proofs.WatchedBounds.{port_of, sent_is}
 
 -- ---- a switch that has ended
 
