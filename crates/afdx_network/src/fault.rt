@@ -8,12 +8,11 @@ use std::alloc::{AllocError, AllocFailed};
 /// Why there is no run of a network. A switch is named by its place in the network file, from 0.
 #[derive(Clone, Copy, Debug, PartialEq, Eq)]
 pub enum NetworkRunFault {
-    /// The reader at this place failed; those before it were read to their ends.
+    /// A reader failed, the one at this place. That it failed, and is the first that did, is tested only.
     Read(usize),
-    /// What comes in at this port of a switch is no capture, and this is its first fault. All that was given was read.
+    /// What comes in at this port of a switch is no capture, and this is its first fault.
     Capture(usize, u8, PcapFault),
     /// What was given for this port of a switch did not come over one line, as the network file says: this record, from 1, came too soon.
-    /// All that was given was read.
     Line(usize, u8, u64),
     /// Two wires go to one port, as no two of a file do.
     WrongWires,

@@ -106,12 +106,12 @@ pub(crate) fn run_through<R: Read, F: NewFile>(
 ///   come one after the other, by stamps that may be rounded down, with the number of the first one that came too soon.
 /// - `WrongWires` if two wires go to one port; a file with such wires is not read.
 /// - `Capture` with `Late` of the first record, in the order in which they are carried, that comes over a wire in the last second that pcap can
-///   hold. That cannot be if the loads are accepted, the wires have an order, each takes at most a millisecond, and no given frame came in the
-///   last 64 seconds that a stamp can hold.
+///   hold. That cannot be if the loads are accepted, the wires have an order, each takes at most a millisecond, and each given frame came at
+///   least 64 seconds before the last second that a stamp can hold.
 ///
-/// So that this is the first, all captures are read on to their ends then; none is read twice. `Memory` if memory ran out, at any time. Nothing
-/// is said then of what the files have, of which some may have parts of an output. A file that fails is no error here: it answers when it is
-/// settled.
+/// So that this is the first, all captures are read on to their ends then; none is read twice. Which reader failed, and which record came late
+/// over which wire, is tested only. `Memory` if memory ran out, at any time. Nothing is said then of what the files have, of which some may have
+/// parts of an output. A file that fails is no error here: it answers when it is settled.
 ///
 /// O(records + starts) visits of switches at most, O(switches + captures) for each window, O(captures) for each record that is given,
 /// O(wires) for each record that leaves and for each wire that begins at its port, and O(bytes) of what the wires bring and of what leaves, beside

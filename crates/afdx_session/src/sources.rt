@@ -33,10 +33,10 @@ pub enum SourceFault {
     /// Out of memory.
     #[error("Memory")]
     Memory,
-    /// The reader at this place failed; those before it were read to their ends.
+    /// A reader failed, the one at this place. That it failed, and is the first that did, is tested only.
     #[error("Read")]
     Read(usize),
-    /// The port's text is no capture, and this is its first fault. All were read, and those of the lower ports are captures.
+    /// The port's text is no capture, and this is its first fault. The texts are what the readers give, and those of the lower ports are captures.
     #[error("Capture")]
     Capture(u8, PcapFault),
 }
@@ -186,10 +186,13 @@ fn read_all<A: Allocator + Copy, R: Read, F: NewFile>(
 ///
 /// # Errors
 ///
-/// `Memory` if memory ran out. Else, if a read fails or a capture has a fault, the other captures are read on to their ends, by rising
-/// port, up to the first that cannot be read, and this is answered: `Read` with the place of the first reader that fails; else
-/// `Capture` with the lowest port whose text is no capture, and its first fault. No capture is read twice. Nothing is said then of what
-/// the files have, of which some may have parts of an output. A file that fails is no error here: it answers when it is settled.
+/// `Memory` if memory ran out; `Read` with the place of a reader, if one failed; `Capture` with the lowest port whose text is no capture,
+/// and its first fault; the texts are then all that the readers give, if that is known.
+///
+/// If a read fails or a capture has a fault, the others are read on to their ends, by rising port, up to the first that cannot be read,
+/// and none is read twice. So the reader of `Read` is the first that failed, which is tested only: no contract says why a reader fails.
+/// After an error nothing is said of what the files have, of which some may have parts of an output. A file that fails is no error here:
+/// it answers when it is settled.
 ///
 /// A frame's bytes are copied when they come, and when it goes out, once for each port that sends it. O(links + ports), O(1)
 /// for each record, O(ports) for each read, and O(bytes), beside the switch's own work.
