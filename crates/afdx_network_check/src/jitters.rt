@@ -151,9 +151,9 @@ impl Network {
 
     /// Finds the least jitters that are enough, with the sources' own. All rows begin with the jitter of their source, and each
     /// turn gives them what they need then, until each row has what it needs or one needs more than a table can have; in the
-    /// latter case no jitters are enough. It is asked of a network that fits, whose links ask for no more than their lines. Of
-    /// another one nothing is said of least jitters, and a row needs a thousand seconds if no way with bounds of at most a
-    /// thousand seconds leads to it. `Memory` is the one refusal.
+    /// latter case no jitters of whole µs that tables can have are enough. It is asked of a network that fits, whose links ask
+    /// for no more than their lines. Of another one nothing is said of least jitters, and a row needs a thousand seconds if no
+    /// way with bounds of at most a thousand seconds leads to it. `Memory` is the one refusal.
     ///
     /// O(r s w) for each turn, for r rows, at most s switches on a way, and w wires, beside the bounds of each switch's ports,
     /// as [`lesser_bounds`](afdx_grouping::lesser_bounds) finds them in each turn.

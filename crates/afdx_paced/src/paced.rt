@@ -185,8 +185,8 @@ impl<'a, A: Allocator + Copy> Paced<'a, A> {
         }
     }
 
-    /// Returns an instant before which nothing happens at the switch, unless something comes in: the first record that waits lies there, or the
-    /// first start that was not carried out lies one latency later. None if nothing is left. O(ports).
+    /// Returns an instant, not before the one that the switch has come to, up to which nothing more leaves unless something comes in. None only
+    /// if nothing is left to leave. O(ports).
     pub fn next(&self) -> Option<Stamp>
         requires going { self.now.failed ≡ false }
         ensures { IsNext self.now result }

@@ -241,10 +241,10 @@ fn put_rows<F: Folder>(
 /// form.
 ///
 /// The table is got first. The options have to fit it: its latency is no less than the least, it has the ports that were recorded by name,
-/// and what is added to stamps is added at ports that were recorded. Then its load is checked, as for a switch whose latency varies from
-/// the least to the table's. Then the captures of what came are opened, and those of what left, each by rising port; each is read once,
-/// in pieces. If one cannot be read or has a fault, the others are read on to their ends, so that the failure is the first in this order.
-/// The report's text is made before the put.
+/// what is added to stamps is added at ports that were recorded, and the span, if both its ends are given, does not end before it begins.
+/// Then its load is checked, as for a switch whose latency varies from the least to the table's. Then the captures of what came are opened,
+/// and those of what left, each by rising port; each is read once, in pieces. If one cannot be read or has a fault, the others are read on
+/// to their ends, so that the failure is the first in this order. The report's text is made before the put.
 ///
 /// # Errors
 ///

@@ -130,8 +130,9 @@ fn network_text(alloc: Global, form: Form, network: Network) -> Result<String, F
 ///
 /// # Errors
 ///
-/// What is met first: `Get`; `Network`, in the order of the network file, its tables, the ports of its wires, the loads by
-/// switch, what the tables agree on, all rows whose jitter is not enough; `Write`; `Memory` if memory ran out.
+/// What is met first: `Get`; `Network`, in the order of the network file, its tables, the ports of its wires, the least
+/// latencies by switch, the loads by switch, what the tables agree on, all rows whose jitter is not enough; `Write`; `Memory`
+/// if memory ran out.
 ///
 /// O(files), beside the checks.
 pub(crate) fn network_check<O: Write, F: Folder>(
