@@ -213,26 +213,29 @@ Remedy: fewer links, smaller frames, longer gaps, a faster line
 Remedy: `afdx size` prints the bytes that the table alone needs; a larger
 buffer, less jitter; here the bytes are `need` divided by `2,048,000,000 * 80`
 at 100 Mbit/s, by `* 800` at 10 Mbit/s, by `* 8` at 1000 Mbit/s, rounded up; in
-`compare`, `--least-latency` is 0 unless it is given, so the load is checked
-with the whole latency as scatter: give the switch's least latency
+`compare` and in networks the load is checked with the whole latency as scatter,
+unless the switch's least latency is given: `--least-latency`, or
+`least_latency_us` in the network file, if the switch's document has it
 ",
     ),
     (
         "L3",
         "L3 HighDelay: a frame of high priority may leave later than `max_delay_us`
 (`need` and `limit` are in ns)
-Remedy: a larger max_delay_us, smaller low frames; in `compare`,
-`--least-latency` is 0 unless it is given, so the load is checked with the whole
-latency as scatter: give the switch's least latency
+Remedy: a larger max_delay_us, smaller low frames; in `compare` and in networks
+the load is checked with the whole latency as scatter, unless the switch's least
+latency is given: `--least-latency`, or `least_latency_us` in the network file,
+if the switch's document has it
 ",
     ),
     (
         "L4",
         "L4 LowDelay: a frame of low priority may leave later than `max_delay_us` (`need`
 and `limit` are in ns)
-Remedy: a larger max_delay_us, fewer high links; in `compare`, `--least-latency`
-is 0 unless it is given, so the load is checked with the whole latency as
-scatter: give the switch's least latency
+Remedy: a larger max_delay_us, fewer high links; in `compare` and in networks
+the load is checked with the whole latency as scatter, unless the switch's least
+latency is given: `--least-latency`, or `least_latency_us` in the network file,
+if the switch's document has it
 ",
     ),
     (
