@@ -159,8 +159,10 @@ Remedy: `editcap -F nsecpcap`, if Wireshark reads it
     (
         "P5",
         "P5 LinkType: not Ethernet; 113 is what `tcpdump -i any` records, 276 what a
-newer one does
-Remedy: record at the interface itself
+newer one does; a number above 65,535, as 1140850689, may say beside the type
+that the frames have check sequences
+Remedy: record at the interface itself; above 65,535 `afdx-import`, which takes
+such a capture of Ethernet and takes the check sequences off
 ",
     ),
     (
