@@ -128,6 +128,11 @@ impl<A: Allocator + Copy> MemoryFolder<A> {
         self.log.last()
     }
 
+    /// Returns the name of what it had opened and could not be read at last, if there was such a file.
+    pub fn last_unread(&self) -> Option<&str> {
+        self.log.last_unread()
+    }
+
     /// Returns the bytes that are under a name, if there is such a file.
     pub fn bytes(&self, name: &str) -> Option<&[u8]> {
         match find_file(&self.files, name) {
@@ -197,7 +202,7 @@ impl<B: Allocator + Copy> Folder for MemoryFolder<B> {
     }
 
     fn note_unread(&mut self, name: &str) -> FolderFault {
-        self.log.note(name)
+        self.log.note_unread(name)
     }
 
     /// Begins a new file with room for the header of a capture.

@@ -60,20 +60,26 @@ PutsFiles (Some f) (Some g) names all = (q : List ℕ) → g q ≡ with_files f 
 
 -- ---- failures, and new files that the device has
 
--- how often a folder failed, and how many new files its device has taken, as far as counts of 64 bits go; and the name that the
--- last failure was for
+-- how often a folder failed, how often what it had opened could not be read, and how many new files its device has taken, as far as
+-- counts of 64 bits go; and the names that the last failure was for, and the last that could not be read
 pub record DeviceLog : Type 0 where
   pub count : ℕ
   pub last : Option (List ℕ)
+  pub unread : ℕ
+  pub last_unread : Option (List ℕ)
   pub settled : ℕ
 
 -- one more failure, for this name
 abbrev pub one_more : List ℕ → DeviceLog → DeviceLog
-one_more name before = record { count = min (before.count + 1) (2 ^ 64 - 1); last = Some name; settled = before.settled }
+one_more name before = record before { count = min (before.count + 1) (2 ^ 64 - 1); last = Some name }
+
+-- once more what was opened, under this name, could not be read
+abbrev pub one_unread : List ℕ → DeviceLog → DeviceLog
+one_unread name before = record before { unread = min (before.unread + 1) (2 ^ 64 - 1); last_unread = Some name }
 
 -- one more new file that the device has taken
 abbrev pub one_settled : DeviceLog → DeviceLog
-one_settled before = record { count = before.count; last = before.last; settled = min (before.settled + 1) (2 ^ 64 - 1) }
+one_settled before = record before { settled = min (before.settled + 1) (2 ^ 64 - 1) }
 
 -- so many more new files that the device has taken
 abbrev pub settled_after : ℕ → DeviceLog → DeviceLog
@@ -83,6 +89,10 @@ settled_after (suc n) before = one_settled (settled_after n before)
 -- a fault of the device is counted and its name is kept, and nothing else is
 abbrev pub IsCause : FolderFault → List ℕ → DeviceLog → DeviceLog → Type 0
 IsCause fault name before now = ((fault ≡ Memory) × (now ≡ before)) ⊎ ((fault ≡ Device) × (now ≡ one_more name before))
+
+-- that what was opened could not be read is counted and its name is kept, and nothing else is; or memory ran out, and nothing is
+abbrev pub IsUnreadCause : FolderFault → List ℕ → DeviceLog → DeviceLog → Type 0
+IsUnreadCause fault name before now = ((fault ≡ Memory) × (now ≡ before)) ⊎ ((fault ≡ Device) × (now ≡ one_unread name before))
 
 -- what a call changes in the log of the device: nothing if it is well, else as its fault says
 abbrev pub HasCause : {T : Type 0} → List ℕ → DeviceLog → DeviceLog → Result T FolderFault → Type 0

@@ -33,7 +33,7 @@ pub struct Disk<'a, R: Files, A: Allocator> {
 impl<'a, R: Files, A: Allocator + Copy> Disk<'a, R, A> {
     /// Makes the folder of this system's files, which has got none and has not failed so far. O(1).
     pub fn new(alloc: A, rt: &'a R) -> Disk<'a, R, A>
-        ensures { result.log ≡ record { count = 0; last = None; settled = 0 } }
+        ensures { result.log ≡ record { count = 0; last = None; unread = 0; last_unread = None; settled = 0 } }
     {
         Disk {
             rt,
@@ -150,7 +150,7 @@ impl<R: Files<File = File>, A: Allocator + Copy> Folder for Disk<'_, R, A> {
     }
 
     fn note_unread(&mut self, name: &str) -> FolderFault {
-        self.log.note(name)
+        self.log.note_unread(name)
     }
 
     fn begin(&mut self, name: &str) -> Result<WholeFile<A>, AllocError> {

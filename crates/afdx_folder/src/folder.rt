@@ -2,7 +2,7 @@
 
 ghost use Rattle.std.specs.Prelude.{◌≡◌, [], Option, Some, None, IfOk, IfSome, OnOk};
 ghost use Rattle.std.specs.Io.KnownBytes.{Appends};
-ghost use Rattle.afdx_folder.specs.Files.{Files, DeviceLog, Shows, IsOpened, KeepsFiles, PutsFile, KeepsOthers, IsCause, HasCause, HasSettled};
+ghost use Rattle.afdx_folder.specs.Files.{Files, DeviceLog, Shows, IsOpened, KeepsFiles, PutsFile, KeepsOthers, IsUnreadCause, HasCause, HasSettled};
 
 use crate::input::InputFault;
 use crate::new_file::NewFile;
@@ -54,8 +54,8 @@ impl From<InputFault> for FolderFault {
     }
 }
 
-/// A folder, by the bytes that are under each name. It counts its failures and the new files that its device has taken, and keeps
-/// the name of the last failure.
+/// A folder, by the bytes that are under each name. It counts its failures, what it had opened and could not be read, and the new files
+/// that its device has taken, and keeps the names of the last failure and of the last that could not be read.
 pub trait Folder {
     /// A file that is written in parts, before it is put.
     type New: NewFile + Drop;
@@ -65,8 +65,8 @@ pub trait Folder {
 
     /// The files, if it shows them.
     ghost files: { Self → Option Files } = { λ _. None };
-    /// How often it has failed and how many new files it has settled, as far as 64 bits go; and the name that the last call that
-    /// failed was for.
+    /// How often it has failed, how often what it had opened could not be read, and how many new files it has settled, as far as 64 bits
+    /// go; and the names that the last call that failed was for, and the last that could not be read.
     ghost failed: { Self → DeviceLog };
 
     /// Gets the bytes that are under a name.
@@ -93,10 +93,11 @@ pub trait Folder {
         ensures same { KeepsFiles (files self.old) (files self.new) }
         ensures cause { HasCause name.now (failed self.old) (failed self.new) result };
 
-    /// Counts that what was opened under a name could not be read, and returns it as a fault. O(name).
+    /// Counts that what was opened under a name could not be read, beside the failures, which this leaves, and returns it as a fault.
+    /// `Memory` if memory ran out: then nothing is counted. O(name).
     fn note_unread(&mut self, name: &str) -> FolderFault
         ensures same { KeepsFiles (files self.old) (files self.new) }
-        ensures cause { IsCause result name.now (failed self.old) (failed self.new) };
+        ensures cause { IsUnreadCause result name.now (failed self.old) (failed self.new) };
 
     /// Begins a new file of no bytes, to be put under a name. Nothing else changes, and a failure of the device is answered when the
     /// file is settled or put. An error says that memory ran out.
@@ -149,7 +150,7 @@ pub trait Folder {
         ensures same { KeepsFiles (files self.old) (files self.new) }
         ensures failed { failed self.new ≡ failed self.old };
 
-    /// Returns the count of failures, which stays at its greatest value once it is there. O(1).
+    /// Returns the count of failures, without what could not be read, which stays at its greatest value once it is there. O(1).
     fn failures(&self) -> u64
         ensures { result ≡ (failed self.now).count };
 }
