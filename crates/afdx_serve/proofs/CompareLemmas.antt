@@ -18,7 +18,7 @@ use Rattle.afdx_recordings.specs.Recordings.{is_recorded}
 use Rattle.afdx_compare.specs.Comparison.{Comparison}
 use Rattle.afdx_compare.specs.Sources.{sources_of, output_clock, output_clocks, input_clock}
 use Rattle.afdx_compare.specs.Found.{IsFound, IsFirstAt}
-use Rattle.afdx_folder.specs.Files.{Files, ShowsAll, IsOpened, KeepsFiles, PutsFiles, DeviceLog, one_more, settled_after}
+use Rattle.afdx_folder.specs.Files.{Files, ShowsAll, IsOpened, KeepsFiles, PutsFiles, DeviceLog, settled_after}
 use Rattle.afdx_folder.specs.Input.{AreGiven}
 use Rattle.afdx_arguments.specs.declared.request.Compare.{Compare}
 use Rattle.afdx_messages.specs.declared.argument.ArgumentFault.{ArgumentFault}
@@ -26,18 +26,18 @@ use Rattle.afdx_messages.specs.declared.argument.ArgumentFault.TheVariants.{Span
 use Rattle.afdx_compare.specs.declared.findings.Findings.{Findings}
 use Rattle.afdx_messages.specs.declared.failure.Failure.{Failure}
 use Rattle.afdx_messages.specs.declared.failure.Failure.TheVariants as failure
-use Rattle.afdx_serve.specs.Runs.{capture_name, HasTable, GetsNamed, FailsToGet, FailsToRead, FailsToPut}
+use Rattle.afdx_serve.specs.Runs.{capture_name, HasTable, GetsNamed, WasNotRead, FailsToRead, FailsToPut}
 use Rattle.afdx_serve.specs.Fits.{first_argument_fault}
 use Rattle.afdx_serve.specs.Compares.{scatter_of, HasFittingTable, HasVaryingTable, HasFaultyTable, HasUnfitTable, output_names, recording_names, IsFoundUnder, is_over, IsFoundIn}
 use Rattle.afdx_serve.specs.Compares.{rows_names, rows_texts, PutsRows, FailsToGetFitting, FailsToGetVarying, IsOver, IsFaultyUnder, FailsUnder, FailsToFind, StopsRows, EndsRows}
 use Rattle.afdx_serve.specs.Inner.Leading.{AreOpened}
-use Rattle.afdx_serve.specs.Inner.NotGot.{FailsToGetNamed}
+use Rattle.afdx_serve.specs.Inner.NotGot.{FailsToReadOn, FailsToGetNamed, FailsToReadNamed}
 use Rattle.afdx_csv.specs.declared.form.Form.{Form}
 use Rattle.afdx_serve.specs.Serving.{world, FailsToCompareAll}
 use Rattle.afdx_serve.proofs.CaptureLemmas.{StopsAt-before, EndsAt-before}
 use Rattle.afdx_serve.proofs.FileLemmas.{KeepsFiles-trans, PutsFiles-before, ShowsAll-before}
 use Rattle.afdx_serve.proofs.FitLemmas.{options_fit}
-use Rattle.afdx_serve.proofs.GivenLemmas.{GetsNamed-before, not_got_named}
+use Rattle.afdx_serve.proofs.GivenLemmas.{GetsNamed-before, not_read_named, not_opened_named}
 use Rattle.afdx_serve.proofs.LeadLemmas.{opened_shown}
 
 -- ---- names, and readers
@@ -182,21 +182,26 @@ answered_in_span first names t r keeping files before after (Err f) of_these fou
 
 -- ---- why nothing is found out
 
--- names were not all got
+-- names were not all opened and read
+not_read : (f : Failure) (names : List (List ℕ)) (t : Content) (r : Recordings) (files : Option Files) (before after : DeviceLog) → FailsToReadNamed f files names before after
+    → FailsUnder f names t r files before after
+not_read (failure.Get s) names t r files before after h = h
+not_read failure.Memory names t r files before after h = tt
+not_read f names t r files before after h = absurd h
+
+-- they were not all opened
 pub not_opened : (f : Failure) (names : List (List ℕ)) (t : Content) (r : Recordings) (files : Option Files) (before after : DeviceLog) → FailsToGetNamed f files names before after
     → FailsUnder f names t r files before after
-not_opened (failure.Get s) names t r files before after h = h
-not_opened failure.Memory names t r files before after h = tt
-not_opened f names t r files before after h = absurd h
+not_opened f names t r files before after h = not_read f names t r files before after (not_opened_named f files names before after h)
 
 -- the name at a place was opened, and could not be read
 pub unread_under : (f : Failure) (names : List (List ℕ)) (t : Content) (r : Recordings) (files : Option Files) (name : List ℕ) (before after : DeviceLog) → GetsNamed name files names
-    → FailsToGet f name before after → FailsUnder f names t r files before after
-unread_under f names t r files name before after at fails = not_opened f names t r files before after (not_got_named f files name names before before after refl fails at)
+    → FailsToReadOn f name before after → FailsUnder f names t r files before after
+unread_under f names t r files name before after at fails = not_read f names t r files before after (not_read_named f files name names before before after refl fails at)
 
 -- that at a place of opened names
 pub unread_at : {X : Type 0} (str : X → List ℕ) {R : Type 0} (remaining : R → Option (List ℕ)) (f : Failure) (files : Option Files) (names : List X) (t : Content) (r : Recordings) (place : ℕ) (d : X)
-    (readers : List R) (before after : DeviceLog) → AreOpened remaining files (map str names) readers → place < length readers → FailsToGet f (str (get_or names place d)) before after
+    (readers : List R) (before after : DeviceLog) → AreOpened remaining files (map str names) readers → place < length readers → FailsToReadOn f (str (get_or names place d)) before after
     → FailsUnder f (map str names) t r files before after
 unread_at str remaining f files names t r place d readers before after opened within fails =
     let got = opened_shown remaining files (map str names) readers place opened in
@@ -225,7 +230,7 @@ under_before : (f : Failure) (names : List (List ℕ)) (t : Content) (r : Record
 under_before (failure.PortCapture p e) names t r a b first before after keeps same h = (faulty_before a b names t r false p e keeps h.0, h.1 ∙ same)
 under_before (failure.OutputCapture p e) names t r a b first before after keeps same h = (faulty_before a b names t r true p e keeps h.0, h.1 ∙ same)
 under_before (failure.Argument e) names t r a b first before after keeps same h = (over_before e a b names t r keeps h.0, h.1 ∙ same)
-under_before (failure.Get s) names t r a b first before after keeps same h = (GetsNamed-before (string_bytes s) a b names keeps h.0, h.1 ∙ ap (one_more (string_bytes s)) same)
+under_before (failure.Get s) names t r a b first before after keeps same h = (GetsNamed-before (string_bytes s) a b names keeps h.0, subst (λ (log : DeviceLog). WasNotRead (string_bytes s) log after) same h.1)
 under_before failure.Memory names t r a b first before after keeps same h = tt
 under_before f names t r a b first before after keeps same h = absurd h
 

@@ -1,6 +1,6 @@
 -- The captures of the ports to which no wire goes, by switch: their names, what readers of them give, and why it is not got.
 use Rattle.std.proofs.Common.{◌≡◌, ℕ, zero, suc, ◌+◌, ◌<◌, Bool, true, false, if◌then◌else◌, List, [], ◌∷◌, ◌++◌, map, filter, length, slice_get, Option, Some, None, string_bytes}
-use Rattle.std.proofs.Common.{refl, sym, ap, subst, ◌∙◌, arith}
+use Rattle.std.proofs.Common.{refl, sym, ap, subst, ◌∙◌, inl, inr, arith}
 use Rattle.std.specs.Prelude.{flat_map}
 use Rattle.std.specs.List.{AllByRecursion, AllZip, enumerate_from}
 use Rattle.std.proofs.lemmas.List.{map-append, length-map}
@@ -21,12 +21,12 @@ use Rattle.afdx_network.specs.declared.outage.Incoming.{Incoming}
 use Rattle.afdx_network_report.specs.Lines.{Names, name_of}
 use Rattle.afdx_messages.specs.declared.failure.Failure.{Failure}
 use Rattle.afdx_messages.specs.declared.failure.Failure.TheVariants as failure
-use Rattle.afdx_folder.specs.Files.{Files, Shows, ShowsAll, IsOpened, KeepsFiles, DeviceLog, one_more}
+use Rattle.afdx_folder.specs.Files.{Files, Shows, ShowsAll, IsOpened, KeepsFiles, DeviceLog, one_more, one_unread}
 use Rattle.afdx_folder.specs.Input.{AreGiven as AreAll}
-use Rattle.afdx_serve.specs.Runs.{capture_name, names_in, bytes_of_captures, FailsToGet, GetsNamed}
+use Rattle.afdx_serve.specs.Runs.{capture_name, names_in, bytes_of_captures, FailsToGet, GetsNamed, WasNotRead}
 use Rattle.afdx_serve.specs.Networks.{names_of}
 use Rattle.afdx_serve.specs.NetworkRuns.{switch_folder, names_at, bytes_at, captures_of, HasGiven, open_names, FailsToGetGiven}
-use Rattle.afdx_serve.specs.Inner.NotGot.{FailsToGetNamed}
+use Rattle.afdx_serve.specs.Inner.NotGot.{FailsToReadOn, FailsToGetNamed, FailsToReadNamed}
 use Rattle.afdx_serve.specs.Inner.NetworkRunning.{end_names, AreOpenedEnds}
 use Rattle.afdx_serve.proofs.FileLemmas.{ShowsAll-nil, ShowsAll-before}
 use Rattle.afdx_serve.proofs.RunLemmas.{same_names}
@@ -40,17 +40,38 @@ not_got_named (failure.Get s) files name names first before after same fails upt
 not_got_named failure.Memory files name names first before after same fails upto = tt
 not_got_named f files name names first before after same fails upto = absurd fails
 
+-- one that was opened, and could not be read
+pub not_read_named : (f : Failure) (files : Option Files) (name : List ℕ) (names : List (List ℕ)) (first before after : DeviceLog) → before ≡ first → FailsToReadOn f name before after
+    → GetsNamed name files names → FailsToReadNamed f files names first after
+not_read_named (failure.Get s) files name names first before after same fails upto =
+    subst (λ (n : List ℕ). GetsNamed n files names × WasNotRead n first after) (sym fails.0) (upto, inr (fails.1 ∙ ap (one_unread name) same))
+not_read_named failure.Memory files name names first before after same fails upto = tt
+not_read_named f files name names first before after same fails upto = absurd fails
+
+-- one that was not opened is not read
+pub not_opened_named : (f : Failure) (files : Option Files) (names : List (List ℕ)) (before after : DeviceLog) → FailsToGetNamed f files names before after
+    → FailsToReadNamed f files names before after
+not_opened_named (failure.Get s) files names before after fails = (fails.0, inl fails.1)
+not_opened_named failure.Memory files names before after fails = tt
+not_opened_named f files names before after fails = absurd fails
+
 pub GetsNamed-before : (name : List ℕ) (a b : Option Files) (names : List (List ℕ)) → KeepsFiles a b → GetsNamed name b names → GetsNamed name a names
 GetsNamed-before name a b names keeps s = record { place = s.place; got = s.got; is_there = s.is_there; earlier = ShowsAll-before a b _ _ keeps s.earlier }
 
 -- one of the captures of the ports to which no wire goes
-pub not_got_given : (f : Failure) (files : Option Files) (path : List ℕ) (net : Network) (names : List (List ℕ)) (before after : DeviceLog)
-    → names ≡ open_names path (names_of net.layout.switches) net 0 net.tables → FailsToGetNamed f files names before after → FailsToGetGiven f files path net before after
-not_got_given (failure.Get s) files path net names before after named fails =
+pub not_read_given : (f : Failure) (files : Option Files) (path : List ℕ) (net : Network) (names : List (List ℕ)) (before after : DeviceLog)
+    → names ≡ open_names path (names_of net.layout.switches) net 0 net.tables → FailsToReadNamed f files names before after → FailsToGetGiven f files path net before after
+not_read_given (failure.Get s) files path net names before after named fails =
     let at = subst (λ (ns : List (List ℕ)). GetsNamed (string_bytes s) files ns) named fails.0 in
     (record { place = at.place; got = at.got; is_there = at.is_there; earlier = at.earlier }, fails.1)
-not_got_given failure.Memory files path net names before after named fails = tt
-not_got_given f files path net names before after named fails = absurd fails
+not_read_given failure.Memory files path net names before after named fails = tt
+not_read_given f files path net names before after named fails = absurd fails
+
+-- one that was not opened
+pub not_got_given : (f : Failure) (files : Option Files) (path : List ℕ) (net : Network) (names : List (List ℕ)) (before after : DeviceLog)
+    → names ≡ open_names path (names_of net.layout.switches) net 0 net.tables → FailsToGetNamed f files names before after → FailsToGetGiven f files path net before after
+not_got_given f files path net names before after named fails =
+    not_read_given f files path net names before after named (not_opened_named f files names before after fails)
 
 -- ---- names of captures, by switch
 

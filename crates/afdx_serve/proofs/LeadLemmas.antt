@@ -22,12 +22,12 @@ use Rattle.afdx_messages.specs.declared.failure.Failure.{Failure}
 use Rattle.afdx_messages.specs.declared.failure.Failure.TheVariants as failure
 use Rattle.afdx_folder.specs.Files.{Files, DeviceLog, Shows, ShowsAll, IsOpened, KeepsFiles}
 use Rattle.afdx_folder.specs.Input.{AreGiven}
-use Rattle.afdx_serve.specs.Runs.{capture_name, names_in, port_names, bytes_of_captures, inputs_of, HasPlan, HasCaptures, FailsToGet, FailsToGetAll, FailsToGather, GetsNamed}
+use Rattle.afdx_serve.specs.Runs.{capture_name, names_in, port_names, bytes_of_captures, inputs_of, HasPlan, HasCaptures, FailsToGetAll, FailsToGather, GetsNamed, GetsUpTo}
 use Rattle.afdx_serve.specs.Inner.Outputs.{AreEmpty, HaveBytes}
 use Rattle.afdx_serve.specs.Inner.Leading.{IsPlanOf, AreOpened, AreOpenedPorts, IsInFiles, FailsToLeadFrom, IsLed}
-use Rattle.afdx_serve.specs.Inner.NotGot.{FailsToGetNamed}
+use Rattle.afdx_serve.specs.Inner.NotGot.{FailsToReadOn, FailsToGetNamed, FailsToOpenAll, FailsToReadNamed}
 use Rattle.afdx_serve.proofs.FileLemmas.{KeepsFiles-refl, KeepsFiles-trans, ShowsAll-before, IsOpened-before}
-use Rattle.afdx_serve.proofs.GivenLemmas.{not_got_named}
+use Rattle.afdx_serve.proofs.GivenLemmas.{not_read_named}
 use Rattle.afdx_serve.proofs.PutLemmas.{have_bytes, written_back}
 use Rattle.afdx_serve.proofs.RunLemmas.{leads_to, same_names, not_gathered, not_led}
 
@@ -201,19 +201,37 @@ next_unopened str remaining files names i d name readers lt opened is =
       earlier = subst (λ ns. ShowsAll files ns got.0) same got.1;
     }
 
--- one of the names of a table's captures was not got
+-- one of the names of a table's captures
+upto : (name : List ℕ) (files : Option Files) (path : List ℕ) (t : Content) (names : List (List ℕ)) → names ≡ port_names path t → GetsNamed name files names → GetsUpTo name files path t
+upto name files path t names named gets =
+    let at = subst (λ ns. GetsNamed name files ns) named gets in
+    record { place = at.place; got = at.got; is_there = at.is_there; earlier = at.earlier }
+
+-- it was not read
+not_read : (f : Failure) (files : Option Files) (path : List ℕ) (t : Content) (names : List (List ℕ)) (before after : DeviceLog) → names ≡ port_names path t
+    → FailsToReadNamed f files names before after → FailsToGetAll f files path t before after
+not_read (failure.Get s) files path t names before after named fails = (upto (string_bytes s) files path t names named fails.0, fails.1)
+not_read failure.Memory files path t names before after named fails = tt
+not_read f files path t names before after named fails = absurd fails
+
+-- it was not opened
 pub named_capture : (f : Failure) (files : Option Files) (path : List ℕ) (t : Content) (names : List (List ℕ)) (before after : DeviceLog) → names ≡ port_names path t
-    → FailsToGetNamed f files names before after → FailsToGetAll f files path t before after
-named_capture (failure.Get s) files path t names before after named fails =
-    let at = subst (λ ns. GetsNamed (string_bytes s) files ns) named fails.0 in
-    (record { place = at.place; got = at.got; is_there = at.is_there; earlier = at.earlier }, fails.1)
+    → FailsToGetNamed f files names before after → FailsToOpenAll f files path t before after
+named_capture (failure.Get s) files path t names before after named fails = (upto (string_bytes s) files path t names named fails.0, fails.1)
 named_capture failure.Memory files path t names before after named fails = tt
 named_capture f files path t names before after named fails = absurd fails
+
+-- so not all were got
+pub not_all_opened : (f : Failure) (files : Option Files) (path : List ℕ) (t : Content) (before after : DeviceLog) → FailsToOpenAll f files path t before after
+    → FailsToGetAll f files path t before after
+not_all_opened (failure.Get s) files path t before after fails = (fails.0, inl fails.1)
+not_all_opened failure.Memory files path t before after fails = tt
+not_all_opened f files path t before after fails = absurd fails
 
 -- that at a place was opened, and could not be read
 pub unread_capture : {X : Type 0} (str : X → List ℕ) {R : Type 0} (remaining : R → Option (List ℕ)) (f : Failure) (files : Option Files) (path : List ℕ) (t : Content) (names : List X)
     (place : ℕ) (d : X) (readers : List R) (first before after : DeviceLog) → map str names ≡ port_names path t → AreOpened remaining files (map str names) readers → place < length names
-    → before ≡ first → FailsToGet f (str (get_or names place d)) before after → FailsToGetAll f files path t first after
+    → before ≡ first → FailsToReadOn f (str (get_or names place d)) before after → FailsToGetAll f files path t first after
 unread_capture str remaining f files path t names place d readers first before after named opened lt same fails =
     let got = opened_shown remaining files (map str names) readers place opened in
     let at : GetsNamed (str (get_or names place d)) files (map str names) = record {
@@ -222,7 +240,7 @@ unread_capture str remaining f files path t names place d readers first before a
       is_there = slice_get-map str names place ∙ ap (option_map str) (slice_get-get_or names place d lt);
       earlier = got.1;
     } in
-    named_capture f files path t (map str names) first after named (not_got_named f files (str (get_or names place d)) (map str names) first before after same fails at)
+    not_read f files path t (map str names) first after named (not_read_named f files (str (get_or names place d)) (map str names) first before after same fails at)
 
 -- what was read of opened captures has a fault
 pub capture_fault : {R : Type 0} (remaining : R → Option (List ℕ)) (files : Option Files) (path : List ℕ) (t : Content) (names : List (List ℕ)) (readers : List R) (port : ℕ) (why : PcapFault)

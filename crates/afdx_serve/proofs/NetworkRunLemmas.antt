@@ -34,7 +34,7 @@ use Rattle.afdx_messages.specs.declared.network_failure.NetworkFailure.TheVarian
 use Rattle.afdx_messages.specs.declared.failure.Failure.{Failure}
 use Rattle.afdx_messages.specs.declared.failure.Failure.TheVariants as failure
 use Rattle.afdx_folder.specs.Files.{Files, KeepsFiles, PutsFiles, DeviceLog, settled_after}
-use Rattle.afdx_serve.specs.Runs.{capture_name, names_in, bytes_of_captures, StopsAt, EndsAt, FailsToPut, FailsToGet, GetsNamed}
+use Rattle.afdx_serve.specs.Runs.{capture_name, names_in, bytes_of_captures, StopsAt, EndsAt, FailsToPut, GetsNamed}
 use Rattle.afdx_serve.specs.Networks.{names_of, verdict_of, HasNetwork}
 use Rattle.afdx_serve.proofs.NetworkLemmas.{judged_write, judged_put}
 use Rattle.afdx_serve.specs.NetworkRuns.{switch_folder, names_at, bytes_at, captures_of, of_switches, open_names, HasGiven}
@@ -43,9 +43,10 @@ use Rattle.afdx_csv.specs.declared.form.Form.{Form}
 use Rattle.afdx_serve.specs.Serving.{world, PutsNetwork, FailsToRunNetwork}
 use Rattle.afdx_serve.specs.declared.network_plan.NetworkPlan.{NetworkPlan}
 use Rattle.afdx_serve.specs.declared.network_plan.NetworkPlan.TheVariants.{Unchecked, Accepted}
+use Rattle.afdx_serve.specs.Inner.NotGot.{FailsToReadOn}
 use Rattle.afdx_serve.specs.Inner.NetworkRunning.{network_in, is_accepted, end_names, AreOpenedEnds, HasRun, LeadsFrom, IsGivenFailure}
 use Rattle.afdx_serve.proofs.CaptureLemmas.{StopsAt-before, EndsAt-before}
-use Rattle.afdx_serve.proofs.GivenLemmas.{open_named, left_named, gave, not_got_named, not_got_given}
+use Rattle.afdx_serve.proofs.GivenLemmas.{open_named, left_named, gave, not_read_named, not_read_given}
 use Rattle.afdx_serve.proofs.LeadLemmas.{opened_shown}
 use Rattle.afdx_serve.proofs.PutLemmas.{have_bytes, written_back}
 use Rattle.afdx_serve.specs.Inner.Outputs.{AreEmpty, HaveBytes}
@@ -242,10 +243,10 @@ as_many_incoming remaining files path net names all opened =
 pub unread_given : {X : Type 0} (str : X → List ℕ) {R : Type 0} (remaining : R → Option (List ℕ)) (f : Failure) (files : Option Files) (path : List ℕ) (net : Network) (names : List X) (place : ℕ)
     (d : X)
     (all : List (Incoming R)) (before after : DeviceLog) → length net.tables ≡ length net.layout.switches → AreOpenedEnds remaining files path net (map str names) all → place < length all
-    → FailsToGet f (str (get_or names place d)) before after → FailsToGetGiven f files path net before after
+    → FailsToReadOn f (str (get_or names place d)) before after → FailsToGetGiven f files path net before after
 unread_given str remaining f files path net names place d all before after tables opened within fails =
-    not_got_given f files path net (map str names) before after (names_opened path net (map str names) tables opened.named)
-    (not_got_named f files (str (get_or names place d)) (map str names) before before after refl fails at) where
+    not_read_given f files path net (map str names) before after (names_opened path net (map str names) tables opened.named)
+    (not_read_named f files (str (get_or names place d)) (map str names) before before after refl fails at) where
       lt : place < length names
       lt = let many = opened.come.many in let readers = opened.opened.many in omega (arith, within, many, readers, length-map names str)
 

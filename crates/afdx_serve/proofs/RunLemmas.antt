@@ -1,5 +1,5 @@
 -- What a run did, and why it was not done.
-use Rattle.std.proofs.Common.{◌≡◌, ℕ, List, Option, Result, Ok, Err, sym, ap, ◌∙◌, inl, inr}
+use Rattle.std.proofs.Common.{◌≡◌, ℕ, List, Option, Result, Ok, Err, sym, ap, subst, ◌∙◌, inl, inr}
 use Rattle.std.specs.Prelude.{◌⊎◌, MatchResult}
 use Rattle.std.proofs.Common.{map, length}
 use Rattle.std.specs.Prelude.{string_bytes}
@@ -19,9 +19,9 @@ use Rattle.afdx_arguments.specs.declared.request.TraceOptions.{TraceOptions}
 use Rattle.afdx_arguments.specs.declared.request.Inputs.{Inputs}
 use Rattle.afdx_messages.specs.declared.failure.Failure.{Failure}
 use Rattle.afdx_messages.specs.declared.failure.Failure.TheVariants as failure
-use Rattle.afdx_folder.specs.Files.{Files, DeviceLog, KeepsFiles, PutsFiles, one_more, settled_after}
+use Rattle.afdx_folder.specs.Files.{Files, DeviceLog, KeepsFiles, PutsFiles, settled_after}
 use Rattle.afdx_serve.specs.Runs.{inputs_of, IsRunOf, LeadsTo, names_in, bytes_of_captures, StopsAt, EndsAt, StopsRun, EndsRun, FailsToPut, FailsToEnd, FailsToRun, HasPlan, FailsToGetAll}
-use Rattle.afdx_serve.specs.Runs.{FailsToGather, FailsToLead}
+use Rattle.afdx_serve.specs.Runs.{WasNotRead, FailsToGather, FailsToLead}
 use Rattle.afdx_serve.specs.Runs.{capture_name}
 use Rattle.afdx_serve.specs.Traces.{trace_names, IsTraceIn, PutsTrace, StopsTrace, EndsTrace, FailsToTrace}
 use Rattle.std.specs.Io.KnownBytes.{Keeps}
@@ -83,7 +83,7 @@ trace_ended name paths options a c before after h = elim h.2 [
 module _ (inputs : Inputs) (a b : Option Files) (t : Content) (first before after : DeviceLog) (plan : HasPlan a inputs t) (keeps : KeepsFiles a b) (same : before ≡ first) where
   -- a capture was not got
   pub not_gathered : (f : Failure) → FailsToGetAll f b inputs.input.now t before after → FailsToGather f inputs a first after
-  not_gathered (failure.Get name) h = (h.1 ∙ ap (one_more (string_bytes name)) same, inr (t, plan, GetsUpTo-before _ _ a b t keeps h.0))
+  not_gathered (failure.Get name) h = inr (t, plan, (GetsUpTo-before _ _ a b t keeps h.0, subst (λ (log : DeviceLog). WasNotRead (string_bytes name) log after) same h.1))
   not_gathered failure.Memory h = tt
   not_gathered f h = absurd h
 

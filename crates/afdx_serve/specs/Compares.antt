@@ -19,9 +19,9 @@ use Rattle.afdx_messages.specs.declared.argument.ArgumentFault.{ArgumentFault}
 use Rattle.afdx_messages.specs.declared.argument.ArgumentFault.TheVariants.{Span}
 use Rattle.afdx_messages.specs.declared.failure.Failure.{Failure}
 use Rattle.afdx_messages.specs.declared.failure.Failure.TheVariants as failure
-use Rattle.afdx_folder.specs.Files.{Files, ShowsAll, KeepsFiles, PutsFiles, DeviceLog, one_more, settled_after}
+use Rattle.afdx_folder.specs.Files.{Files, ShowsAll, KeepsFiles, PutsFiles, DeviceLog, settled_after}
 use Rattle.afdx_serve.specs.Fits.{Fits, first_argument_fault}
-use Rattle.afdx_serve.specs.Runs.{capture_name, HasTable, GetsNamed, StopsAt, EndsAt, FailsToRead}
+use Rattle.afdx_serve.specs.Runs.{capture_name, HasTable, GetsNamed, WasNotRead, StopsAt, EndsAt, FailsToRead}
 
 -- ---- what is got
 
@@ -120,7 +120,7 @@ IsOver fault names t r files =
 
 -- the captures under these names were not got, or one is faulty, or what is found out from them is of a span that is over
 abbrev pub FailsUnder : Failure → List (List ℕ) → Content → Recordings → Option Files → DeviceLog → DeviceLog → Type 0
-FailsUnder (failure.Get name) names t r files before after = GetsNamed (string_bytes name) files names × (after ≡ one_more (string_bytes name) before)
+FailsUnder (failure.Get name) names t r files before after = GetsNamed (string_bytes name) files names × WasNotRead (string_bytes name) before after
 FailsUnder (failure.PortCapture port why) names t r files before after = IsFaultyUnder names t r files false port why × (after ≡ before)
 FailsUnder (failure.OutputCapture port why) names t r files before after = IsFaultyUnder names t r files true port why × (after ≡ before)
 FailsUnder (failure.Argument fault) names t r files before after = IsOver fault names t r files × (after ≡ before)

@@ -21,9 +21,9 @@ use Rattle.afdx_arguments.specs.declared.request.NetworkPaths.{NetworkPaths}
 use Rattle.afdx_messages.specs.declared.network_failure.NetworkFailure.TheVariants as network
 use Rattle.afdx_messages.specs.declared.failure.Failure.{Failure}
 use Rattle.afdx_messages.specs.declared.failure.Failure.TheVariants as failure
-use Rattle.afdx_folder.specs.Files.{Files, ShowsAll, KeepsFiles, DeviceLog, one_more}
+use Rattle.afdx_folder.specs.Files.{Files, ShowsAll, KeepsFiles, DeviceLog}
 use Rattle.afdx_serve.specs.Checks.{heading_in}
-use Rattle.afdx_serve.specs.Runs.{capture_name, names_in, bytes_of_captures, StopsAt, EndsAt}
+use Rattle.afdx_serve.specs.Runs.{capture_name, names_in, bytes_of_captures, WasNotRead, StopsAt, EndsAt}
 use Rattle.afdx_serve.specs.Networks.{names_of, HasNetwork, FailsToGetNetwork, FailsToAcceptNetwork}
 
 -- ---- names
@@ -99,7 +99,7 @@ pub record GetsGiven (name : List ℕ) (files : Option Files) (path : List ℕ) 
 
 -- not all captures of a network's run were got, or they lead to nothing
 abbrev pub FailsToGetGiven : Failure → Option Files → List ℕ → Network → DeviceLog → DeviceLog → Type 0
-FailsToGetGiven (failure.Get name) files path net before after = GetsGiven (string_bytes name) files path net × (after ≡ one_more (string_bytes name) before)
+FailsToGetGiven (failure.Get name) files path net before after = GetsGiven (string_bytes name) files path net × WasNotRead (string_bytes name) before after
 FailsToGetGiven failure.Memory files path net before after = Unit {0}
 FailsToGetGiven (failure.Network (network.Capture port why name)) files path net before after =
     ((given : Given) × (switch : ℕ) × HasGiven files path (names_of net.layout.switches) given × IsUncheckedRefusal net (given_up net.layout given) (run.Capture switch port why)

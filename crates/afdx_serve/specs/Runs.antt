@@ -14,7 +14,7 @@ use Rattle.afdx_arguments.specs.declared.request.Paths.{Paths}
 use Rattle.afdx_arguments.specs.declared.request.Inputs.{Inputs}
 use Rattle.afdx_messages.specs.declared.failure.Failure.{Failure}
 use Rattle.afdx_messages.specs.declared.failure.Failure.TheVariants as failure
-use Rattle.afdx_folder.specs.Files.{Files, Shows, ShowsAll, KeepsFiles, KeepsOthers, PutsFiles, DeviceLog, one_more, settled_after}
+use Rattle.afdx_folder.specs.Files.{Files, Shows, ShowsAll, KeepsFiles, KeepsOthers, PutsFiles, DeviceLog, one_more, one_unread, settled_after}
 
 -- ---- names
 
@@ -120,9 +120,13 @@ abbrev pub FailsToRead : Failure → Option Files → List ℕ → DeviceLog →
 FailsToRead (failure.Table refusal) files path before after = HasNoTable files path refusal × (after ≡ before)
 FailsToRead f files path before after = FailsToGet f path before after
 
+-- a capture was not opened, or what was opened could not be read
+abbrev pub WasNotRead : List ℕ → DeviceLog → DeviceLog → Type 0
+WasNotRead name before after = (after ≡ one_more name before) ⊎ (after ≡ one_unread name before)
+
 -- not all captures of the table's ports were got: the first that failed is reported
 abbrev pub FailsToGetAll : Failure → Option Files → List ℕ → Content → DeviceLog → DeviceLog → Type 0
-FailsToGetAll (failure.Get name) files path t before after = GetsUpTo (string_bytes name) files path t × (after ≡ one_more (string_bytes name) before)
+FailsToGetAll (failure.Get name) files path t before after = GetsUpTo (string_bytes name) files path t × WasNotRead (string_bytes name) before after
 FailsToGetAll failure.Memory files path t before after = Unit {0}
 FailsToGetAll _ files path t before after = ⊥
 
@@ -141,8 +145,8 @@ FailsToLead _ t captures = ⊥
 abbrev pub FailsToGather : Failure → Inputs → Option Files → DeviceLog → DeviceLog → Type 0
 FailsToGather (failure.Table refusal) inputs files before after = HasNoTable files inputs.table.now refusal × (after ≡ before)
 FailsToGather (failure.Get name) inputs files before after =
-    (after ≡ one_more (string_bytes name) before) × ((string_bytes name ≡ inputs.table.now)
-    ⊎ ((t : Content) × HasPlan files inputs t × GetsUpTo (string_bytes name) files inputs.input.now t))
+    FailsToGet (failure.Get name) inputs.table.now before after
+    ⊎ ((t : Content) × HasPlan files inputs t × FailsToGetAll (failure.Get name) files inputs.input.now t before after)
 FailsToGather (failure.PortCapture port fault) inputs files before after =
     (t : Content) × (captures : List Text) × HasPlan files inputs t × HasCaptures files inputs.input.now t captures
     × IsFirstFault captures port fault × (after ≡ before)

@@ -53,7 +53,8 @@ pub record World : Type 0 where
   pub written : Option (List ℕ)
   -- what the folder holds
   pub files : Option Files
-  -- how often the folder failed, for which name at last, and how many new files its device has taken
+  -- how often the folder failed, how often what it had opened could not be read, each for which name at last, and how many new files its
+  -- device has taken
   pub failed : DeviceLog
 
 -- what commands work on, of a writer, a folder and its log

@@ -1,10 +1,10 @@
 //! What is got from a folder.
 
 ghost use Rattle.std.specs.Prelude.{◌≡◌, map, string_bytes, MatchResult};
-ghost use Rattle.afdx_folder.specs.Files.{Shows, KeepsFiles, DeviceLog, IsCause};
-ghost use Rattle.afdx_serve.specs.Runs.{HasTable, FailsToGet, FailsToGetAll, FailsToRead};
+ghost use Rattle.afdx_folder.specs.Files.{Shows, KeepsFiles, DeviceLog, IsCause, IsUnreadCause};
+ghost use Rattle.afdx_serve.specs.Runs.{HasTable, FailsToGet, FailsToRead};
 ghost use Rattle.afdx_serve.specs.Inner.Leading.{AreOpened, AreOpenedPorts};
-ghost use Rattle.afdx_serve.specs.Inner.NotGot.{FailsToGetNamed};
+ghost use Rattle.afdx_serve.specs.Inner.NotGot.{FailsToReadOn, FailsToGetNamed, FailsToOpenAll};
 
 use crate::names::port_names;
 use afdx_folder::{Folder, FolderFault};
@@ -58,9 +58,10 @@ pub(crate) fn get_table<F: Folder>(
     Ok(afdx_table::read(alloc, text)?)
 }
 
-/// Returns the failure of what was not got under this name, for a fault of the folder.
+/// Returns the failure of what was not got under this name, or was opened and could not be read, for a fault of the folder.
 pub(crate) fn get_failure(alloc: Global, name: &str, fault: FolderFault) -> Failure
-    ensures { (before : DeviceLog) (after : DeviceLog) → IsCause fault name.now before after → FailsToGet result name.now before after }
+    ensures got { (before : DeviceLog) (after : DeviceLog) → IsCause fault name.now before after → FailsToGet result name.now before after }
+    ensures unread { (before : DeviceLog) (after : DeviceLog) → IsUnreadCause fault name.now before after → FailsToReadOn result name.now before after }
 {
     match fault {
         FolderFault::Memory => Failure::Memory,
@@ -73,7 +74,7 @@ pub(crate) fn get_failure(alloc: Global, name: &str, fault: FolderFault) -> Fail
 
 /// Notes that what was opened under this name could not be read, and returns the failure.
 pub(crate) fn unread_failure<F: Folder>(alloc: Global, folder: &mut F, name: &str) -> Failure
-    ensures failed { FailsToGet result name.now (F.failed folder.old) (F.failed folder.new) }
+    ensures failed { FailsToReadOn result name.now (F.failed folder.old) (F.failed folder.new) }
     ensures same { KeepsFiles (F.files folder.old) (F.files folder.new) }
 {
     let fault = folder.note_unread(name);
@@ -119,7 +120,7 @@ pub(crate) fn open_captures<F: Folder>(
     ensures opened { MatchResult result
         (λ both. AreOpenedPorts F.Opened.remaining (F.files folder.old) path.now table.now (map string_bytes both.0.items) both.1.items
         × (F.failed folder.new ≡ F.failed folder.old))
-        (λ f. FailsToGetAll f (F.files folder.old) path.now table.now (F.failed folder.old) (F.failed folder.new)) }
+        (λ f. FailsToOpenAll f (F.files folder.old) path.now table.now (F.failed folder.old) (F.failed folder.new)) }
     ensures same { KeepsFiles (F.files folder.old) (F.files folder.new) }
 {
     let names = port_names(alloc, path, table.ports())?;

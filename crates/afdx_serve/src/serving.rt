@@ -126,8 +126,10 @@ fn serve_arguments<R: Read, O: Write, F: Folder>(
 /// what they mean without `--explain`. What is met before the answer is written leaves `out` as it was; if writing fails, a prefix of the
 /// answer was written.
 ///
-/// No contract knows why a reader, a writer or a folder fails, or whether memory is left: that 5 comes only then, and
-/// that it is said only of an `err` that fails that it has not taken its lines, is shown by tests.
+/// If a table, a network file or a capture was not got or opened, or a file was not put, the folder has counted a failure of that name
+/// (if its count was not at its greatest value); a capture that could not be read is counted for itself. No contract knows why a
+/// reader or a writer fails, or whether memory is left: that 5 comes of a capture that was opened, of `input`, of `out` and of memory
+/// only then, and that it is said only of an `err` that fails that it has not taken its lines, is shown by tests.
 ///
 /// O(arguments, input and files) beside the switch's own work, with at most 16,777,216 reads of `input`.
 pub fn serve<R: Read, O: Write, E: Write, F: Folder>(

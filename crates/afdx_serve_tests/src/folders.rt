@@ -269,7 +269,7 @@ fn opens_each_capture_once(rt: HostRuntime) {
     }
 }
 
-/// Returns whether a command names the first capture if none that is opened can be read.
+/// Returns whether a command names the first capture if none that is opened can be read, which the folder counts apart from failures.
 fn names_the_first(alloc: Global, arguments: &str) -> Result<bool, AllocError> {
     let run = OneFrame::new(alloc)?;
     let mut folder = run.sound()?;
@@ -277,7 +277,9 @@ fn names_the_first(alloc: Global, arguments: &str) -> Result<bool, AllocError> {
     let files = folder.count();
     let line = "afdx: device get in/port-1.pcap\n";
     let is_said = answers(alloc, arguments, &mut folder, (5, "", line))?;
-    Ok(is_said && folder.count() == files)
+    let is_unread = folder.last_unread() == Some("in/port-1.pcap")
+        && folder.last_failure().is_none();
+    Ok(is_said && is_unread && folder.count() == files)
 }
 
 #[test]

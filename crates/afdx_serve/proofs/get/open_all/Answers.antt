@@ -29,6 +29,6 @@ returns-in-Err-clause-opened g c =
     let names = c.args.names.now in
     let lt : i < length names = search rules in
     let str : String Global → _ = λ s. string_bytes s in
-    not_got_named c.get_failure.result (g.F.Folder.files c.args.folder.now) c.deref-in-Err.result.now (map str names) _ _ _ was.failed (c.get_failure.ensures _ _
+    not_got_named c.get_failure.result (g.F.Folder.files c.args.folder.now) c.deref-in-Err.result.now (map str names) _ _ _ was.failed (c.get_failure.ensures.got _ _
     (subst (λ n. IsCause c.in-Err.fault n (g.F.Folder.failed c.loop-name.folder) (g.F.Folder.failed c.open.new.self)) (c.deref.ensures ∙ sym c.deref-in-Err.ensures) c.in-Err.ensures.cause))
     (next_unopened str g.F.Opened.Read.remaining _ names i c.name-item.result c.deref-in-Err.result.now c.loop-name.opened.items lt was.opened (c.deref-in-Err.ensures ∙ ap str c.name-item.is))

@@ -2,13 +2,13 @@ use Rattle.std.proofs.Common.{inl, subst}
 use Rattle.afdx_session.specs.Outcome.{table_in}
 use Rattle.afdx_serve.specs.Inner.Leading.{FailsToLeadFrom}
 use Rattle.afdx_serve.proofs.Errors.{of_error}
-use Rattle.afdx_serve.proofs.LeadLemmas.{as_many_readers, opened_are_captures}
+use Rattle.afdx_serve.proofs.LeadLemmas.{as_many_readers, not_all_opened, opened_are_captures}
 use Rattle.afdx_serve.proofs.leading.report_of_folder.Goals as goal
 
 pub returns-in_err-names-clause-led : goal.returns-in_err-names-clause-led
 returns-in_err-names-clause-led g c =
     let fails = rw c.table.ensures.table at c.in_err-names.ensures.opened in
-    of_error _ _ _ c.in_err-names.field-0.0 c.from_residual.ensures (inl fails)
+    of_error _ _ _ c.in_err-names.field-0.0 c.from_residual.ensures (inl (not_all_opened c.in_err-names.field-0.0 _ _ _ _ _ fails))
 
 pub report_from-requires-clause-readers : goal.report_from-requires-clause-readers
 report_from-requires-clause-readers g c =

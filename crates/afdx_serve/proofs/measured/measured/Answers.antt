@@ -1,7 +1,7 @@
 use Rattle.std.proofs.Common.{◌∙◌}
 use Rattle.afdx_session.specs.Outcome.{table_in}
 use Rattle.afdx_serve.proofs.Errors.{of_error}
-use Rattle.afdx_serve.proofs.LeadLemmas.{as_many_readers, has_plan, not_led_from}
+use Rattle.afdx_serve.proofs.LeadLemmas.{as_many_readers, has_plan, not_all_opened, not_led_from}
 use Rattle.afdx_serve.proofs.RunLemmas.{not_gathered}
 use Rattle.afdx_serve.proofs.MeasureLemmas.{is_measured}
 use Rattle.afdx_serve.proofs.measured.measured.Goals as goal
@@ -14,7 +14,8 @@ returns-in_err-names-clause-led g c =
     let got = c.in_ok-plan.ensures.got in
     let fails = rw c.table.ensures.table at c.in_err-names.ensures.opened in
     of_error _ _ _ c.in_err-names.field-0.0 c.from_residual-in_err-names.ensures
-    (not_gathered inputs files _ (table_in plan) _ _ _ (has_plan inputs files got.0.0 plan got.0.1 got.0.2) c.in_ok-plan.ensures.same got.1 c.in_err-names.field-0.0 fails)
+    (not_gathered inputs files _ (table_in plan) _ _ _ (has_plan inputs files got.0.0 plan got.0.1 got.0.2) c.in_ok-plan.ensures.same got.1 c.in_err-names.field-0.0
+    (not_all_opened c.in_err-names.field-0.0 _ _ _ _ _ fails))
 
 pub measured_from-requires : goal.measured_from-requires
 measured_from-requires g c =

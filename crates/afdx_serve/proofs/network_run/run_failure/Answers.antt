@@ -1,6 +1,6 @@
 use Rattle.std.proofs.Common.{◌≡◌, ◌∙◌, refl, get_or, ap, subst, String, Global, string_bytes}
 use Rattle.afdx_network_report.specs.Lines.{Names}
-use Rattle.afdx_serve.specs.Runs.{FailsToGet}
+use Rattle.afdx_serve.specs.Inner.NotGot.{FailsToReadOn}
 use Rattle.afdx_network.specs.declared.fault.NetworkRunFault.TheVariants as run
 use Rattle.afdx_serve.specs.Inner.NetworkRunning.{IsGivenFailure}
 use Rattle.afdx_serve.proofs.NetworkRunLemmas.{unread_given, fault_given}
@@ -17,7 +17,7 @@ returns-in-Read-clause-failed g c = λ files path net all named tables opened is
     let before = g.F.Folder.failed c.args.folder.now in
     let after = g.F.Folder.failed c.unread_failure.new.folder in
     let at : c.deref.result.now ≡ str (get_or names c.in-Read.place c.index-opened-place.result) = c.deref.ensures ∙ ap str c.index-opened-place.is in
-    let fails = subst (λ n. FailsToGet c.unread_failure.result n before after) at c.unread_failure.ensures.failed in
+    let fails = subst (λ n. FailsToReadOn c.unread_failure.result n before after) at c.unread_failure.ensures.failed in
     unread_given str g.F.Opened.Read.remaining c.unread_failure.result files path net names c.in-Read.place c.index-opened-place.result all before after tables opened within fails
 
 pub returns-in-Capture-clause-failed : goal.returns-in-Capture-clause-failed

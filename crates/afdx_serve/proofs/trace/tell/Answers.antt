@@ -3,14 +3,14 @@ use Rattle.afdx_session.specs.Outcome.{table_in, is_cleared}
 use Rattle.afdx_serve.specs.Inner.Leading.{FailsToLeadFrom}
 use Rattle.afdx_serve.proofs.Errors.{of_error}
 use Rattle.afdx_serve.proofs.FileLemmas.{KeepsFiles-trans}
-use Rattle.afdx_serve.proofs.LeadLemmas.{as_many_readers}
+use Rattle.afdx_serve.proofs.LeadLemmas.{as_many_readers, not_all_opened}
 use Rattle.afdx_serve.proofs.TellingLemmas.{is_told}
 use Rattle.afdx_serve.proofs.trace.tell.Goals as goal
 
 pub returns-in_err-names-clause-led : goal.returns-in_err-names-clause-led
 returns-in_err-names-clause-led g c =
     let fails = rw c.table.ensures.table at c.in_err-names.ensures.opened in
-    of_error _ _ _ c.in_err-names.field-0.0 c.from_residual.ensures (inl fails)
+    of_error _ _ _ c.in_err-names.field-0.0 c.from_residual.ensures (inl (not_all_opened c.in_err-names.field-0.0 _ _ _ _ _ fails))
 
 pub trace_from-requires-clause-readers : goal.trace_from-requires-clause-readers
 trace_from-requires-clause-readers g c =
