@@ -150,7 +150,9 @@ fn names_the_first(alloc: Global) -> Result<bool, AllocError> {
     folder.fail_to_read();
     let line = "afdx: device get in/port-1.pcap\n";
     let is_said = answers(alloc, COMPARE, &mut folder, (5, "", line))?;
-    Ok(is_said && folder.holds(&run.files(), 5))
+    let is_unread = folder.last_unread() == Some("in/port-1.pcap")
+        && folder.last_failure().is_none();
+    Ok(is_said && is_unread && folder.holds(&run.files(), 5))
 }
 
 #[test]
