@@ -1,6 +1,7 @@
 #!/usr/bin/env python3
 """Says where the time of a crate's proof goes: for each function, and for each file of lemmas, the seconds that its modules took,
-the dearest first, by the times at which the prover wrote them.
+the dearest first, by the times at which the prover wrote them; and in all for each part of what the prover makes of a function, as
+its lifetimes (Lts).
 
 A crate has to be checked from nothing by one job, which writes one module after the other: `rm -r out` and
 `rt check --jobs 1` in its folder. `rt ci` keeps such a folder of modules while it tries a crate's wrong bodies (/tmp/rt-edits-*,
@@ -31,6 +32,17 @@ def subject(module: str) -> str:
     return re.sub(rf"\.({PARTS})(\..*)?$", "", name)
 
 
+def part(module: str) -> str:
+    """Returns which part of what the prover makes of a function a module is, or that it is none."""
+    found = re.search(rf"\.({PARTS})(\..*)?$", re.sub(r"(\.decls)?\.oantt$", "", module))
+    return found[1] if found else "none"
+
+
+def in_order(seconds: dict[str, float]) -> list[tuple[str, float]]:
+    """Returns the names with their seconds, the dearest first."""
+    return sorted(seconds.items(), key=lambda one: -one[1])
+
+
 def main() -> None:
     parser = argparse.ArgumentParser(description=__doc__, formatter_class=argparse.RawDescriptionHelpFormatter)
     parser.add_argument("crate", help="a crate, or any folder of modules")
@@ -41,11 +53,14 @@ def main() -> None:
     if not modules:
         sys.exit(f"no modules below {folder}")
     seconds: dict[str, float] = collections.defaultdict(float)
+    parts: dict[str, float] = collections.defaultdict(float)
     for (before, _), (after, module) in zip(modules, modules[1:]):
         seconds[subject(module)] += after - before
+        parts[part(module)] += after - before
     print(f"{len(modules)} modules, {modules[-1][0] - modules[0][0]:.0f} s")
-    for name, took in sorted(seconds.items(), key=lambda one: -one[1])[:given.count]:
+    for name, took in in_order(seconds)[:given.count]:
         print(f"{took:7.1f} {name}")
+    print("by part: " + ", ".join(f"{name} {took:.0f}" for name, took in in_order(parts) if took >= 1))
 
 
 if __name__ == "__main__":
