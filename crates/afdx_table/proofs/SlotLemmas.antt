@@ -43,10 +43,10 @@ placed key.MaxSize = refl
 placed key.Priority = refl
 placed key.Police = refl
 
-same_place : (j k : Key) → key_place j ≡ key_place k → j ≡ k
+pub same_place : (j k : Key) → key_place j ≡ key_place k → j ≡ k
 same_place j k h = sym (placed j) ∙ ap (λ (n : ℕ). get_or by_place n key.Version) h ∙ placed k
 
-named : (k : Key) → key_named (key_text k) ≡ Some k
+pub named : (k : Key) → key_named (key_text k) ≡ Some k
 named key.Version = refl
 named key.Constant = refl
 named key.Latency = refl
@@ -80,7 +80,7 @@ names : (text : List ℕ) (k : Key) → bytes_eq text (key_text k) ≡ true → 
 names text k h = ap key_named ((bytes_eq-Decides text (key_text k)).0 h) ∙ named k
 
 -- whether a text that names j is the text of k
-same_text : (text : List ℕ) (j k : Key) → key_named text ≡ Some j → bytes_eq text (key_text k) ≡ (key_place k == key_place j)
+pub same_text : (text : List ℕ) (j k : Key) → key_named text ≡ Some j → bytes_eq text (key_text k) ≡ (key_place k == key_place j)
 same_text text j k h =
     elim (cases_Bool (bytes_eq text (key_text k))) [
       | inl is ↦
@@ -131,20 +131,20 @@ take_here Less a b h = absurd cc
 take_here Equal a b h = refl
 take_here Greater a b h = absurd cc
 
-turned : (xs ys : List ℕ) → bytes_eq xs ys ≡ true → bytes_eq ys xs ≡ true
+pub turned : (xs ys : List ℕ) → bytes_eq xs ys ≡ true → bytes_eq ys xs ≡ true
 turned xs ys h = (bytes_eq-Decides ys xs).1 (sym ((bytes_eq-Decides xs ys).0 h))
 
-turned_not : (xs ys : List ℕ) → bytes_eq xs ys ≡ false → bytes_eq ys xs ≡ false
+pub turned_not : (xs ys : List ℕ) → bytes_eq xs ys ≡ false → bytes_eq ys xs ≡ false
 turned_not xs ys h =
     elim (cases_Bool (bytes_eq ys xs)) [
       | inl is ↦ let both = turned ys xs is in absurd cc
       | inr not ↦ not
     ]
 
-get_member-other : (k : Key) (text : List ℕ) (d : Data) (ms : Members) → bytes_eq text (key_text k) ≡ false → get_member (key_text k) (member text d ms) ≡ get_member (key_text k) ms
+pub get_member-other : (k : Key) (text : List ℕ) (d : Data) (ms : Members) → bytes_eq text (key_text k) ≡ false → get_member (key_text k) (member text d ms) ≡ get_member (key_text k) ms
 get_member-other k text d ms h = pass_over (slice_cmp nat_cmp (key_text k) text) _ _ (is_eq-slice_cmp (key_text k) text ∙ turned_not text (key_text k) h)
 
-get_member-here : (k : Key) (text : List ℕ) (d : Data) (ms : Members) → bytes_eq text (key_text k) ≡ true → get_member (key_text k) (member text d ms) ≡ Some d
+pub get_member-here : (k : Key) (text : List ℕ) (d : Data) (ms : Members) → bytes_eq text (key_text k) ≡ true → get_member (key_text k) (member text d ms) ≡ Some d
 get_member-here k text d ms h = take_here (slice_cmp nat_cmp (key_text k) text) _ _ (is_eq-slice_cmp (key_text k) text ∙ turned text (key_text k) h)
 
 -- what was found before, or else what is still to come

@@ -12,7 +12,9 @@ use crate::fault::At;
 use crate::limits::MAX_LINKS;
 use crate::link_map::LinkMap;
 use crate::links::read_link;
+use crate::pairs::read_pairs;
 use crate::rows::{LinkRow, PortRow};
+use crate::values::Source;
 use afdx_toml_split::laws::links_are_read_apart;
 use std::alloc::Global;
 use toml::{Table as Tree, Value};
@@ -33,7 +35,7 @@ pub(crate) fn cut(text: &str) -> (&str, Option<&str>)
 }
 
 /// Returns whether a value is neither a table nor an array that ends in one.
-fn is_plain(value: &Value) -> bool
+pub(crate) fn is_plain(value: &Value) -> bool
     ensures { result ≡ is_plain (view value.now) }
 {
     match value.as_array() {
@@ -70,11 +72,14 @@ fn read_one(
     ensures { IfSome result (λ r. (has_link before.now r.id ≡ false) × ((ms : Members) × (parse_document text.now ≡ Some ms) × (are_plain ms ≡ true)
         × (link_at version at ports.now before.now ms ≡ Ok r))) }
 {
+    if let Some(pairs) = read_pairs(alloc, text) {
+        return read_link(alloc, version, at, Source::Pairs(&pairs), ports, before).ok();
+    }
     let tree = toml::table_from_str(alloc, text).ok()?;
     if !are_plain(&tree) {
         return None;
     }
-    read_link(alloc, version, at, &tree, ports, before).ok()
+    read_link(alloc, version, at, Source::Tree(&tree), ports, before).ok()
 }
 
 /// Reads the links of these texts, which stand one after another with a header before each but the first; none if they are not

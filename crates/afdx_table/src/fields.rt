@@ -7,6 +7,7 @@ ghost use Rattle.afdx_table.specs.Refusal.{Gives, or_refuse, ◌>>=◌ as first_
 ghost use Rattle.afdx_table.specs.Names.{key_text};
 ghost use Rattle.afdx_table.specs.Inner.Room.{HasItems};
 ghost use Rattle.afdx_table.specs.Inner.Slots.{AreValues};
+ghost use Rattle.afdx_table.specs.Inner.Pairs.{members_of};
 ghost use Rattle.afdx_table.specs.declared.fault.TableFault.TheVariants.{Memory, Kind};
 ghost use Rattle.afdx_table.specs.Fields.{bounded_natural, known_at, value_at, number_in, text_in, number_at, bounded, bounded_at, text_at, optional_number_at};
 ghost use Rattle.afdx_table.specs.Fields.{optional_text_at, tables_at, all_of, as_natural, all_bounded, numbers_at};
@@ -14,7 +15,7 @@ ghost use Rattle.afdx_table.specs.Fields.{optional_text_at, tables_at, all_of, a
 use crate::arrays::{natural, tables_of};
 use crate::fault::{At, Key, TableFault};
 use crate::limits::MAX_PORT_ID;
-use crate::values::Values;
+use crate::values::{Source, Values};
 use std::alloc::Global;
 use toml::{Table, Value};
 
@@ -105,28 +106,32 @@ fn numbers_of(
 #[derive(Clone, Copy)]
 pub(crate) struct Fields<'a> {
     pub(crate) at: At,
-    pub(crate) table: &'a Table,
+    pub(crate) source: Source<'a>,
     pub(crate) values: Values<'a>,
 }
 
 impl<'a> Fields<'a> {
     /// Reads the fields of a table, and refuses a key that is none of these.
     #[tactic(auto, unfolding(crate::specs::Fields::known_at))]
-    pub(crate) fn read(at: At, keys: &[Key], table: &'a Table) -> Result<Fields<'a>, TableFault>
-        ensures known { Gives (λ _. tt) result (known_at at keys.now (table_view table.now)) }
-        ensures fields { IfOk result (λ f. (f.at ≡ at) × (f.table.now ≡ table.now) × AreValues f.values.slots (table_view table.now)) }
+    pub(crate) fn read(
+        at: At,
+        keys: &[Key],
+        source: Source<'a>,
+    ) -> Result<Fields<'a>, TableFault>
+        ensures known { Gives (λ _. tt) result (known_at at keys.now (members_of source.entry)) }
+        ensures fields { IfOk result (λ f. (f.at ≡ at) × (members_of f.source ≡ members_of source.entry) × AreValues f.values.slots (members_of source.entry)) }
         ensures no_memory { IfErr result (λ e. e ≢ Memory) }
     {
-        match Values::read(keys, table) {
-            Some(values) => Ok(Fields { at, table, values }),
+        match Values::read(keys, source) {
+            Some(values) => Ok(Fields { at, source, values }),
             None => Err(TableFault::UnknownKey(at)),
         }
     }
 
     /// Returns the value of a key, if it is there.
     fn find(&self, key: Key) -> Option<&'a Value>
-        requires { AreValues self.now.values.slots (table_view self.now.table.now) }
-        ensures { option_map (λ v. view v.now) result ≡ get_member (key_text key) (table_view self.now.table.now) }
+        requires { AreValues self.now.values.slots (members_of self.now.source) }
+        ensures { option_map (λ v. view v.now) result ≡ get_member (key_text key) (members_of self.now.source) }
     {
         self.values.get(key)
     }
@@ -134,8 +139,8 @@ impl<'a> Fields<'a> {
     /// Returns the value of a required key.
     #[tactic(auto, unfolding(crate::specs::Fields::value_at))]
     fn value(&self, key: Key) -> Result<&'a Value, TableFault>
-        requires { AreValues self.now.values.slots (table_view self.now.table.now) }
-        ensures { Gives (λ v. view v.now) result (value_at self.now.at key (table_view self.now.table.now)) }
+        requires { AreValues self.now.values.slots (members_of self.now.source) }
+        ensures { Gives (λ v. view v.now) result (value_at self.now.at key (members_of self.now.source)) }
     {
         self.find(key).ok_or(TableFault::MissingKey(self.at, key))
     }
@@ -143,8 +148,8 @@ impl<'a> Fields<'a> {
     /// Reads a required number.
     #[tactic(auto, unfolding(crate::specs::Fields::number_at))]
     pub(crate) fn number(&self, key: Key) -> Result<u64, TableFault>
-        requires { AreValues self.now.values.slots (table_view self.now.table.now) }
-        ensures { Gives (λ n. n) result (number_at self.now.at key (table_view self.now.table.now)) }
+        requires { AreValues self.now.values.slots (members_of self.now.source) }
+        ensures { Gives (λ n. n) result (number_at self.now.at key (members_of self.now.source)) }
     {
         number_in(self.at, key, self.value(key)?)
     }
@@ -152,8 +157,8 @@ impl<'a> Fields<'a> {
     /// Reads an optional number.
     #[tactic(auto, unfolding(crate::specs::Fields::optional_number_at))]
     pub(crate) fn optional_number(&self, key: Key) -> Result<Option<u64>, TableFault>
-        requires { AreValues self.now.values.slots (table_view self.now.table.now) }
-        ensures number { Gives (λ n. n) result (optional_number_at self.now.at key (table_view self.now.table.now)) }
+        requires { AreValues self.now.values.slots (members_of self.now.source) }
+        ensures number { Gives (λ n. n) result (optional_number_at self.now.at key (members_of self.now.source)) }
         ensures no_memory { IfErr result (λ e. e ≢ Memory) }
     {
         let Some(value) = self.find(key) else {
@@ -165,8 +170,8 @@ impl<'a> Fields<'a> {
     /// Reads a required number from `low` to `high`.
     #[tactic(auto, unfolding(crate::specs::Fields::bounded_at))]
     pub(crate) fn bounded(&self, key: Key, low: u64, high: u64) -> Result<u64, TableFault>
-        requires { AreValues self.now.values.slots (table_view self.now.table.now) }
-        ensures value { Gives (λ n. n) result (bounded_at self.now.at key low high (table_view self.now.table.now)) }
+        requires { AreValues self.now.values.slots (members_of self.now.source) }
+        ensures value { Gives (λ n. n) result (bounded_at self.now.at key low high (members_of self.now.source)) }
         ensures within { IfOk result (λ n. n ≤ high) }
     {
         let number = self.number(key)?;
@@ -175,8 +180,8 @@ impl<'a> Fields<'a> {
 
     /// Reads a required number of a port.
     pub(crate) fn port_id(&self, key: Key) -> Result<u8, TableFault>
-        requires { AreValues self.now.values.slots (table_view self.now.table.now) }
-        ensures { Gives (λ n. n) result (bounded_at self.now.at key 1 24 (table_view self.now.table.now)) }
+        requires { AreValues self.now.values.slots (members_of self.now.source) }
+        ensures { Gives (λ n. n) result (bounded_at self.now.at key 1 24 (members_of self.now.source)) }
     {
         let number = self.bounded(key, 1, u64::from(MAX_PORT_ID))?;
         Ok(number as u8)
@@ -185,8 +190,8 @@ impl<'a> Fields<'a> {
     /// Reads a required text.
     #[tactic(auto, unfolding(crate::specs::Fields::text_at))]
     pub(crate) fn text(&self, key: Key) -> Result<&'a str, TableFault>
-        requires { AreValues self.now.values.slots (table_view self.now.table.now) }
-        ensures { Gives (λ s. s.now) result (text_at self.now.at key (table_view self.now.table.now)) }
+        requires { AreValues self.now.values.slots (members_of self.now.source) }
+        ensures { Gives (λ s. s.now) result (text_at self.now.at key (members_of self.now.source)) }
     {
         text_in(self.at, key, self.value(key)?)
     }
@@ -194,8 +199,8 @@ impl<'a> Fields<'a> {
     /// Reads an optional text.
     #[tactic(auto, unfolding(crate::specs::Fields::optional_text_at))]
     pub(crate) fn optional_text(&self, key: Key) -> Result<Option<&'a str>, TableFault>
-        requires { AreValues self.now.values.slots (table_view self.now.table.now) }
-        ensures text { Gives (λ o. option_map (λ s. s.now) o) result (optional_text_at self.now.at key (table_view self.now.table.now)) }
+        requires { AreValues self.now.values.slots (members_of self.now.source) }
+        ensures text { Gives (λ o. option_map (λ s. s.now) o) result (optional_text_at self.now.at key (members_of self.now.source)) }
         ensures no_memory { IfErr result (λ e. e ≢ Memory) }
     {
         let Some(value) = self.find(key) else {
@@ -207,9 +212,9 @@ impl<'a> Fields<'a> {
     /// Reads an optional array of tables.
     #[tactic(auto, unfolding(crate::specs::Fields::tables_at))]
     pub(crate) fn tables(&self, alloc: Global, key: Key) -> Result<Vec<&'a Table>, TableFault>
-        requires { AreValues self.now.values.slots (table_view self.now.table.now) }
-        ensures tables { Gives (λ v. map (λ t. table_view t.now) v.items) result (tables_at self.now.at key (table_view self.now.table.now)) }
-        ensures memory { result ≡ Err Memory → HasItems key (table_view self.now.table.now) }
+        requires { AreValues self.now.values.slots (members_of self.now.source) }
+        ensures tables { Gives (λ v. map (λ t. table_view t.now) v.items) result (tables_at self.now.at key (members_of self.now.source)) }
+        ensures memory { result ≡ Err Memory → HasItems key (members_of self.now.source) }
     {
         let Some(value) = self.find(key) else {
             return Ok(Vec::new(alloc));
@@ -229,8 +234,8 @@ impl<'a> Fields<'a> {
         low: u8,
         high: u8,
     ) -> Result<Vec<u8>, TableFault>
-        requires { AreValues self.now.values.slots (table_view self.now.table.now) }
-        ensures { Gives (λ v. v.items) result (numbers_at self.now.at key low high (table_view self.now.table.now)) }
+        requires { AreValues self.now.values.slots (members_of self.now.source) }
+        ensures { Gives (λ v. v.items) result (numbers_at self.now.at key low high (members_of self.now.source)) }
     {
         let value = self.value(key)?;
         let Some(items) = value.as_array() else {

@@ -24,6 +24,7 @@ pub mod laws;
 mod limits;
 mod link_map;
 mod links;
+mod pairs;
 mod ports;
 mod rows;
 mod table;

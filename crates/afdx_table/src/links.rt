@@ -6,6 +6,7 @@ ghost use Rattle.afdx_table.specs.Refusal.{Gives};
 ghost use Rattle.afdx_table.specs.declared.fault.TableFault.TheVariants.{Memory};
 ghost use Rattle.afdx_table.specs.Fields.{known_at};
 ghost use Rattle.afdx_table.specs.Inner.Slots.{AreValues};
+ghost use Rattle.afdx_table.specs.Inner.Pairs.{members_of};
 ghost use Rattle.afdx_table.specs.Links.{has_link, targets, link_keys, police_from, row_at, fitting, link_at, links_from};
 
 use crate::fault::{At, Key, TableFault};
@@ -16,6 +17,7 @@ use crate::ports::has_port;
 use crate::rows::{
     LinkRow, PortRow, Targets, bag_from_ms, nanos, police_from_text, priority_from_text,
 };
+use crate::values::Source;
 use afdx_units::{GREATEST_SIZE, LEAST_SIZE, MAX_JITTER, MAX_LINK_ID, Police};
 use std::alloc::Global;
 use toml::Table;
@@ -40,9 +42,13 @@ fn check_targets(at: At, ports: &[PortRow], from: u8, to: &[u8]) -> Result<(), T
 }
 
 /// Reads the fields of a link, and refuses a key that no link has in this version.
-fn link_fields<'a>(version: u64, at: At, table: &'a Table) -> Result<Fields<'a>, TableFault>
-    ensures known { Gives (λ _. tt) result (known_at at (link_keys version) (table_view table.now)) }
-    ensures fields { IfOk result (λ f. (f.at ≡ at) × (f.table.now ≡ table.now) × AreValues f.values.slots (table_view table.now)) }
+fn link_fields<'a>(
+    version: u64,
+    at: At,
+    source: Source<'a>,
+) -> Result<Fields<'a>, TableFault>
+    ensures known { Gives (λ _. tt) result (known_at at (link_keys version) (members_of source.entry)) }
+    ensures fields { IfOk result (λ f. (f.at ≡ at) × (members_of f.source ≡ members_of source.entry) × AreValues f.values.slots (members_of source.entry)) }
 {
     if version == 1 {
         Fields::read(
@@ -56,7 +62,7 @@ fn link_fields<'a>(version: u64, at: At, table: &'a Table) -> Result<Fields<'a>,
                 Key::MaxSize,
                 Key::Priority,
             ],
-            table,
+            source,
         )
     } else {
         Fields::read(
@@ -71,7 +77,7 @@ fn link_fields<'a>(version: u64, at: At, table: &'a Table) -> Result<Fields<'a>,
                 Key::Priority,
                 Key::Police,
             ],
-            table,
+            source,
         )
     }
 }
@@ -92,11 +98,11 @@ fn read_row(
     alloc: Global,
     version: u64,
     at: At,
-    table: &Table,
+    source: Source<'_>,
 ) -> Result<(LinkRow, Vec<u8>), TableFault>
-    ensures { Gives (λ r. record r.0 { to = r.1.items }) result (row_at version at (table_view table.now)) }
+    ensures { Gives (λ r. record r.0 { to = r.1.items }) result (row_at version at (members_of source.entry)) }
 {
-    let fields = link_fields(version, at, table)?;
+    let fields = link_fields(version, at, source)?;
     let id = fields.bounded(Key::Id, 0, MAX_LINK_ID)? as u16;
     let from = fields.port_id(Key::From)?;
     let to = fields.numbers(alloc, Key::To, 1, MAX_PORT_ID)?;
@@ -160,15 +166,15 @@ pub(crate) fn read_link(
     alloc: Global,
     version: u64,
     at: At,
-    table: &Table,
+    source: Source<'_>,
     ports: &[PortRow],
     before: &LinkMap,
 ) -> Result<LinkRow, TableFault>
     requires few { length ports.now ≤ 24 }
     ensures fresh { IfOk result (λ r. has_link before.now r.id ≡ false) }
-    ensures row { Gives (λ r. r) result (link_at version at ports.now before.now (table_view table.now)) }
+    ensures row { Gives (λ r. r) result (link_at version at ports.now before.now (members_of source.entry)) }
 {
-    let (row, to) = read_row(alloc, version, at, table)?;
+    let (row, to) = read_row(alloc, version, at, source)?;
     fit(at, ports, before, row, &to)
 }
 
@@ -187,7 +193,8 @@ pub(crate) fn read_links(
 {
     let mut links = LinkMap::new(alloc);
     for (index, table) in tables.iter().enumerate() {
-        let row = read_link(alloc, version, At::Link(index + 1), *table, ports, &links)?;
+        let at = At::Link(index + 1);
+        let row = read_link(alloc, version, at, Source::Tree(*table), ports, &links)?;
         links.push(row)?;
     }
     Ok(links)

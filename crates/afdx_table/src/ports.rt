@@ -11,6 +11,7 @@ use crate::fault::{At, Key, TableFault};
 use crate::fields::Fields;
 use crate::limits::{MAX_BUFFER, MAX_DELAY};
 use crate::rows::{PortRow, nanos, speed_from_mbit};
+use crate::values::Source;
 use std::alloc::{AllocError, Global};
 use toml::Table;
 
@@ -56,7 +57,8 @@ fn insert_port(ports: &mut Vec<PortRow>, row: PortRow) -> Result<(), AllocError>
 fn read_port(version: u64, at: At, table: &Table, before: &[PortRow]) -> Result<PortRow, TableFault>
     ensures { Gives (λ r. r) result (port_at version at before.now (table_view table.now)) }
 {
-    let fields = Fields::read(at, &[Key::Id, Key::Mbit, Key::Buffer, Key::MaxDelay], table)?;
+    let keys = [Key::Id, Key::Mbit, Key::Buffer, Key::MaxDelay];
+    let fields = Fields::read(at, &keys, Source::Tree(table))?;
     let id = fields.port_id(Key::Id)?;
     let mbit = fields.number(Key::Mbit)?;
     let speed = speed_from_mbit(version, mbit).ok_or(TableFault::Range(at, Key::Mbit))?;

@@ -10,11 +10,13 @@ ghost use Rattle.afdx_table.specs.declared.fault.TableFault.TheVariants.{Memory}
 ghost use Rattle.afdx_table.specs.Top.{top_keys, at_most, version_from, group_address, constant_from, latency_from, top_at};
 ghost use Rattle.afdx_table.specs.Fields.{known_at};
 ghost use Rattle.afdx_table.specs.Inner.Slots.{AreValues};
+ghost use Rattle.afdx_table.specs.Inner.Pairs.{members_of};
 
 use crate::fault::{At, Key, TableFault};
 use crate::fields::{Fields, bounded};
 use crate::limits::{LATENCY_VERSION, MAX_LATENCY, MAX_LINKS, MAX_PORTS, MAX_VERSION};
 use crate::rows::nanos;
+use crate::values::Source;
 use hex::FromHex;
 use std::alloc::Global;
 use toml::Table as Tree;
@@ -65,14 +67,14 @@ fn constant_from(stated: Option<&str>) -> Result<[u8; 4], TableFault>
 /// Reads the fields of the top, and refuses a key that the top does not have in this version.
 fn top_fields<'a>(version: u64, tree: &'a Tree) -> Result<Fields<'a>, TableFault>
     ensures known { Gives (λ _. tt) result (known_at place.Top (top_keys version) (table_view tree.now)) }
-    ensures fields { IfOk result (λ f. (f.at ≡ place.Top) × (f.table.now ≡ tree.now) × AreValues f.values.slots (table_view tree.now)) }
+    ensures fields { IfOk result (λ f. (f.at ≡ place.Top) × (members_of f.source ≡ table_view tree.now) × AreValues f.values.slots (table_view tree.now)) }
     ensures no_memory { IfErr result (λ e. e ≢ Memory) }
 {
     if version < LATENCY_VERSION {
         Fields::read(
             At::Top,
             &[Key::Version, Key::Constant, Key::Port, Key::Link],
-            tree,
+            Source::Tree(tree),
         )
     } else {
         Fields::read(
@@ -84,7 +86,7 @@ fn top_fields<'a>(version: u64, tree: &'a Tree) -> Result<Fields<'a>, TableFault
                 Key::Port,
                 Key::Link,
             ],
-            tree,
+            Source::Tree(tree),
         )
     }
 }

@@ -4,7 +4,9 @@ ghost use Rattle.std.specs.Prelude.{◌≡◌, ◌<◌, ◌==◌, ℕ, true, fal
 ghost use Rattle.std.specs.List.{list_any};
 ghost use Rattle.toml.specs.View.{view, table_view};
 ghost use Rattle.afdx_table.specs.Fields.{are_known};
+ghost use Rattle.toml.specs.Tables.{close};
 ghost use Rattle.afdx_table.specs.Inner.Slots.{key_place, key_named, value_in, AreValues};
+ghost use Rattle.afdx_table.specs.Inner.Pairs.{nodes_in, members_of};
 
 use crate::fault::Key;
 use toml::{Table, Value};
@@ -13,7 +15,7 @@ use toml::{Table, Value};
 const KEYS: usize = 16;
 
 /// Returns the place of a key.
-fn place_of(key: Key) -> usize
+pub(crate) fn place_of(key: Key) -> usize
     ensures place { result ≡ key_place key }
     ensures within { result < 16 }
 {
@@ -38,7 +40,7 @@ fn place_of(key: Key) -> usize
 }
 
 /// Returns the key that is written so, if there is one; those of links, of which there are most, are tried first.
-fn key_named(text: &str) -> Option<Key>
+pub(crate) fn key_named(text: &str) -> Option<Key>
     ensures { result ≡ key_named text.now }
 {
     match text {
@@ -73,6 +75,13 @@ fn places_of(keys: &[Key]) -> [bool; KEYS]
     places
 }
 
+/// What the values of one table are read from: its tree, or its keys and values in the order of its text.
+#[derive(Clone, Copy)]
+pub(crate) enum Source<'a> {
+    Tree(&'a Table),
+    Pairs(&'a [(Key, Value)]),
+}
+
 /// The values of one table, each in the place of its key.
 #[derive(Clone, Copy)]
 pub(crate) struct Values<'a> {
@@ -81,7 +90,18 @@ pub(crate) struct Values<'a> {
 
 impl<'a> Values<'a> {
     /// Reads the values of a table; none if it has a key that is none of these.
-    pub(crate) fn read(keys: &[Key], table: &'a Table) -> Option<Values<'a>>
+    pub(crate) fn read(keys: &[Key], source: Source<'a>) -> Option<Values<'a>>
+        ensures { MatchOption result (are_known keys.now (members_of source.entry) ≡ false)
+            (λ v. (are_known keys.now (members_of source.entry) ≡ true) × AreValues v.slots (members_of source.entry)) }
+    {
+        match source {
+            Source::Tree(table) => Values::of_tree(keys, table),
+            Source::Pairs(pairs) => Values::of_pairs(keys, pairs),
+        }
+    }
+
+    /// Reads the values of a tree; none if it has a key that is none of these.
+    fn of_tree(keys: &[Key], table: &'a Table) -> Option<Values<'a>>
         ensures { MatchOption result (are_known keys.now (table_view table.now) ≡ false)
             (λ v. (are_known keys.now (table_view table.now) ≡ true) × AreValues v.slots (table_view table.now)) }
     {
@@ -95,6 +115,23 @@ impl<'a> Values<'a> {
             if slots[place].is_none() {
                 slots[place] = Some(value);
             }
+        }
+        Some(Values { slots })
+    }
+
+    /// Reads the values of these pairs, of which the last of a key counts; none if there is a key that is none of these.
+    fn of_pairs(keys: &[Key], pairs: &'a [(Key, Value)]) -> Option<Values<'a>>
+        ensures { MatchOption result (are_known keys.now (close (nodes_in pairs.now)) ≡ false)
+            (λ v. (are_known keys.now (close (nodes_in pairs.now)) ≡ true) × AreValues v.slots (close (nodes_in pairs.now))) }
+    {
+        let places = places_of(keys);
+        let mut slots = [None; KEYS];
+        for pair in pairs {
+            let place = place_of(pair.0);
+            if !places[place] {
+                return None;
+            }
+            slots[place] = Some(&pair.1);
         }
         Some(Values { slots })
     }

@@ -3,7 +3,7 @@ mod Runs
 mod Strings
 mod Keys
 mod Numbers
-mod Values
-mod Lines
+pub mod Values
+pub mod Lines
 mod Tables
 mod Joining

@@ -3,7 +3,7 @@ use Rattle.std.proofs.Common.{◌≡◌, ℕ, zero, suc, ◌<◌, ◌≤◌, ◌
 use Rattle.std.proofs.lemmas.Bool.{cases_Bool}
 use Rattle.std.proofs.lemmas.Bool.Decides.{nat_tests}
 use Rattle.std.proofs.lemmas.Option.{option_and_then_some}
-use Rattle.toml_parser.specs.Lexical.{Read, first, skip_blank}
+use Rattle.toml_parser.specs.Lexical.{Read, first, is_ws, skip_blank}
 use Rattle.toml_parser.specs.Strings.{Key, starts_string, quoted}
 use Rattle.toml_parser.specs.Numbers.{unquoted}
 use Rattle.toml.specs.Data.{Data, string, array, table, Items, no_items, push_item, Members}
@@ -122,6 +122,28 @@ val-start depth text d rest read =
       | inr other ↦ elim (cases_Bool (first text == 123)) [
         | inl brace ↦ grind (arith, nat_tests)
         | inr neither ↦ atom-start text d rest (sym (val_atom depth text other neither) ∙ read)
+      ]
+    ]
+
+atom-visible : (text : List ℕ) (d : Data) (rest : List ℕ) → atom text ≡ Some (d, rest) → is_ws (first text) ≡ false
+unfolding atom
+atom-visible text d rest read =
+    elim (cases_Bool (starts_string text)) [
+      | inl quote ↦ grind (arith, nat_tests)
+      | inr other ↦
+          let (s, at_s, same) = map_some scalar_data (unquoted text) d rest (rw other at read) in
+          let word = unquoted-start text s rest at_s in
+          grind (arith, nat_tests)
+    ]
+
+-- nor with a blank
+pub val-visible : (depth : ℕ) (text : List ℕ) (d : Data) (rest : List ℕ) → val depth text ≡ Some (d, rest) → is_ws (first text) ≡ false
+val-visible depth text d rest read =
+    elim (cases_Bool (first text == 91)) [
+      | inl bracket ↦ grind (arith, nat_tests)
+      | inr other ↦ elim (cases_Bool (first text == 123)) [
+        | inl brace ↦ grind (arith, nat_tests)
+        | inr neither ↦ atom-visible text d rest (sym (val_atom depth text other neither) ∙ read)
       ]
     ]
 

@@ -2,7 +2,7 @@ use Rattle.std.proofs.Common.{◌≡◌, length}
 use Rattle.toml.specs.View.{members_view, table_view}
 use Rattle.afdx_table.specs.Fields.{are_known}
 use Rattle.afdx_table.proofs.SlotLemmas.{ValuesYet}
-use Rattle.afdx_table.proofs.values.Values.read.Given as goal
+use Rattle.afdx_table.proofs.values.Values.of_tree.Given as goal
 
 abbrev pub invariant-loop-name : goal.invariant-loop-name
 invariant-loop-name l = record {

@@ -5,7 +5,7 @@ use Rattle.toml.specs.declared.value.Value.{Value}
 use Rattle.afdx_table.specs.Fields.{is_one_of}
 use Rattle.afdx_table.specs.Inner.Slots.{key_place, key_named, value_in}
 use Rattle.afdx_table.proofs.SlotLemmas.{is_one_of-named, is_one_of-unnamed, refused, accepted, found_or-none, nothing_yet, put, pass, free, taken}
-use Rattle.afdx_table.proofs.values.Values.read.Goals as goal
+use Rattle.afdx_table.proofs.values.Values.of_tree.Goals as goal
 
 pub loop-name-init : goal.loop-name-init
 loop-name-init c =
