@@ -1,13 +1,17 @@
 -- Lines that are each a key and its value: what the grammar reads of them, and what a table of them says.
-use Rattle.std.proofs.Common.{◌≡◌, ℕ, zero, suc, ◌+◌, ◌-◌, ◌<◌, Bool, true, false, ◌&&◌, ◌||◌, ◌==◌, List, [], ◌∷◌, ◌++◌, length, length-append, length-set, drop, codes, set, get_or-set_same, get_or-set_other}
-use Rattle.std.proofs.Common.{Option, Some, None, option_map, Bor, Ordering, Less, Equal, Greater, nat_cmp, is_eq, refl, sym, ap, ◌∙◌, inl, inr, arith, ◌≢◌}
-use Rattle.std.proofs.lemmas.Bool.{cases_Bool, true≢false, and_right, and_parts, or_parts, eqb-true}
-use Rattle.std.proofs.lemmas.Bool.Decides.{Decides-eqb}
+use Rattle.std.proofs.Common.{◌≡◌, ◌≢◌, ℕ, zero, suc, ◌+◌, ◌-◌, ◌<◌, Bool, true, false, ◌&&◌, ◌||◌, ◌==◌, List, [], ◌∷◌, ◌++◌, length, length-append, append_assoc, drop, codes}
+use Rattle.std.proofs.Common.{set, take, get_or, take-append-drop, get_or-set_same, get_or-set_other}
+use Rattle.std.proofs.Common.{Option, Some, None, option_map, Bor, Ordering, Less, Equal, Greater, nat_cmp, is_eq, refl, sym, ap, ◌∙◌, inl, inr, arith}
+use Rattle.std.proofs.lemmas.Bool.{cases_Bool, and_right, and_parts, or_parts, eqb-true}
+use Rattle.std.proofs.lemmas.Bool.Decides.{Decides-eqb, nat_tests}
 use Rattle.std.proofs.lemmas.Option.{cond_some, option_and_then_some}
 use Rattle.std.proofs.lemmas.Slice.Eq.{bytes_eq-Decides}
 use Rattle.std.proofs.lemmas.Map.Text.{is_eq-slice_cmp}
+use Rattle.std.proofs.Math.Numerals.{suc-eq-add-one}
+use Rattle.std.proofs.Math.Seq.{drop-cons}
 use Rattle.std.specs.List.{list_any}
 use Rattle.std.specs.Str.{bytes_eq}
+use Rattle.std.specs.Str.Pattern.{FindsText, FindsTextPrefix, SplitsAroundMatch, StripsPrefix}
 use Rattle.std.specs.Cmp.Lexicographic.{slice_cmp}
 use Rattle.std.specs.Ordering.{match_ordering}
 use Rattle.toml_parser.specs.Lexical.{first, skip_ws, skip_blank}
@@ -31,29 +35,47 @@ use Rattle.afdx_table.specs.Inner.Slots.{key_place, value_in, AreValues}
 use Rattle.afdx_table.specs.Inner.Pairs.{nodes_after, nodes_in, ReadsLines}
 use Rattle.afdx_table.proofs.SlotLemmas.{Slots, same_place, named, same_text, get_member-other, get_member-here, turned_not}
 
+-- the next of some pairs
+pub next_pair : (ps : List (Key × Value)) (i : ℕ) (p : Key × Value) → i < length ps → p ≡ get_or ps i p → drop i ps ≡ p ∷ drop (i + 1) ps
+next_pair ps i p lt is = drop-cons ps i p lt ∙ ap (λ x. x ∷ drop (suc i) ps) (sym is) ∙ ap (λ n. p ∷ drop n ps) (suc-eq-add-one i)
+
+-- the parts of a text round another, and behind one at its front
+pub split_text : (n s front back : List ℕ) → SplitsAroundMatch (FindsText n) s front back → s ≡ front ++ n ++ back
+split_text n s front back (i, j, (lacks, at), is_front, is_back, le, front_size, back_size) =
+    sym (take-append-drop i s) ∙ ap (λ (t : List ℕ). take i s ++ t) at.split ∙ sym (append_assoc (take i s) n (drop j s)) ∙ rw (is_front, is_back) refl
+
+pub strip_text : (n s back : List ℕ) → StripsPrefix (FindsTextPrefix n) s back → s ≡ n ++ back
+strip_text n s back (k, (size, split, at), is, rest) = rw is split
+
 -- ---- one line by itself
 
 -- a key's text begins neither a header nor a blank
 abbrev KeyStarts : List ℕ → Type 0
-KeyStarts text = ((first text == 91) ≡ false) × (starts_value (first text) ≡ true) × ((length text == 0) ≡ false)
+KeyStarts text = ((first text == 91) ≡ false) × (starts_value (first text) ≡ true)
 
-key_starts : (k : Key) (more : List ℕ) → KeyStarts (key_text k ++ more)
-key_starts key.Version more = (refl, refl, refl)
-key_starts key.Constant more = (refl, refl, refl)
-key_starts key.Latency more = (refl, refl, refl)
-key_starts key.Port more = (refl, refl, refl)
-key_starts key.Link more = (refl, refl, refl)
-key_starts key.Id more = (refl, refl, refl)
-key_starts key.Mbit more = (refl, refl, refl)
-key_starts key.Buffer more = (refl, refl, refl)
-key_starts key.MaxDelay more = (refl, refl, refl)
-key_starts key.From more = (refl, refl, refl)
-key_starts key.To more = (refl, refl, refl)
-key_starts key.Bag more = (refl, refl, refl)
-key_starts key.Jitter more = (refl, refl, refl)
-key_starts key.MaxSize more = (refl, refl, refl)
-key_starts key.Priority more = (refl, refl, refl)
-key_starts key.Police more = (refl, refl, refl)
+key_starts : (k : Key) (v : List ℕ) → KeyStarts (key_text k ++ codes " = " ++ v)
+key_starts key.Version v = (refl, refl)
+key_starts key.Constant v = (refl, refl)
+key_starts key.Latency v = (refl, refl)
+key_starts key.Port v = (refl, refl)
+key_starts key.Link v = (refl, refl)
+key_starts key.Id v = (refl, refl)
+key_starts key.Mbit v = (refl, refl)
+key_starts key.Buffer v = (refl, refl)
+key_starts key.MaxDelay v = (refl, refl)
+key_starts key.From v = (refl, refl)
+key_starts key.To v = (refl, refl)
+key_starts key.Bag v = (refl, refl)
+key_starts key.Jitter v = (refl, refl)
+key_starts key.MaxSize v = (refl, refl)
+key_starts key.Priority v = (refl, refl)
+key_starts key.Police v = (refl, refl)
+
+key_long : (k : Key) (v : List ℕ) → 0 < length (key_text k ++ codes " = " ++ v)
+key_long k v =
+    let whole = length-append (key_text k ++ codes " = ") v in
+    let front = length-append (key_text k) (codes " = ") in
+    omega (arith, whole, front)
 
 -- what is read of a key before its value
 key_read : (k : Key) (v : List ℕ) → key_equals (key_text k ++ codes " = " ++ v) ≡ Some (([], key_text k), skip_ws (32 ∷ v))
@@ -77,7 +99,7 @@ key_read key.Police v = refl
 
 none_left : (xs : List ℕ) → (length xs == 0) ≡ true → xs ≡ []
 none_left [] h = refl
-none_left (x ∷ xs) h = absurd (true≢false (sym h))
+none_left (x ∷ xs) h = absurd (grind (arith, nat_tests))
 
 no_mark : (v : List ℕ) → (first v == 239) ≡ false → skip_bom v ≡ v
 unfolding skip_bom
@@ -91,7 +113,8 @@ whole_value v d unmarked parsed =
     let (none, same) = cond_some (length x.1 == 0) x.0 d over in
     found ∙ ap (λ (e : Data). Some (e, x.1)) same ∙ ap (λ (r : List ℕ). Some (d, r)) (none_left x.1 none))
 
-pair_line : (text v name : List ℕ) (d : Data) → (first text == 91) ≡ false → key_equals text ≡ Some (([], name), v) → val 80 v ≡ Some (d, []) → line text ≡ Some ((([], name), key_value d), [])
+pair_line : (text v name : List ℕ) (d : Data) → (first text == 91) ≡ false → key_equals text ≡ Some (([], name), v) → val 80 v ≡ Some (d, [])
+    → line text ≡ Some ((([], name), key_value d), [])
 unfolding line expression skip_ws
 pair_line text v name d other key_is value_is = rw (other, keyval_ok (val 80) text v [] ([], name) d key_is value_is) refl
 
@@ -104,14 +127,16 @@ line_alone : (k : Key) (v : List ℕ) (d : Data) (ns : Nodes) → (first v == 23
     → lines (suc (length (key_text k ++ codes " = " ++ v))) (ns, []) (key_text k ++ codes " = " ++ v) ≡ Some (insert (key_text k) (value d) ns, [])
 line_alone k v d ns unmarked parsed new =
     let text : List ℕ = key_text k ++ codes " = " ++ v in
-    let (other, start, some) = key_starts k (codes " = " ++ v) in
+    let (other, start) = key_starts k v in
+    let long = key_long k v in
+    let some : (length (key_text k ++ codes " = " ++ v) == 0) ≡ false = grind (arith, nat_tests) in
     let read = whole_value v d unmarked parsed in
     let at_value : skip_ws (32 ∷ v) ≡ v = skip_ws_space v ∙ skip_ws_none v (val-visible 80 v d [] read) in
     let key_is : key_equals text ≡ Some (([], key_text k), v) = key_read k v ∙ ap (λ (t : List ℕ). Some (([], key_text k), t)) at_value in
     let same : skip_blank text ≡ text = skip_start text start in
     let line_is = pair_line text v (key_text k) d other key_is read in
-    let long : 0 < length text = grind (arith, nat_tests) in
-    lines_more (suc (length text)) (ns, []) (insert (key_text k) (value d) ns, []) text (([], key_text k), key_value d) [] (omega arith) (rw same some) (rw same line_is) (pair_defined (key_text k) d ns new)
+    lines_more (suc (length text)) (ns, []) (insert (key_text k) (value d) ns, []) text (([], key_text k), key_value d) [] (omega arith)
+        (rw same some) (rw same line_is) (pair_defined (key_text k) d ns new)
     ∙ lines_end (suc (length text) - 1) (insert (key_text k) (value d) ns, []) [] (omega (arith, long)) (ap length (skip_from-nil true false))
 
 -- ---- the nodes of pairs
@@ -259,8 +284,8 @@ pairs_refuse ks slots p rest all none yet =
     ap (λ (ns : Nodes). are_known ks (close ns)) (sym yet.whole) ∙ unknown_after ks rest (insert (key_text p.0) (value (view p.1)) yet.nodes) here
 
 -- a pair whose value is put in its place
-pub pairs_put : (ks : List Key) (slots : Slots) (p : Key × Value) (v : Bor Value) (rest all : List (Key × Value)) → is_one_of ks (key_text p.0) ≡ true → v.now ≡ p.1 → key_place p.0 < length slots
-    → PairsYet ks slots (p ∷ rest) all → PairsYet ks (set slots (key_place p.0) (Some v)) rest all
+pub pairs_put : (ks : List Key) (slots : Slots) (p : Key × Value) (v : Bor Value) (rest all : List (Key × Value)) → is_one_of ks (key_text p.0) ≡ true
+    → v.now ≡ p.1 → key_place p.0 < length slots → PairsYet ks slots (p ∷ rest) all → PairsYet ks (set slots (key_place p.0) (Some v)) rest all
 pairs_put ks slots p v rest all one is within yet =
     let x : Node = value (view p.1) in
     record {
@@ -282,7 +307,8 @@ pairs_put ks slots p v rest all one is within yet =
       known = known_insert ks (key_text p.0) x yet.nodes ∙ rw (one, yet.known) refl;
     }
 
-pub pairs_over : (ks : List Key) (slots : Slots) (rest all : List (Key × Value)) → rest ≡ [] → PairsYet ks slots rest all → (are_known ks (close (nodes_in all)) ≡ true) × AreValues slots (close (nodes_in all))
+pub pairs_over : (ks : List Key) (slots : Slots) (rest all : List (Key × Value)) → rest ≡ [] → PairsYet ks slots rest all
+    → (are_known ks (close (nodes_in all)) ≡ true) × AreValues slots (close (nodes_in all))
 pairs_over ks slots rest all none yet =
     let same : yet.nodes ≡ nodes_in all = ap (nodes_after yet.nodes) (sym none) ∙ yet.whole in
     (ap (λ (ns : Nodes). are_known ks (close ns)) (sym same) ∙ yet.known, λ k. yet.values k ∙ ap (λ (ns : Nodes). get_member (key_text k) (close ns)) same)

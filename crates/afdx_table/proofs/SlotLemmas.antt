@@ -79,6 +79,10 @@ found_passes test (x ∷ ks) k h =
 names : (text : List ℕ) (k : Key) → bytes_eq text (key_text k) ≡ true → key_named text ≡ Some k
 names text k h = ap key_named ((bytes_eq-Decides text (key_text k)).0 h) ∙ named k
 
+-- a text that names a key is that key's
+pub named_is : (text : List ℕ) (k : Key) → key_named text ≡ Some k → text ≡ key_text k
+named_is text k h = (bytes_eq-Decides text (key_text k)).0 (found_passes (λ x. bytes_eq text (key_text x)) keys k h)
+
 -- whether a text that names j is the text of k
 pub same_text : (text : List ℕ) (j k : Key) → key_named text ≡ Some j → bytes_eq text (key_text k) ≡ (key_place k == key_place j)
 same_text text j k h =

@@ -1,10 +1,11 @@
 //! The keys and values of a link's text whose lines are each written `key = value`, so that no tree of the text is made.
 
-ghost use Rattle.std.specs.Prelude.{◌≡◌, ◌≢◌, ◌==◌, ◌++◌, ◌∷◌, [], true, false, Some, IfSome, MatchOption, length, slice_index, codes, is_some, list_any};
+ghost use Rattle.std.specs.Prelude.{◌≡◌, ℕ, List, ◌==◌, ◌++◌, ◌∷◌, true, false, Some, IfSome, MatchOption, slice_index, codes};
+ghost use Rattle.std.specs.List.{list_any};
 ghost use Rattle.toml.specs.View.{view};
 ghost use Rattle.toml.specs.Parse.{parse_document, parse_value};
-ghost use Rattle.toml.specs.Tables.{close, get_node, lines};
-ghost use Rattle.afdx_toml_split.specs.Joined.{is_plain, are_plain};
+ghost use Rattle.toml.specs.Tables.{close};
+ghost use Rattle.afdx_toml_split.specs.Joined.{are_plain};
 ghost use Rattle.afdx_table.specs.Names.{key_text};
 ghost use Rattle.afdx_table.specs.Inner.Slots.{key_place};
 ghost use Rattle.afdx_table.specs.Inner.Pairs.{nodes_in, ReadsLines};
@@ -18,7 +19,7 @@ use toml::Value;
 /// The most keys of a link.
 const LINK_KEYS: usize = 8;
 
-/// The first byte of a byte order mark, which is white space before a value that is read by itself, and not in a text.
+/// The first byte of a byte order mark, which may stand before a value that is read by itself, and not before one in a text.
 const MARK: u8 = 0xEF;
 
 /// Returns the first byte of a text, or 0.
@@ -52,7 +53,7 @@ fn has_key(pairs: &[(Key, Value)], key: Key) -> bool
 
 /// Reads a line as a key and its value; none if it is not written so, or if no table has the key.
 fn read_pair(alloc: Global, line: &str) -> Option<(Key, Value)>
-    ensures { IfSome result (λ p. (text : List ℕ) × (line.now ≡ key_text p.0 ++ codes " = " ++ text) × (slice_index text 0 ≢ 239)
+    ensures { IfSome result (λ p. (text : List ℕ) × (line.now ≡ key_text p.0 ++ codes " = " ++ text) × ((slice_index text 0 == 239) ≡ false)
         × (parse_value text ≡ Some (view p.1))) }
 {
     let (name, text) = line.split_once(" = ")?;
@@ -76,7 +77,8 @@ fn add_line(alloc: Global, pairs: &mut Vec<(Key, Value)>, line: &str) -> Option<
     if has_key(pairs, key) || !is_plain(&value) {
         return None;
     }
-    pairs.push((key, value)).ok()
+    pairs.push((key, value)).ok()?;
+    Some(())
 }
 
 /// Reads the keys and values of a text that begins with a line end, and of which each line is empty or a key and its value; none if it
@@ -86,7 +88,7 @@ pub(crate) fn read_pairs(alloc: Global, text: &str) -> Option<Vec<(Key, Value)>>
 {
     let mut rest = text.strip_prefix("\n")?;
     let mut pairs = Vec::with_capacity(alloc, LINK_KEYS).ok()?;
-    loop {
+    'lines: loop {
         let (line, behind) = cut_line(rest);
         add_line(alloc, &mut pairs, line)?;
         match behind {

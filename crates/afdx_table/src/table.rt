@@ -230,8 +230,9 @@ fn read_by_links(alloc: Global, bytes: &[u8]) -> Option<Table>
 ///    each member of `to` from the left, `NoSuchPort`, `ToOwnPort`, `ToTwice`.
 ///
 /// Links at the end of a text, each after a line `[[link]]`, are read one by one, so that no tree of the whole text is made, which
-/// takes about 14 times its memory. All else is read whole: links that are written otherwise, lines that end in a carriage return,
-/// and a text that is refused, for its first refusal.
+/// takes about 14 times its memory; and a link whose lines are each `key = value`, or empty, is read value by value, so that no tree
+/// of the link is made. All else is read whole: links that are written otherwise, lines that end in a carriage return, and a text that
+/// is refused, for its first refusal.
 ///
 /// O(n) time and memory in the length of the text; only if a text has many keys at one place does their sorting add a factor of
 /// O(log n).
