@@ -1,7 +1,7 @@
 -- Lines that are each a key and its value: what the grammar reads of them, and what a table of them says.
-use Rattle.std.proofs.Common.{◌≡◌, ◌≢◌, ℕ, zero, suc, ◌+◌, ◌-◌, ◌<◌, Bool, true, false, ◌&&◌, ◌||◌, ◌==◌, List, [], ◌∷◌, ◌++◌, length, length-append, append_assoc, drop, codes}
+use Rattle.std.proofs.Common.{◌≡◌, ◌≢◌, ℕ, suc, ◌+◌, ◌-◌, ◌<◌, Bool, true, false, ◌&&◌, ◌==◌, List, [], ◌∷◌, ◌++◌, length, length-append, append_assoc, drop, codes}
 use Rattle.std.proofs.Common.{set, take, get_or, take-append-drop, get_or-set_same, get_or-set_other}
-use Rattle.std.proofs.Common.{Option, Some, None, option_map, Bor, Ordering, Less, Equal, Greater, nat_cmp, is_eq, refl, sym, ap, ◌∙◌, inl, inr, arith}
+use Rattle.std.proofs.Common.{Some, None, option_map, Bor, Ordering, Less, Equal, Greater, nat_cmp, is_eq, refl, sym, ap, ◌∙◌, inl, inr, arith}
 use Rattle.std.proofs.lemmas.Bool.{cases_Bool, and_right, and_parts, or_parts, eqb-true}
 use Rattle.std.proofs.lemmas.Bool.Decides.{Decides-eqb, nat_tests}
 use Rattle.std.proofs.lemmas.Option.{cond_some, option_and_then_some}
@@ -20,7 +20,7 @@ use Rattle.toml_parser.proofs.LexicalLemmas.{skip_ws_none, skip_ws_space, skip_f
 use Rattle.toml.specs.Data.{Data, no_members, member, same_key, get_member}
 use Rattle.toml.specs.View.{view}
 use Rattle.toml.specs.Tables.{Node, Nodes, no_nodes, node, value, get_node, insert, close, close_node, key_value, define, along_header, along_dots}
-use Rattle.toml.specs.Parse.{skip_bom, key_equals, keyval, val, expression, line, lines, parse_value, parse_document}
+use Rattle.toml.specs.Parse.{skip_bom, key_equals, val, expression, line, lines, parse_value, parse_document}
 use Rattle.toml.specs.declared.value.Value.{Value}
 use Rattle.toml.proofs.Blanks.{starts_value, skip_start}
 use Rattle.toml.proofs.Turns.{keyval_ok, document_some, lines_end, lines_more, at_key_new}

@@ -1,4 +1,4 @@
-use Rattle.std.proofs.Common.{rules, ◌≡◌, ◌++◌, ◌∷◌, ◌∙◌, [], true, sym, arith}
+use Rattle.std.proofs.Common.{rules, ◌≡◌, ◌++◌, ◌∷◌, ◌∙◌, [], sym, arith}
 use Rattle.std.proofs.lemmas.Grind.{common_steps}
 use Rattle.afdx_table.proofs.PairLemmas.{reads_none, reads_pair}
 use Rattle.afdx_table.proofs.pairs.add_line.Goals as goal

@@ -1,8 +1,7 @@
-use Rattle.std.proofs.Common.{rules, ◌≡◌, ◌==◌, ◌++◌, ◌∷◌, ◌∙◌, [], false, Some, sym, slice_index}
+use Rattle.std.proofs.Common.{rules, ◌≡◌, ◌==◌, ◌∷◌, ◌∙◌, [], Some, sym, slice_index}
 use Rattle.std.proofs.lemmas.Bool.{eqb-true, false_from_ne_true}
 use Rattle.toml.specs.View.{view}
 use Rattle.toml.specs.Parse.{parse_value}
-use Rattle.afdx_table.specs.Names.{key_text}
 use Rattle.afdx_table.proofs.SlotLemmas.{named_is}
 use Rattle.afdx_table.proofs.PairLemmas.{split_text}
 use Rattle.afdx_table.proofs.pairs.read_pair.Goals as goal

@@ -1,7 +1,6 @@
 use Rattle.std.proofs.Common.{◌≡◌, ℕ, List, [], ◌∷◌, ◌++◌, length}
 use Rattle.std.specs.Str.{IsUtf8}
 use Rattle.afdx_table.specs.Inner.Pairs.{ReadsLines}
-use Rattle.afdx_table.proofs.PairLemmas.{reads_join}
 use Rattle.afdx_table.proofs.pairs.read_pairs.Given as goal
 
 abbrev pub invariant-lines : goal.invariant-lines
