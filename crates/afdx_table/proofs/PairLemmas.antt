@@ -136,7 +136,7 @@ line_alone k v d ns unmarked parsed new =
     let same : skip_blank text ≡ text = skip_start text start in
     let line_is = pair_line text v (key_text k) d other key_is read in
     lines_more (suc (length text)) (ns, []) (insert (key_text k) (value d) ns, []) text (([], key_text k), key_value d) [] (omega arith)
-        (rw same some) (rw same line_is) (pair_defined (key_text k) d ns new)
+    (rw same some) (rw same line_is) (pair_defined (key_text k) d ns new)
     ∙ lines_end (suc (length text) - 1) (insert (key_text k) (value d) ns, []) [] (omega (arith, long)) (ap length (skip_from-nil true false))
 
 -- ---- the nodes of pairs

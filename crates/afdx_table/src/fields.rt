@@ -113,11 +113,7 @@ pub(crate) struct Fields<'a> {
 impl<'a> Fields<'a> {
     /// Reads the fields of a table, and refuses a key that is none of these.
     #[tactic(auto, unfolding(crate::specs::Fields::known_at))]
-    pub(crate) fn read(
-        at: At,
-        keys: &[Key],
-        source: Source<'a>,
-    ) -> Result<Fields<'a>, TableFault>
+    pub(crate) fn read(at: At, keys: &[Key], source: Source<'a>) -> Result<Fields<'a>, TableFault>
         ensures known { Gives (λ _. tt) result (known_at at keys.now (members_of source.entry)) }
         ensures fields { IfOk result (λ f. (f.at ≡ at) × (members_of f.source ≡ members_of source.entry) × AreValues f.values.slots (members_of source.entry)) }
         ensures no_memory { IfErr result (λ e. e ≢ Memory) }

@@ -42,11 +42,7 @@ fn check_targets(at: At, ports: &[PortRow], from: u8, to: &[u8]) -> Result<(), T
 }
 
 /// Reads the fields of a link, and refuses a key that no link has in this version.
-fn link_fields<'a>(
-    version: u64,
-    at: At,
-    source: Source<'a>,
-) -> Result<Fields<'a>, TableFault>
+fn link_fields<'a>(version: u64, at: At, source: Source<'a>) -> Result<Fields<'a>, TableFault>
     ensures known { Gives (λ _. tt) result (known_at at (link_keys version) (members_of source.entry)) }
     ensures fields { IfOk result (λ f. (f.at ≡ at) × (members_of f.source ≡ members_of source.entry) × AreValues f.values.slots (members_of source.entry)) }
 {

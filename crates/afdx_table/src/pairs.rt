@@ -81,8 +81,8 @@ fn add_line(alloc: Global, pairs: &mut Vec<(Key, Value)>, line: &str) -> Option<
     Some(())
 }
 
-/// Reads the keys and values of a text that begins with a line end, and of which each line is empty or a key and its value; none if it
-/// is not written so, if a key is there twice, or if a value is a table or an array that ends in one. O(text).
+/// Reads the keys and values of a link's text, which begins with a line end, and of which each line is empty or a key and its value;
+/// none if it is not written so, if a key is there twice, or if a value is a table or an array that ends in one. O(text).
 pub(crate) fn read_pairs(alloc: Global, text: &str) -> Option<Vec<(Key, Value)>>
     ensures { IfSome result (λ pairs. (parse_document text.now ≡ Some (close (nodes_in pairs.items))) × (are_plain (close (nodes_in pairs.items)) ≡ true)) }
 {
