@@ -1,6 +1,6 @@
 -- Lines that are each a key and its value: what the grammar reads of them, and what a table of them says.
 use Rattle.std.proofs.Common.{◌≡◌, ◌≢◌, ℕ, suc, ◌+◌, ◌-◌, ◌<◌, Bool, true, false, ◌&&◌, ◌==◌, List, [], ◌∷◌, ◌++◌, length, length-append, append_assoc, drop, codes}
-use Rattle.std.proofs.Common.{set, take, get_or, take-append-drop, get_or-set_same, get_or-set_other}
+use Rattle.std.proofs.Common.{set, take, get_or, take-append-drop, drop_of_length-le, le_refl, encode_utf8, get_or-set_same, get_or-set_other}
 use Rattle.std.proofs.Common.{Some, None, option_map, Bor, Ordering, Less, Equal, Greater, nat_cmp, is_eq, refl, sym, ap, ◌∙◌, inl, inr, arith}
 use Rattle.std.proofs.lemmas.Bool.{cases_Bool, and_right, and_parts, or_parts, eqb-true}
 use Rattle.std.proofs.lemmas.Bool.Decides.{Decides-eqb, nat_tests}
@@ -11,7 +11,7 @@ use Rattle.std.proofs.Math.Numerals.{suc-eq-add-one}
 use Rattle.std.proofs.Math.Seq.{drop-cons}
 use Rattle.std.specs.List.{list_any}
 use Rattle.std.specs.Str.{bytes_eq}
-use Rattle.std.specs.Str.Pattern.{FindsText, FindsTextPrefix, SplitsAroundMatch, StripsPrefix}
+use Rattle.std.specs.Str.Pattern.{FindsChar, FindsCharPrefix, FindsCharSuffix, FindsTextPrefix, SplitsAroundMatch, StripsPrefix, StripsSuffix}
 use Rattle.std.specs.Cmp.Lexicographic.{slice_cmp}
 use Rattle.std.specs.Ordering.{match_ordering}
 use Rattle.toml_parser.specs.Lexical.{first, skip_ws, skip_blank}
@@ -39,11 +39,30 @@ use Rattle.afdx_table.proofs.SlotLemmas.{Slots, same_place, named, same_text, ge
 pub next_pair : (ps : List (Key × Value)) (i : ℕ) (p : Key × Value) → i < length ps → p ≡ get_or ps i p → drop i ps ≡ p ∷ drop (i + 1) ps
 next_pair ps i p lt is = drop-cons ps i p lt ∙ ap (λ x. x ∷ drop (suc i) ps) (sym is) ∙ ap (λ n. p ∷ drop n ps) (suc-eq-add-one i)
 
--- the parts of a text round another, and behind one at its front
-pub split_text : (n s front back : List ℕ) → SplitsAroundMatch (FindsText n) s front back → s ≡ front ++ n ++ back
-split_text n s front back (i, j, (lacks, at), is_front, is_back, le, front_size, back_size) =
-    sym (take-append-drop i s) ∙ ap (λ (t : List ℕ). take i s ++ t) at.split ∙ sym (append_assoc (take i s) n (drop j s)) ∙ rw (is_front, is_back) refl
+-- the parts of a text round a character, and what it leaves at one end
+split_char : (c : ℕ) (s front back : List ℕ) → SplitsAroundMatch (FindsChar c) s front back → s ≡ front ++ (encode_utf8 c ++ back)
+split_char c s front back (i, j, (lacks, at), is_front, is_back, le, front_size, back_size) =
+    sym (take-append-drop i s) ∙ ap (λ (t : List ℕ). take i s ++ t) at.split ∙ rw (is_front, is_back) refl
 
+strip_front : (c : ℕ) (s back : List ℕ) → StripsPrefix (FindsCharPrefix c) s back → s ≡ encode_utf8 c ++ back
+strip_front c s back (k, at, is, rest) = rw is at.split
+
+strip_end : (c : ℕ) (s front : List ℕ) → StripsSuffix (FindsCharSuffix c) s front → s ≡ front ++ (encode_utf8 c ++ [])
+strip_end c s front (k, (width, at, boundary), is, rest) =
+    let none : drop (length s) s ≡ [] = drop_of_length-le s (le_refl (length s)) in
+    sym (take-append-drop (length s - k) s) ∙ ap (λ (t : List ℕ). take (length s - k) s ++ t) (at.split ∙ ap (λ (t : List ℕ). encode_utf8 c ++ t) none) ∙ rw is refl
+
+-- a line whose key and value are parted by ` = `
+pub pair_text : (all before after name text : List ℕ) → SplitsAroundMatch (FindsChar 61) all before after → StripsSuffix (FindsCharSuffix 32) before name
+    → StripsPrefix (FindsCharPrefix 32) after text → all ≡ name ++ 32 ∷ 61 ∷ 32 ∷ [] ++ text
+unfolding lib.Utf8.encode
+pair_text all before after name text split suffix prefix =
+    let whole : all ≡ before ++ 61 ∷ after = split_char 61 all before after split in
+    let front : before ≡ name ++ 32 ∷ [] = strip_end 32 before name suffix in
+    let behind : after ≡ 32 ∷ text = strip_front 32 after text prefix in
+    whole ∙ rw (front, behind) (append_assoc name (32 ∷ []) (61 ∷ 32 ∷ text) ∙ sym (append_assoc name (32 ∷ 61 ∷ 32 ∷ []) text))
+
+-- the text behind another at its front
 pub strip_text : (n s back : List ℕ) → StripsPrefix (FindsTextPrefix n) s back → s ≡ n ++ back
 strip_text n s back (k, (size, split, at), is, rest) = rw is split
 

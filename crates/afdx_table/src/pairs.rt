@@ -33,7 +33,7 @@ fn first_byte(text: &str) -> u8
 fn cut_line(text: &str) -> (&str, Option<&str>)
     ensures { MatchOption result.1 (result.0.now ≡ text.now) (λ behind. text.now ≡ result.0.now ++ 10 ∷ behind.now) }
 {
-    match text.split_once("\n") {
+    match text.split_once('\n') {
         Some((line, behind)) => (line, Some(behind)),
         None => (text, None),
     }
@@ -56,7 +56,9 @@ fn read_pair(alloc: Global, line: &str) -> Option<(Key, Value)>
     ensures { IfSome result (λ p. (text : List ℕ) × (line.now ≡ key_text p.0 ++ codes " = " ++ text) × ((slice_index text 0 == 239) ≡ false)
         × (parse_value text ≡ Some (view p.1))) }
 {
-    let (name, text) = line.split_once(" = ")?;
+    let (before, after) = line.split_once('=')?;
+    let name = before.strip_suffix(' ')?;
+    let text = after.strip_prefix(' ')?;
     let key = key_named(name)?;
     if first_byte(text) == MARK {
         return None;
