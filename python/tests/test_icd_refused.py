@@ -490,6 +490,61 @@ def test_headings_of_other_meanings(tmp_path: Path, heading: str) -> None:
     assert not complaints.found
 
 
+@pytest.mark.parametrize("order, column, heading, word, unit", [
+    (0, "jitter_us", "Jitter [ms]", "ms", "in us"), (0, "jitter_us", "JITTER_MS", "ms", "in us"),
+    (0, "bag_ms", "Rate (Hz)", "hz", "in ms"), (0, "bag_ms", "BAG/\u00b5s", "\u03bcs", "in ms"),
+    (0, "id", "VL (hex)", "hex", "decimal"), (0, "max_size", "Max payload", "payload", "the whole frame"),
+    (0, "udp_payload", "Lmax", "lmax", "the UDP payload"), (1, "buffer", "Buffer, KiB", "kib", "in bytes"),
+    (1, "buffer", "Buffer kByte", "kbyte", "in bytes"),
+    (1, "max_delay_us", "MaxDelayMs", "ms", "in us"), (2, "delay_ns", "Cable\ndelay us", "us", "in ns")])
+def test_headings_with_another_unit(tmp_path: Path, order: int, column: str, heading: str, word: str,
+                                    unit: str) -> None:
+    """Checks that the mapping does not make such values those of the column, and may name a heading that says both."""
+    lists = [worked_lists.LINKS, worked_lists.ENDS.replace("mbit", "mbit,buffer,max_delay_us"), worked_lists.WIRES]
+    section, path = ("", ".ends", ".wires")[order], tmp_path / "map.toml"
+    for text, refused in ((heading, True), (f"{heading} ({unit.replace('whole ', '')})", False)):
+        shown = " ".join(text.split())
+        path.write_text(f'[columns{section}]\n{column} = "{shown}"\n', encoding="utf-8")
+        paths = worked_lists.write(tmp_path, *(own.replace(column, f'"{text}"') if at == order else own
+                                               for at, own in enumerate(lists)))
+        complaints = Complaints()
+        if not refused:
+            assert column in lists_of("afdx-icd", paths, mapping.read("afdx-icd", path), complaints)[order].places
+            continue
+        what = f'"{word}" in its heading: the values of {column} have to be {unit}'
+        assert refusal(paths, "--mapping", str(path)).lines == (
+            f"afdx-icd: {what}, {paths[order]} line 1, column {shown}",)
+
+
+def test_cells_below_empty_headings(tmp_path: Path) -> None:
+    """Checks that receivers right of those that are read are not passed over, in a .csv as in a merged heading's."""
+    links = worked_lists.LINKS.replace(",to,", ",to,,,").replace(",B1|C1,", ",B1,,C1,").replace('"C1, C2",', "C1,C2,,")
+    links = links.replace(",C2,A2,", ",C2,A2,,,").replace(",A1,A2,", ",A1,A2,,,")
+    paths = worked_lists.write(tmp_path, links + "Note 1,,,,see below,,,,,,,,\n")
+    bare = "no heading above this cell: its column has to have one, or to go"
+    assert refusal(paths).lines == (
+        line(bare, paths[0], 2, "6", "C1"), line(bare, paths[0], 3, "5", "C2"), line(NOTE, paths[0], 6, "1", "Note 1"))
+
+
+def test_receivers_in_rows_of_their_own(tmp_path: Path) -> None:
+    """Checks that a row of receivers alone is not called a note."""
+    links = worked_lists.LINKS.replace("B1|C1", "B1").replace("11,", ",,,C1,,,,,,,\n11,", 1)
+    links = links.replace("12,", '11,,,"B1, C2",,,,,,,\n12,', 1)
+    paths = worked_lists.write(tmp_path, links + ",,,later,,,,,,,\n")
+    what = "receivers without a sender: all of a link have to stand in its row, with | between them"
+    assert refusal(paths).lines == (
+        line(what, paths[0], 3, "4", "C1"), line(what, paths[0], 5, "1", "11"), line(NOTE, paths[0], 8, "4", "later"))
+
+
+@pytest.mark.parametrize("between, is_told", [
+    ("; ", True), ("/", True), (" and ", True), (" + ", True), ("\n", True), (" ", False), (" und ", False)])
+def test_other_separators_of_receivers(tmp_path: Path, between: str, is_told: bool) -> None:
+    paths = worked_lists.write(tmp_path, worked_lists.LINKS.replace("B1|C1", f'"B1{between}C1"'))
+    hint = ": receivers have | or , between them" * is_told
+    shown, value = " ".join(f"B1{between}C1".split()), f"B1{between}C1".replace("\n", "\\n")
+    assert refusal(paths).lines == (line(f"no such end system as {shown}{hint}", paths[0], 2, "to", value),)
+
+
 def test_headings_that_are_no_column(tmp_path: Path) -> None:
     """Checks that a name beside the numbers of links may be called as it likes, and that half of a name is none."""
     heading = "id,name (long),from,to,bag_ms,jitter_us,max_size,payload,priority,pol,by way of"

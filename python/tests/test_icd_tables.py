@@ -1,9 +1,11 @@
 """The tables of three switches in a triangle, worked out by hand, jitters too."""
+import csv
 import io
 import sys
 import tomllib
 from pathlib import Path
 
+import openpyxl
 import pytest
 import tomlkit
 from hypothesis import given, strategies
@@ -119,6 +121,37 @@ def test_a_switch_that_one_cable_alone_names(tmp_path: Path, capsys: pytest.Capt
     assert capsys.readouterr().err == (
         "afdx-icd: warning: switch Bx has this cable alone and no end system: is its name right?, "
         f'{paths[2]} line 5, column switch_b, value "Bx"\n')
+
+
+def test_what_is_not_read_is_named(tmp_path: Path, capfdbinary: pytest.CaptureFixture[bytes]) -> None:
+    """Checks the lines of columns and sheets, and the warning of a heading that has another number than one that is
+    read."""
+    paths, mapping = worked_lists.write(tmp_path), tmp_path / "map.toml"
+    mapping.write_text('[columns]\nto = "Dest 1"\n', encoding="utf-8")
+    made(paths, tmp_path / "net")
+    said = capfdbinary.readouterr().out.decode()
+    book = openpyxl.Workbook()
+    for cells in csv.reader(io.StringIO(worked_lists.LINKS.replace(",to,", ",Dest 1,"))):
+        book.active.append([*cells, *(["The\nway", "DEST_2", 5] if cells[0] == "id" else [])])
+    book.create_sheet("part 2").append(["15", "more"])
+    book.create_sheet("empty")
+    book.save(tmp_path / "icd.xlsx")
+    made([tmp_path / "icd.xlsx", *paths[1:]], tmp_path / "net", "--mapping", str(mapping))
+    place, answer = f'{tmp_path}/icd.xlsx sheet', capfdbinary.readouterr()
+    unread = f'{place} "Sheet" not read: "The way", "DEST_2", "5"\n{place} "part 2" not read\n'
+    assert answer.out.decode() == unread + said.replace("written", "unchanged")
+    assert answer.err.decode() == ('afdx-icd: warning: not read, but "Dest 1" is: what counts has to be in that column, '
+                                   f'{place} "Sheet" line 1, column DEST_2\n')
+
+
+def test_a_size_of_the_mapping_counts_where_the_row_has_none(tmp_path: Path) -> None:
+    links = worked_lists.LINKS.replace(",128,1000,1518,", ",128,1000,,")
+    paths, mapping = worked_lists.write(tmp_path), tmp_path / "map.toml"
+    first = made(paths, tmp_path / "net")
+    paths = worked_lists.write(tmp_path, links)
+    for default in ("max_size = 1518", "udp_payload = 1471"):
+        mapping.write_text(f"[defaults]\n{default}\n", encoding="utf-8")
+        assert made(paths, tmp_path / "net", "--mapping", str(mapping)) == first
 
 
 def test_a_warning_that_nobody_takes(tmp_path: Path, monkeypatch: pytest.MonkeyPatch) -> None:

@@ -7,6 +7,7 @@ from typing import Generic, TypeVar
 T = TypeVar("T")
 SWITCH = re.compile(r"[A-Za-z0-9_-]{1,16}", re.ASCII)
 NUMBER = re.compile(r"[0-9]{1,18}", re.ASCII)
+SEPARATOR = re.compile(r"[|,]")  # between the names in a cell
 
 
 class Unfit(Exception):
@@ -14,13 +15,31 @@ class Unfit(Exception):
 
 
 @dataclass(frozen=True)
+class Unit:
+    """What the values of a column are in, and which words of a heading say so, or that they are in something else."""
+    what: str
+    own: frozenset[str]
+    others: frozenset[str]
+
+    def other_in(self, heading: str) -> str:
+        """Returns the first word of a heading that says something else, or nothing; one that says both is right. `kByte`
+        is one word here, `JitterMs` two."""
+        said = self.own | self.others
+        wholes = re.findall(r"[^\W_]+", heading)
+        words = [part for whole in wholes for part in ([whole.casefold()] if whole.casefold() in said else words_of(whole))]
+        others = [word for word in words if word in self.others]
+        return others[0] if others and self.own.isdisjoint(words) else ""
+
+
+@dataclass(frozen=True)
 class Column(Generic[T]):
-    """A column: its key in the mapping, what reads its cells, what stands for an empty one, if one may be empty, and
-    how it may be called too: a heading that looks so is not passed over in silence."""
+    """A column: its key in the mapping, what reads its cells, what stands for an empty one, if one may be empty, how it
+    may be called too, so that a heading that looks so is not passed over in silence, and what its values are in."""
     key: str
     reader: Callable[[str], T]
     default: str | None = None
     also: tuple[str, ...] = ()
+    unit: Unit | None = None
 
 
 def number(text: str) -> int:
@@ -96,7 +115,7 @@ def switch(text: str) -> str:
 
 def parts(text: str) -> list[str]:
     """Reads what lies between | or commas; an empty cell has no parts."""
-    found = [printable(part) for part in re.split(r"[|,]", text)] if text else []
+    found = [printable(part) for part in SEPARATOR.split(text)] if text else []
     if "" in found:
         raise Unfit("an empty name between two separators")
     twice = [part for place, part in enumerate(found) if part in found[:place]]

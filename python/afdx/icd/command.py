@@ -40,9 +40,9 @@ def hops_of(links: List, read: Network) -> dict[int, list[Hop]]:
     return hops
 
 
-def read_all(options: argparse.Namespace, mapped: mapping.Mapping) -> tuple[Network, dict[int, list[Hop]]]:
+def read_all(options: argparse.Namespace, mapped: mapping.Mapping) -> tuple[Network, dict[int, list[Hop]], str]:
     """Reads the lists and finds the ways, or ends the command with all that is wrong. Ways are looked for only in sound
-    lists of end systems and cables."""
+    lists of end systems and cables. Returns the network, the ways and lines of what was not read."""
     complaints = Complaints()
     lists = network.lists_of(COMMAND, [options.icd, options.ends, options.wires], mapped, complaints)
     read = network.read(lists)
@@ -50,7 +50,7 @@ def read_all(options: argparse.Namespace, mapped: mapping.Mapping) -> tuple[Netw
     hops = hops_of(lists[0], read) if sound else {}
     complaints.refuse(COMMAND)
     tell(*complaints.warnings(COMMAND))
-    return read, hops
+    return read, hops, "".join(f"{line}\n" for of in lists for line in of.passed_over())
 
 
 def put_changed(folder: Path, texts: dict[str, bytes], made: dict[str, tables.Table]) -> str:
@@ -74,11 +74,11 @@ def put_changed(folder: Path, texts: dict[str, bytes], made: dict[str, tables.Ta
 def main(arguments: Sequence[str]) -> int:
     options = options_of(arguments)
     mapped = mapping.read(COMMAND, options.mapping)
-    read, hops = read_all(options, mapped)
+    read, hops, unread = read_all(options, mapped)
     made = tables.tables_of(read, hops, mapped)
     verdict = jitters.settle(Program(COMMAND), made, read)
     if not verdict.answer.status or options.unchecked:
-        say(COMMAND, put_changed(options.net, verdict.texts, made))
+        say(COMMAND, unread + put_changed(options.net, verdict.texts, made))
     if verdict.answer.status:
         raise Failure(verdict.answer.status, verdict.answer.line, *(f"{COMMAND}: {line}" for line in verdict.broken))
     last = [line for line in verdict.answer.said.splitlines() if line.startswith("greatest ") or line == "accepted"]

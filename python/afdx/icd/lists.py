@@ -1,6 +1,7 @@
 """Finds the columns of a list and reads its cells."""
 import json
-from collections.abc import Iterable, Iterator
+import re
+from collections.abc import Callable, Iterable, Iterator
 from itertools import groupby
 from pathlib import Path
 from typing import Any, TypeVar, cast
@@ -17,6 +18,8 @@ UNITS = {"ms", "us", "ns"}  # at the ends of keys
 UNSAVED = "a formula whose value was not saved with it"
 ERROR = "an error of the spreadsheet in place of a value: it has to be mended there"
 NOTE = "no more than two cells of this row are filled: if it is a note, it has to go"
+BARE = "no heading above this cell: its column has to have one, or to go"
+ALIKE = "not read, but {} is: what counts has to be in that column"
 OTHER = "not read, with headings as the first visible sheet has: if the rows of this one count, they have to be there"
 STRUCK = "struck through, and read all the same: if this {} does not count, it has to go"
 
@@ -44,6 +47,20 @@ def looks_like(heading: str, name: list[str]) -> bool:
     words, letters = words_of(heading), "".join(name)
     found = all(any(word.startswith(part) or word.endswith(part) for word in words) for part in name)
     return found or "".join(words).startswith(letters) or "".join(words).endswith(letters)
+
+
+def unnumbered(heading: str) -> str:
+    """Returns the letters of a heading, in small ones: those of `Dest 1` and `DEST_2` are the same."""
+    return "".join(re.sub(r"\d", "", word) for word in words_of(heading))
+
+
+def numbers_of(heading: str) -> list[str]:
+    return re.findall(r"\d+", heading)
+
+
+def quoted(heading: str) -> str:
+    """Returns a heading as lines show it."""
+    return json.dumps(one_line(heading), ensure_ascii=False)
 
 
 def none_in(text: str) -> str:
@@ -76,6 +93,8 @@ class List:
         self.is_there = self.seems_there(needed)
         if self.is_there:
             self.complain_of_headings(known)
+            self.complain_of_units(known)
+            self.warn_of_headings_alike()
             self.warn_of_other_sheets()
         else:
             self.complain_of_all(needed)
@@ -132,10 +151,37 @@ class List:
         there, which is refused anyway, it begins with the words; of one that may be missing it looks like it in other
         ways too, so that none is passed over. A link's name is but a comment."""
         alike = begins_with_words if not self.may_be_missing(column) else looks_like
-        others = [heading for at, heading in enumerate(self.sheet.heading.cells) if at not in self.places.values()]
         names = [*names_of(column), words_of(self.mapping.headings.get(column.key, ""))]
-        likely = [heading for heading in others if any(name and alike(heading, name) for name in names)]
-        return json.dumps(one_line(likely[0]), ensure_ascii=False) if likely and column is not NAME else ""
+        likely = [heading for heading in self.unread() if any(name and alike(heading, name) for name in names)]
+        return quoted(likely[0]) if likely and column is not NAME else ""
+
+    def unread(self) -> list[str]:
+        """Returns the headings of columns that are not read."""
+        return [text for at, text in enumerate(self.sheet.heading.cells) if text and at not in self.places.values()]
+
+    def complain_of_units(self, known: Columns) -> None:
+        """Complains of headings that say that their values are in something else than the column's."""
+        for column in known:
+            other = column.unit.other_in(self.heading(column)) if column.unit and column.key in self.places else ""
+            if column.unit and other:
+                what = f'"{other}" in its heading: the values of {column.key} have to be {column.unit.what}'
+                self.complain_of_heading(column, what)
+
+    def warn_of_headings_alike(self) -> None:
+        """Warns of columns that are not read and whose headings differ in numbers alone from those that are, as `Dest
+        2` does from `Dest 1`."""
+        read = {unnumbered(self.sheet.heading.cells[at]): self.sheet.heading.cells[at] for at in self.places.values()}
+        for heading in self.unread():
+            other = read.get(unnumbered(heading), heading)
+            if numbers_of(other) != numbers_of(heading) and unnumbered(heading):
+                place = Place(self.order, self.sheet.heading.line, 0, self.sheet.place, one_line(heading), None)
+                self.complaints.doubts.append((place, ALIKE.format(quoted(other))))
+
+    def passed_over(self) -> list[str]:
+        """Returns a line for all columns that are not read, and one for each other sheet that has rows."""
+        columns = ", ".join(dict.fromkeys(map(quoted, self.unread())))
+        sheets = [place for place, rows in self.sheet.others.items() if any(any(row.cells) for row in rows)]
+        return [f"{self.sheet.place} not read: {columns}"] * bool(columns) + [f"{place} not read" for place in sheets]
 
     def complain_of_missing(self, column: Column[Any]) -> None:
         """Complains of a column that neither the list nor the mapping has: if nothing stands for its empty cells, or if
@@ -179,9 +225,9 @@ class List:
         if not self.sheet.rows:
             self.complaints.doubts.append((self.place_of_headings(), what))
 
-    def rows(self) -> Iterator[Row]:
+    def rows(self, note: Callable[[Row], str] = lambda row: NOTE) -> Iterator[Row]:
         """Returns the rows. A cell that no heading is above, as an unquoted separator makes them, is a complaint. A row
-        that may be a note has but one."""
+        that may be a note has but one, which is made of it."""
         for row in self.sheet.rows:
             before = len(self.complaints.found)
             beyond = [at for at in range(self.width, len(row.cells)) if row.cells[at]]
@@ -190,7 +236,16 @@ class List:
             yield row
             if len(self.complaints.found) > before + 1 and is_short(row):
                 del self.complaints.found[before:]
-                self.complain_beside(row, NOTE, [at for at, text in enumerate(row.cells) if text][:1])
+                self.complain_beside(row, note(row), [at for at, text in enumerate(row.cells) if text][:1])
+        self.complain_of_bare_columns()
+
+    def complain_of_bare_columns(self) -> None:
+        """Complains of the first cell below each empty heading, in rows that are no notes."""
+        bare = {at for at, heading in enumerate(self.sheet.heading.cells) if not heading}
+        for row in [row for row in self.sheet.rows if self.is_sound(row) or not is_short(row)]:
+            filled = [at for at, text in enumerate(row.cells) if text and at in bare]
+            self.complain_beside(row, BARE, filled)
+            bare.difference_update(filled)
 
     def warn_of_struck(self, row: Row) -> None:
         """Warns of the first cell that is read and struck through, in a column whose heading is not."""
@@ -206,11 +261,14 @@ class List:
         for place in at:
             self.complaints.note(self.place_beside(row, place), what)
 
+    def own(self, row: Row, column: Column[Any]) -> str:
+        """Returns a cell's text, which is empty if the cell is not there."""
+        at = self.places.get(column.key, self.width)
+        return row.cells[at] if at < min(self.width, len(row.cells)) else ""
+
     def text(self, row: Row, column: Column[Any]) -> str:
         """Returns a cell's text; if the cell is empty or not there, what the mapping has for it."""
-        at = self.places.get(column.key, self.width)
-        own = row.cells[at] if at < min(self.width, len(row.cells)) else ""
-        return own or self.mapping.defaults.get(column.key, "")
+        return self.own(row, column) or self.mapping.defaults.get(column.key, "")
 
     def place(self, row: Row, column: Column[Any]) -> Place:
         rank = self.places.get(column.key, self.width)

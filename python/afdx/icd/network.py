@@ -1,4 +1,5 @@
 """Reads the three lists as a network: its end systems, the cables between its switches, and its virtual links."""
+import re
 from collections.abc import Callable
 from dataclasses import dataclass, field
 from functools import partial
@@ -6,12 +7,15 @@ from pathlib import Path
 from typing import Any
 
 from afdx.icd import columns
-from afdx.icd.cells import Column
+from afdx.icd.cells import SEPARATOR, Column, one_line
 from afdx.icd.columns import HEADERS, PAYLOAD, SIZE, SMALLEST
 from afdx.icd.complaints import Complaints
-from afdx.icd.lists import List
+from afdx.icd.lists import NOTE, List
 from afdx.icd.mapping import Mapping
 from afdx.icd.spreadsheet import Row
+
+GOES_ON = "receivers without a sender: all of a link have to stand in its row, with | between them"
+JOINED = re.compile(r"[;/+&\n]|\band\b")  # what may lie between receivers, and does not here
 
 
 @dataclass(frozen=True)
@@ -148,8 +152,10 @@ def read_cables(of: List, network: Network, ports: Once) -> None:
 
 
 def size_of(of: List, row: Row) -> int:
-    """Reads the largest frame of a link, which is given as such or by its UDP payload, or both ways."""
-    has_size, has_payload = bool(of.text(row, SIZE)), bool(of.text(row, PAYLOAD))
+    """Reads the largest frame of a link, which is given as such or by its UDP payload, or both ways. What the mapping
+    has counts where the row has neither."""
+    text = of.own if of.own(row, SIZE) or of.own(row, PAYLOAD) else of.text
+    has_size, has_payload = bool(text(row, SIZE)), bool(text(row, PAYLOAD))
     if not has_size and not has_payload:
         of.complain(row, SIZE, "neither the largest frame nor its UDP payload is there")
         return 0
@@ -163,13 +169,29 @@ def size_of(of: List, row: Row) -> int:
     return size or 0
 
 
+def are_ends(network: Network, texts: list[str]) -> bool:
+    return all(one_line(text) in network.names for text in texts)
+
+
+def hint_of(network: Network, text: str) -> str:
+    """Says what has to lie between receivers, if there is something else in a text."""
+    texts = JOINED.split(text)
+    return ": receivers have | or , between them" if len(texts) > 1 and are_ends(network, texts) else ""
+
+
+def note_of(of: List, network: Network, row: Row) -> str:
+    """Says what a row of few cells may be: a note, or more receivers of the link above."""
+    goes_on = not of.text(row, columns.SOURCE) and are_ends(network, SEPARATOR.split(of.text(row, columns.TARGETS)))
+    return GOES_ON if goes_on else NOTE
+
+
 def check_names(of: List, link: Link, network: Network) -> None:
     """Looks whether the end systems and switches of a link are there."""
     if link.source is not None and link.source not in network.names:
         of.complain(link.row, columns.SOURCE, "no such end system")
-    for target in link.targets or []:
+    for target, text in zip(link.targets or [], SEPARATOR.split(of.text(link.row, columns.TARGETS))):
         if target not in network.names:
-            of.complain(link.row, columns.TARGETS, f"no such end system as {target}")
+            of.complain(link.row, columns.TARGETS, f"no such end system as {target}{hint_of(network, text)}")
         elif target == link.source:
             of.complain(link.row, columns.TARGETS, f"{target} would send to itself")
     for switch in set(link.via or []) - network.switches:
@@ -188,7 +210,7 @@ def read_links(of: List, network: Network) -> None:
     """Reads the virtual links, each of its own number, between end systems that are there."""
     numbers = Once()
     of.warn_if_empty("no links: the list is its headings alone")
-    for row in of.rows():
+    for row in of.rows(partial(note_of, of, network)):
         link = Link(row, of.cell(row, columns.ID), of.cell(row, columns.NAME), of.cell(row, columns.SOURCE),
                     of.cell(row, columns.TARGETS), of.cell(row, columns.BAG), of.cell(row, columns.JITTER),
                     size_of(of, row), of.cell(row, columns.PRIORITY), of.cell(row, columns.POLICE),
