@@ -590,6 +590,22 @@ def test_names_that_are_no_errors(tmp_path: Path, name: str) -> None:
     assert name in read.ends and not complaints.found
 
 
+def test_names_with_accents_of_their_own_and_signs_that_cannot_be_seen(tmp_path: Path) -> None:
+    """Checks that a name is the same however its accent is kept, and that what cannot be seen has an escape."""
+    lists = [worked_lists.LINKS.replace("A2", "Se\u0301lecteur"), worked_lists.ENDS.replace("A2", "S\u00e9lecteur")]
+    complaints = Complaints()
+    read = network.read(lists_of("afdx-icd", worked_lists.write(tmp_path, *lists), mapping.read("afdx-icd", None),
+                                 complaints))
+    assert "S\u00e9lecteur" in read.ends and not complaints.found
+    paths = worked_lists.write(tmp_path, "\ufeff\ufeff" + worked_lists.LINKS.replace(",A2,", ",A2\u200b,"))
+    what = 'no such column, "\\ufeffid" may be it: the mapping has to name it'
+    assert refusal(paths).lines == (f"afdx-icd: {what}, {paths[0]} line 1, column id",)
+    paths = worked_lists.write(tmp_path, worked_lists.LINKS.replace(",A2,", ",A2\u200b,"))
+    what = "has a character that cannot be printed"
+    assert refusal(paths).lines == (line(what, paths[0], 4, "to", "A2\\u200b"),
+                                    line(what, paths[0], 5, "to", "A2\\u200b"))
+
+
 def test_errors_in_a_workbook(tmp_path: Path) -> None:
     """Checks a lookup that failed in several rows; of a column that is not read none counts."""
     paths = worked_lists.write(tmp_path)

@@ -225,6 +225,8 @@ NO_XLSX = "a spreadsheet that is no .xlsx: save it as .xlsx or .csv"
 PASSWORD = "an .xlsx with a password, or an old .xls: save it as .xlsx without a password"
 XLSX = "an .xlsx by its bytes: its name has to end so"
 KIND = b"application/vnd.openxmlformats-officedocument.spreadsheetml.sheet.main+xml"
+STRICT = {b"http://schemas.openxmlformats.org/spreadsheetml/2006": b"http://purl.oclc.org/ooxml/spreadsheetml",
+          b"http://schemas.openxmlformats.org/officeDocument/2006": b"http://purl.oclc.org/ooxml/officeDocument"}
 MACROS = {KIND: b"application/vnd.ms-excel.sheet.macroEnabled.main+xml"}
 
 
@@ -251,6 +253,8 @@ def test_a_workbook_with_lists_to_choose_from_is_read_without_a_warning(
     ("list.ods", b"PK\3\4" + bytes(504), f"{NO_XLSX}, {{}}"),
     ("list.xls", b"\xd0\xcf\x11\xe0\xa1\xb1\x1a\xe1" + bytes(504), f"{NO_XLSX}, {{}}"),
     ("list.xlsx", b"\xd0\xcf\x11\xe0\xa1\xb1\x1a\xe1" + bytes(504), f"{PASSWORD}, {{}}"),
+    ("list.xlsx", changed(workbook([["id"]]), "xl/workbook.xml", STRICT),
+     "an .xlsx of the strict form: save it as .xlsx, as an Excel workbook, {}"),
     ("list.xlsx", b"id,to\n", "not a workbook that can be read, {}")])
 def test_files_that_are_no_lists(tmp_path: Path, name: str, text: bytes, line: str) -> None:
     with pytest.raises(Failure) as ended:

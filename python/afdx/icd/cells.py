@@ -1,5 +1,7 @@
 """Says what a cell may hold, and reads it."""
+import json
 import re
+import unicodedata
 from collections.abc import Callable
 from dataclasses import dataclass
 from typing import Generic, TypeVar
@@ -86,8 +88,15 @@ def word(*words: str) -> Callable[[str], str]:
 
 
 def one_line(text: str) -> str:
-    """Writes a text with line feeds and many spaces as one line."""
-    return " ".join(text.split())
+    """Writes a text with line feeds and many spaces as one line, and an accent that follows its letter with it: lists
+    of different systems have the same names then."""
+    return unicodedata.normalize("NFC", " ".join(text.split()))
+
+
+def quoted(text: str) -> str:
+    """Returns a text in quotes, with escapes for what cannot be seen, as a space without width."""
+    seen = (sign if sign.isprintable() else json.dumps(sign)[1:-1] for sign in json.dumps(text, ensure_ascii=False))
+    return "".join(seen)
 
 
 def words_of(text: str) -> list[str]:

@@ -1,8 +1,8 @@
 """Keeps all that is wrong with the lists, to be said at once."""
-import json
 from dataclasses import dataclass, field
 
 from afdx.failure import INPUT, Failure
+from afdx.icd.cells import quoted
 
 
 @dataclass(frozen=True, order=True)
@@ -16,7 +16,7 @@ class Place:
     value: str | None  # None at a heading
 
     def words(self) -> str:
-        value = "" if self.value is None else f", value {json.dumps(self.value, ensure_ascii=False)}"
+        value = "" if self.value is None else f", value {quoted(self.value)}"
         column = f", column {self.column}" if self.column else ""
         return f"{self.path} line {self.line}{column}{value}"
 

@@ -1,5 +1,4 @@
 """Finds the columns of a list and reads its cells."""
-import json
 import re
 from collections.abc import Callable, Iterable, Iterator
 from itertools import groupby
@@ -7,7 +6,7 @@ from pathlib import Path
 from typing import Any, TypeVar, cast
 
 from afdx.icd import spreadsheet
-from afdx.icd.cells import Column, Unfit, one_line, words_of
+from afdx.icd.cells import Column, Unfit, one_line, quoted, words_of
 from afdx.icd.columns import NAME, Columns
 from afdx.icd.complaints import Complaints, Place
 from afdx.icd.mapping import ListMapping
@@ -56,11 +55,6 @@ def unnumbered(heading: str) -> str:
 
 def numbers_of(heading: str) -> list[str]:
     return re.findall(r"\d+", heading)
-
-
-def quoted(heading: str) -> str:
-    """Returns a heading as lines show it."""
-    return json.dumps(one_line(heading), ensure_ascii=False)
 
 
 def none_in(text: str) -> str:
@@ -153,7 +147,7 @@ class List:
         alike = begins_with_words if not self.may_be_missing(column) else looks_like
         names = [*names_of(column), words_of(self.mapping.headings.get(column.key, ""))]
         likely = [heading for heading in self.unread() if any(name and alike(heading, name) for name in names)]
-        return quoted(likely[0]) if likely and column is not NAME else ""
+        return quoted(one_line(likely[0])) if likely and column is not NAME else ""
 
     def unread(self) -> list[str]:
         """Returns the headings of columns that are not read."""
@@ -175,11 +169,11 @@ class List:
             other = read.get(unnumbered(heading), heading)
             if numbers_of(other) != numbers_of(heading) and unnumbered(heading):
                 place = Place(self.order, self.sheet.heading.line, 0, self.sheet.place, one_line(heading), None)
-                self.complaints.doubts.append((place, ALIKE.format(quoted(other))))
+                self.complaints.doubts.append((place, ALIKE.format(quoted(one_line(other)))))
 
     def passed_over(self) -> list[str]:
         """Returns a line for all columns that are not read, and one for each other sheet that has rows."""
-        columns = ", ".join(dict.fromkeys(map(quoted, self.unread())))
+        columns = ", ".join(dict.fromkeys(quoted(one_line(heading)) for heading in self.unread()))
         sheets = [place for place, rows in self.sheet.others.items() if any(any(row.cells) for row in rows)]
         return [f"{self.sheet.place} not read: {columns}"] * bool(columns) + [f"{place} not read" for place in sheets]
 

@@ -1,5 +1,4 @@
 """Reads the mapping: what the lists' columns are called, what stands for empty cells, and what all switches have."""
-import json
 import re
 from dataclasses import dataclass
 from pathlib import Path
@@ -8,7 +7,7 @@ from typing import Any, TypeVar
 from afdx import files, toml
 from afdx.failure import INPUT, Failure
 from afdx.icd import columns
-from afdx.icd.cells import Column, Unfit, one_line, whole
+from afdx.icd.cells import Column, Unfit, one_line, quoted, whole
 
 T = TypeVar("T")
 LISTS = {"": columns.LINKS, "ends": columns.ENDS, "wires": columns.WIRES}  # by their name in a section
@@ -96,8 +95,7 @@ class Reading:
             heading = one_line(headings.get(column.key, column.key))
             other = first.setdefault(heading.casefold(), column.key)
             if heading and other != column.key:
-                shown = json.dumps(heading, ensure_ascii=False)
-                self.wrong.append(f"{shown} is the heading of {other} too, {place}.{column.key}")
+                self.wrong.append(f"{quoted(heading)} is the heading of {other} too, {place}.{column.key}")
 
     def list_mapping(self, name: str) -> ListMapping:
         """Reads what is said of one list."""

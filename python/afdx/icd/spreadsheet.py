@@ -23,6 +23,7 @@ QUOTED = re.compile(r'(?<![^,;\t])"(?:[^"]|"")*+"')  # a cell from its first quo
 SAID = re.compile(r"sep=([,;\t])[,;\t]*\r?\n")
 WORKBOOK, CHAIN = "xl/workbook.xml", "xl/calcChain.xml"  # parts of an .xlsx: the second is Excel's, if it computed
 SHARED = "xl/sharedStrings.xml"  # texts of all sheets
+STRICT = b"http://purl.oclc.org/ooxml/"  # names of parts begin so in a form of .xlsx that openpyxl does not read
 TYPES, XLSX = "[Content_Types].xml", b"spreadsheetml.sheet.main+xml"  # the part with its kind; .xlsm has another kind
 OLD = b"\xd0\xcf\x11\xe0"  # what .xls begins with, and an .xlsx with a password
 BOOKS = (b"PK\3\4", OLD)  # the first is what .xlsm and .ods begin with
@@ -232,13 +233,22 @@ def separated_rows(text: str) -> list[Row]:
     return rows
 
 
-def is_xlsx(text: bytes) -> bool:
-    """Returns whether bytes are an .xlsx, whatever the file is called."""
+def has_part(text: bytes, name: str, said: bytes) -> bool:
+    """Returns whether bytes are an archive in which a part has these."""
     try:
         with ZipFile(io.BytesIO(text)) as parts:
-            return XLSX in parts.read(TYPES)
+            return said in parts.read(name)
     except Exception:  # what the reader of ZIP raises is nowhere listed
         return False
+
+
+def why_unread(text: bytes) -> str:
+    """Says why bytes under the name of an .xlsx cannot be read."""
+    if text.startswith(OLD):
+        return "an .xlsx with a password, or an old .xls: save it as .xlsx without a password"
+    if has_part(text, WORKBOOK, STRICT):
+        return "an .xlsx of the strict form: save it as .xlsx, as an Excel workbook"
+    return "not a workbook that can be read"
 
 
 def rows_of(command: str, path: Path) -> Found:
@@ -250,13 +260,10 @@ def rows_of(command: str, path: Path) -> Found:
                 warnings.simplefilter("ignore")  # openpyxl's are of what no value is in, as lists to choose from
                 return workbook_rows(text)
         except Exception as error:  # what the readers of ZIP and XML below openpyxl raise is nowhere listed
-            what = "not a workbook that can be read"
-            if text.startswith(OLD):
-                what = "an .xlsx with a password, or an old .xls: save it as .xlsx without a password"
-            raise Failure(INPUT, f"{command}: {what}, {path}") from error
+            raise Failure(INPUT, f"{command}: {why_unread(text)}, {path}") from error
     if text.startswith(BOOKS):
         what = "a spreadsheet that is no .xlsx: save it as .xlsx or .csv"
-        if is_xlsx(text):
+        if has_part(text, TYPES, XLSX):
             what = "an .xlsx by its bytes: its name has to end so"
         raise Failure(INPUT, f"{command}: {what}, {path}")
     if b"\0" in text:
