@@ -13,7 +13,7 @@ from tests import worked_lists
 
 GOOD = {"id": "20", "name": "heading", "from": "A1", "to": "B1", "bag_ms": "8", "jitter_us": "0", "max_size": "100",
         "udp_payload": "", "priority": "high", "police": "", "via": ""}
-END = {"name": "gyro", "switch": "A", "port": "3", "mbit": "100", "buffer": "", "max_delay_us": ""}
+END = {"name": "gyro", "switch": "A", "port": "3", "mbit": "100", "buffer": "64", "max_delay_us": "9"}
 WIRE = {"switch_a": "A", "port_a": "11", "switch_b": "B", "port_b": "11", "mbit": "10", "delay_ns": "", "buffer": "",
         "max_delay_us": ""}
 BAD_LINKS = [
@@ -107,7 +107,7 @@ def test_all_bad_links_at_once(tmp_path: Path) -> None:
 
 @pytest.mark.parametrize("column, value, what", BAD_ENDS)
 def test_each_bad_cell_of_an_end_system(tmp_path: Path, column: str, value: str, what: str) -> None:
-    ends = "".join(f"{text},,\n" for text in worked_lists.ENDS.splitlines()[1:])
+    ends = "".join(f"{text},64,9\n" for text in worked_lists.ENDS.splitlines()[1:])
     paths = worked_lists.write(tmp_path, ends=",".join(END) + "\n" + ends + row(END, column, value))
     assert refusal(paths).lines == (line(what.format(ends=paths[1]), paths[1], 7, column, value),)
 
@@ -274,6 +274,24 @@ def test_a_list_of_links_that_has_none_is_warned_of(tmp_path: Path) -> None:
 NONE_OF_LINKS = "none of the headings id, from, to, bag_ms, jitter_us, priority: "
 ASKED = "is there a title above them, or has the mapping to name them?"
 NOTE = "no more than two cells of this row are filled: if it is a note, it has to go"
+
+
+@pytest.mark.parametrize("order", [1, 2])
+def test_ports_of_which_some_have_no_buffer(tmp_path: Path, order: int) -> None:
+    """Checks that what stands for an empty cell is not taken without a word, but where the list or the mapping says it
+    of all."""
+    lists = [worked_lists.LINKS, worked_lists.ENDS, worked_lists.WIRES]
+    first, second, *others = lists[order].splitlines()
+    path, warned = tmp_path / "map.toml", ["empty, though others of this column are not: 16777216 counts here"]
+    for text, default, warnings in ((",5000,9", "", warned), (",,", "", []), (",5000,9", "buffer = 64", [])):
+        rows = [f"{first},buffer,max_delay_us", f"{second}{text}", *(f"{row},,9" if text[1:2] == "5" else f"{row},,"
+                                                                     for row in others)]
+        lists[order] = "\n".join(rows)
+        path.write_text(f"[defaults.{('ends', 'wires')[order - 1]}]\n{default}\n", encoding="utf-8")
+        paths, complaints = worked_lists.write(tmp_path, *lists), Complaints()
+        network.read(lists_of("afdx-icd", paths, mapping.read("afdx-icd", path), complaints))
+        assert not complaints.found and complaints.warnings("afdx-icd") == [
+            line(f"warning: {what}", paths[order], 3, "buffer", "") for what in warnings]
 
 
 def test_a_title_above_the_headings_and_another_list(tmp_path: Path) -> None:

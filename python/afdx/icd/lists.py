@@ -19,6 +19,7 @@ ERROR = "an error of the spreadsheet in place of a value: it has to be mended th
 NOTE = "no more than two cells of this row are filled: if it is a note, it has to go"
 BARE = "no heading above this cell: its column has to have one, or to go"
 ALIKE = "not read, but {} is: what counts has to be in that column"
+GAP = "empty, though others of this column are not: {} counts here"
 OTHER = "not read, with headings as the first visible sheet has: if the rows of this one count, they have to be there"
 STRUCK = "struck through, and read all the same: if this {} does not count, it has to go"
 
@@ -246,6 +247,14 @@ class List:
         read = [at for at in sorted(set(self.places.values()) - self.struck) if at < len(row.cells)]
         struck = [at for at in read if isinstance(row.cells[at], Struck)]
         self.complaints.doubts += [(self.place_beside(row, at), STRUCK.format("row")) for at in struck[:1]]
+
+    def warn_of_gaps(self, *known: Column[Any]) -> None:
+        """Warns of the first empty cell of columns that have others, as those of a merged range are in a .csv, if it
+        counts as what the command has for it."""
+        for column in known:
+            empty = [row for row in self.sheet.rows if not self.text(row, column)]
+            if 0 < len(empty) < len(self.sheet.rows):
+                self.warn(empty[0], column, GAP.format(column.default))
 
     def place_beside(self, row: Row, at: int) -> Place:
         return Place(self.order, row.line, at, self.sheet.place, str(at + 1), row.cells[at])

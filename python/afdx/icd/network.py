@@ -118,6 +118,7 @@ def read_ends(of: List, network: Network, ports: Once) -> None:
         network.switches.add(port.switch)
         if of.is_sound(row):
             network.ends[name] = port
+    of.warn_of_gaps(columns.BUFFER, columns.DELAY_LIMIT)
 
 
 def take_ports(of: List, row: Row, a: Port, b: Port, ports: Once) -> None:
@@ -149,6 +150,7 @@ def read_cables(of: List, network: Network, ports: Once) -> None:
         if of.is_sound(row):
             network.cables.append(Cable(a, b, delay))
     of_cables.warn_of_lone(of, of_ends)
+    of.warn_of_gaps(columns.BUFFER, columns.DELAY_LIMIT)
 
 
 def size_of(of: List, row: Row) -> int:
