@@ -282,16 +282,16 @@ def test_ports_of_which_some_have_no_buffer(tmp_path: Path, order: int) -> None:
     of all."""
     lists = [worked_lists.LINKS, worked_lists.ENDS, worked_lists.WIRES]
     first, second, *others = lists[order].splitlines()
-    path, warned = tmp_path / "map.toml", ["empty, though others of this column are not: 16777216 counts here"]
-    for text, default, warnings in ((",5000,9", "", warned), (",,", "", []), (",5000,9", "buffer = 64", [])):
-        rows = [f"{first},buffer,max_delay_us", f"{second}{text}", *(f"{row},,9" if text[1:2] == "5" else f"{row},,"
-                                                                     for row in others)]
+    path, warned = tmp_path / "map.toml", "empty, though others of this column are not: 16777216 counts here"
+    for texts, default, warnings in (((",5000,9", ",,9"), "", 1), ((",,", ",,"), "", 0),
+                                     ((",5000,9", ",,9"), "buffer = 64", 0)):
+        rows = [f"{first},buffer,max_delay_us", f"{second}{texts[0]}", *(f"{row}{texts[1]}" for row in others)]
         lists[order] = "\n".join(rows)
         path.write_text(f"[defaults.{('ends', 'wires')[order - 1]}]\n{default}\n", encoding="utf-8")
         paths, complaints = worked_lists.write(tmp_path, *lists), Complaints()
         network.read(lists_of("afdx-icd", paths, mapping.read("afdx-icd", path), complaints))
         assert not complaints.found and complaints.warnings("afdx-icd") == [
-            line(f"warning: {what}", paths[order], 3, "buffer", "") for what in warnings]
+            line(f"warning: {warned}", paths[order], 3, "buffer", "")] * warnings
 
 
 def test_a_title_above_the_headings_and_another_list(tmp_path: Path) -> None:
@@ -508,6 +508,17 @@ def test_headings_of_other_meanings(tmp_path: Path, heading: str) -> None:
     assert not complaints.found
 
 
+def test_another_unit_of_columns_that_the_mapping_does_not_name(tmp_path: Path) -> None:
+    """Checks that it is said before the mapping names them."""
+    paths = worked_lists.write(tmp_path, worked_lists.LINKS.replace("jitter_us", "jitter_ms"),
+                               wires=worked_lists.WIRES.replace("delay_ns", "Delay [us]"))
+    what = "its values have to be in {}, and the mapping has to name it"
+    assert refusal(paths).lines == (
+        f'afdx-icd: no such column, "jitter_ms" may be it: {what.format("us")}, {paths[0]} line 1, column jitter_us',
+        f'afdx-icd: "Delay [us]" may be this column: {what.format("ns")}, or "" for none, {paths[2]} line 1, '
+        "column delay_ns")
+
+
 @pytest.mark.parametrize("order, column, heading, word, unit", [
     (0, "jitter_us", "Jitter [ms]", "ms", "in us"), (0, "jitter_us", "JITTER_MS", "ms", "in us"),
     (0, "bag_ms", "Rate (Hz)", "hz", "in ms"), (0, "bag_ms", "BAG/\u00b5s", "\u03bcs", "in ms"),
@@ -535,13 +546,19 @@ def test_headings_with_another_unit(tmp_path: Path, order: int, column: str, hea
 
 
 def test_cells_below_empty_headings(tmp_path: Path) -> None:
-    """Checks that receivers right of those that are read are not passed over, in a .csv as in a merged heading's."""
+    """Checks that receivers right of those that are read are not passed over, in a .csv as in a merged heading's, and
+    that cells beside other columns are none of them."""
     links = worked_lists.LINKS.replace(",to,", ",to,,,").replace(",B1|C1,", ",B1,,C1,").replace('"C1, C2",', "C1,C2,,")
     links = links.replace(",C2,A2,", ",C2,A2,,,").replace(",A1,A2,", ",A1,A2,,,")
     paths = worked_lists.write(tmp_path, links + "Note 1,,,,see below,,,,,,,,\n")
     bare = "no heading above this cell: its column has to have one, or to go"
     assert refusal(paths).lines == (
         line(bare, paths[0], 2, "6", "C1"), line(bare, paths[0], 3, "5", "C2"), line(NOTE, paths[0], 6, "1", "Note 1"))
+    ends = "".join(f",{at},{text},x,y\n" for at, text in enumerate(worked_lists.ENDS.splitlines()[1:]))
+    paths = worked_lists.write(tmp_path, ends=",,name,switch,port,mbit,note,\n" + ends)
+    complaints = Complaints()
+    network.read(lists_of("afdx-icd", paths, mapping.read("afdx-icd", None), complaints))
+    assert not complaints.found
 
 
 def test_receivers_in_rows_of_their_own(tmp_path: Path) -> None:

@@ -131,8 +131,8 @@ def test_what_is_not_read_is_named(tmp_path: Path, capfdbinary: pytest.CaptureFi
     made(paths, tmp_path / "net")
     said = capfdbinary.readouterr().out.decode()
     book = openpyxl.Workbook()
-    for cells in csv.reader(io.StringIO(worked_lists.LINKS.replace(",to,", ",Dest 1,"))):
-        book.active.append([*cells, *(["The\nway", "DEST_2", 5] if cells[0] == "id" else [])])
+    for row in csv.reader(io.StringIO(worked_lists.LINKS.replace(",to,", ",Dest 1,"))):
+        book.active.append([*row, *(["The\nway", "DEST_2", 5] if row[0] == "id" else [])])
     book.create_sheet("part 2").append(["15", "more"])
     book.create_sheet("empty")
     book.save(tmp_path / "icd.xlsx")
@@ -140,8 +140,8 @@ def test_what_is_not_read_is_named(tmp_path: Path, capfdbinary: pytest.CaptureFi
     place, answer = f'{tmp_path}/icd.xlsx sheet', capfdbinary.readouterr()
     unread = f'{place} "Sheet" not read: "The way", "DEST_2", "5"\n{place} "part 2" not read\n'
     assert answer.out.decode() == unread + said.replace("written", "unchanged")
-    assert answer.err.decode() == ('afdx-icd: warning: not read, but "Dest 1" is: what counts has to be in that column, '
-                                   f'{place} "Sheet" line 1, column DEST_2\n')
+    what = 'not read, but "Dest 1" is: what counts has to be in that column'
+    assert answer.err.decode() == f'afdx-icd: warning: {what}, {place} "Sheet" line 1, column DEST_2\n'
 
 
 def test_a_size_of_the_mapping_counts_where_the_row_has_none(tmp_path: Path) -> None:

@@ -24,11 +24,12 @@ class Unit:
     others: frozenset[str]
 
     def other_in(self, heading: str) -> str:
-        """Returns the first word of a heading that says something else, or nothing; one that says both is right. `kByte`
-        is one word here, `JitterMs` two."""
+        """Returns the first word of a heading that says something else, or nothing; one that says both is right.
+        `kByte` is one word here, and `JitterMs` two."""
         said = self.own | self.others
-        wholes = re.findall(r"[^\W_]+", heading)
-        words = [part for whole in wholes for part in ([whole.casefold()] if whole.casefold() in said else words_of(whole))]
+        wholes: list[str] = re.findall(r"[^\W_]+", heading)
+        parts = ([whole.casefold()] if whole.casefold() in said else words_of(whole) for whole in wholes)
+        words = [word for part in parts for word in part]
         others = [word for word in words if word in self.others]
         return others[0] if others and self.own.isdisjoint(words) else ""
 
@@ -41,7 +42,7 @@ class Column(Generic[T]):
     reader: Callable[[str], T]
     default: str | None = None
     also: tuple[str, ...] = ()
-    unit: Unit | None = None
+    unit: Unit = Unit("", frozenset(), frozenset())
 
 
 def number(text: str) -> int:

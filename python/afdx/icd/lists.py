@@ -128,7 +128,8 @@ class List:
                 self.complain_of_heading(column, "two columns of this name")
             elif is_named and column.key not in self.places and not (is_none and self.may_be_missing(column)):
                 likely = self.likely(column)
-                self.complain_of_heading(column, "no such column" + (f", {likely} may be it" if likely else ""))
+                it = f", {quoted(one_line(likely))} may be it" if likely else ""
+                self.complain_of_heading(column, f"no such column{it}")
             self.complain_of_missing(column)
 
     def complain_of_all(self, needed: Columns) -> None:
@@ -142,13 +143,13 @@ class List:
         return column.default is not None or column.key in self.mapping.defaults
 
     def likely(self, column: Column[Any]) -> str:
-        """Returns the first heading by which a column seems to be there, quoted, or nothing. Of a column that has to be
+        """Returns the first heading by which a column seems to be there, or nothing. Of a column that has to be
         there, which is refused anyway, it begins with the words; of one that may be missing it looks like it in other
         ways too, so that none is passed over. A link's name is but a comment."""
         alike = begins_with_words if not self.may_be_missing(column) else looks_like
         names = [*names_of(column), words_of(self.mapping.headings.get(column.key, ""))]
         likely = [heading for heading in self.unread() if any(name and alike(heading, name) for name in names)]
-        return quoted(one_line(likely[0])) if likely and column is not NAME else ""
+        return likely[0] if likely and column is not NAME else ""
 
     def unread(self) -> list[str]:
         """Returns the headings of columns that are not read."""
@@ -157,8 +158,8 @@ class List:
     def complain_of_units(self, known: Columns) -> None:
         """Complains of headings that say that their values are in something else than the column's."""
         for column in known:
-            other = column.unit.other_in(self.heading(column)) if column.unit and column.key in self.places else ""
-            if column.unit and other:
+            other = column.unit.other_in(self.heading(column))
+            if other and column.key in self.places:
                 what = f'"{other}" in its heading: the values of {column.key} have to be {column.unit.what}'
                 self.complain_of_heading(column, what)
 
@@ -184,11 +185,13 @@ class List:
         if column.key in self.places or column.key in self.mapping.headings:
             return
         likely = self.likely(column)
+        shown = quoted(one_line(likely))
+        values = f"its values have to be {column.unit.what}, and " if column.unit.other_in(likely) else ""
+        asked = f"{values}the mapping has to name it"
         if not self.may_be_missing(column):
-            it = f", {likely} may be it" if likely else ""
-            self.complain_of_heading(column, f"no such column{it}: the mapping has to name it")
+            self.complain_of_heading(column, f"no such column{f', {shown} may be it' if likely else ''}: {asked}")
         elif likely:
-            self.complain_of_heading(column, f'{likely} may be this column: the mapping has to name it, or "" for none')
+            self.complain_of_heading(column, f'{shown} may be this column: {asked}, or "" for none')
 
     def place_of_headings(self) -> Place:
         return Place(self.order, self.sheet.heading.line, 0, self.sheet.place, "", None)
@@ -234,9 +237,19 @@ class List:
                 self.complain_beside(row, note(row), [at for at, text in enumerate(row.cells) if text][:1])
         self.complain_of_bare_columns()
 
+    def bare_columns(self) -> set[int]:
+        """Returns the columns without a heading that are right of one that is read, whose heading may be meant for
+        them too, as that of a merged range in a .csv."""
+        bare, is_read = set(), False
+        for at, heading in enumerate(self.sheet.heading.cells):
+            is_read = at in self.places.values() if heading else is_read
+            if is_read and not heading:
+                bare.add(at)
+        return bare
+
     def complain_of_bare_columns(self) -> None:
-        """Complains of the first cell below each empty heading, in rows that are no notes."""
-        bare = {at for at, heading in enumerate(self.sheet.heading.cells) if not heading}
+        """Complains of the first cell in each of these, in rows that are no notes."""
+        bare = self.bare_columns()
         for row in [row for row in self.sheet.rows if self.is_sound(row) or not is_short(row)]:
             filled = [at for at, text in enumerate(row.cells) if text and at in bare]
             self.complain_beside(row, BARE, filled)
