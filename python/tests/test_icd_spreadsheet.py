@@ -65,6 +65,14 @@ def test_what_is_within_quotes_in_headings_does_not_separate(tmp_path: Path, tex
         assert [row.cells for row in rows] == [headings, ["1", "A"]]
 
 
+@pytest.mark.parametrize("rows, cells", [
+    ("VL, as a number;to, all of them, in order\n1;A\n2;B,C,D", 2), ("id;to\n1;A,B\n\n2;C,D\n3;E,F\nNote", 2),
+    ("id,to\n1;A,B", 2), ("id;to, and\n1;A,B\n2;C,D", 2), ('id;to\n"1, 2";A\n"3";B', 2), ("id,to;\nA", 2)])
+def test_what_all_rows_have_as_often_separates(tmp_path: Path, rows: str, cells: int) -> None:
+    """Checks that it counts before what the headings have most of, if it is but one separator."""
+    assert len(read(tmp_path / "list.csv", rows.encode())[0].cells) == cells
+
+
 def test_a_first_line_that_says_the_separator(tmp_path: Path) -> None:
     rows = read(tmp_path / "list.csv", b'\xef\xbb\xbfsep=;\r\nid,a,b;to\r\n1;A\r\n')
     assert rows == [Row(2, ["id,a,b", "to"]), Row(3, ["1", "A"])]

@@ -19,7 +19,7 @@ from afdx.failure import INPUT, Failure
 
 SEPARATORS = (",", "\t", ";")
 ERROR = re.compile(r"#\S+[!?]|#[^\W\d]/[^\W\d]|#NV|Err:[0-9]{3}")  # as text: #REF!, #N/A, German #BEZUG!, #NV ..
-QUOTED = re.compile(r'(?<![^,;\t])"(?:[^"]|"")*+"')  # a cell from its first quote to its last, whatever the separator
+QUOTED = re.compile(r'(?<![^,;\t\n])"(?:[^"]|"")*+"')  # a cell from its first quote to its last, whatever the separator
 SAID = re.compile(r"sep=([,;\t])[,;\t]*\r?\n")
 WORKBOOK, CHAIN = "xl/workbook.xml", "xl/calcChain.xml"  # parts of an .xlsx: the second is Excel's, if it computed
 SHARED = "xl/sharedStrings.xml"  # texts of all sheets
@@ -27,7 +27,7 @@ STRICT = b"http://purl.oclc.org/ooxml/"  # names of parts begin so in a form of 
 TYPES, XLSX = "[Content_Types].xml", b"spreadsheetml.sheet.main+xml"  # the part with its kind; .xlsm has another kind
 OLD = b"\xd0\xcf\x11\xe0"  # what .xls begins with, and an .xlsx with a password
 BOOKS = (b"PK\3\4", OLD)  # the first is what .xlsm and .ods begin with
-FIRST = 20  # rows of a sheet beside the list in which its headings are looked for
+FIRST = 20  # rows in which the separator is looked for, or of a sheet beside the list its headings
 UNCOMPUTED = "0"  # the value of a formula that XlsxWriter did not compute
 PARTS = "{http://schemas.openxmlformats.org/spreadsheetml/2006/main}"  # before the tag of each part of a workbook
 ROW, MERGED = f"{PARTS}row", f"{PARTS}mergeCell"
@@ -214,9 +214,11 @@ def workbook_rows(text: bytes) -> Found:
 
 
 def separator_of(text: str) -> str:
-    """Returns the separator that the first row has most of outside quotes, in which there may be line feeds too."""
-    first = QUOTED.sub("", text.lstrip("\r\n")).split("\n", 1)[0]
-    return max(SEPARATORS, key=first.count)
+    """Returns the separator that all of the first rows have as often as the first one, if it is the only such one, or
+    what the first row has most of, both outside quotes, in which there may be line feeds too."""
+    rows = [row for row in QUOTED.sub("", text.lstrip("\r\n")).split("\n") if row.strip()][:FIRST] or [""]
+    even = [sign for sign in SEPARATORS if sign in rows[0] and len({row.count(sign) for row in rows}) == 1]
+    return even[0] if len(even) == 1 else max(SEPARATORS, key=rows[0].count)
 
 
 def separated_rows(text: str) -> list[Row]:
