@@ -276,6 +276,17 @@ ASKED = "is there a title above them, or has the mapping to name them?"
 NOTE = "no more than two cells of this row are filled: if it is a note, it has to go"
 
 
+def test_switches_that_differ_in_capital_letters(tmp_path: Path) -> None:
+    """Checks that each other cell is named, and of cables both."""
+    ends = worked_lists.ENDS.replace("C1,C,", "C1,c,").replace("C2,C,", "C2,c,")
+    wires = worked_lists.WIRES.replace("B,20", "b,20").replace("A,22", "a,22")
+    paths = worked_lists.write(tmp_path, ends=ends, wires=wires)
+    what = "another switch is called {}: capital letters have to be the same"
+    assert refusal(paths).lines == (
+        line(what.format("B"), paths[2], 2, "switch_b", "b"), line(what.format("c"), paths[2], 3, "switch_b", "C"),
+        line(what.format("A"), paths[2], 4, "switch_a", "a"), line(what.format("c"), paths[2], 4, "switch_b", "C"))
+
+
 @pytest.mark.parametrize("order", [1, 2])
 def test_ports_of_which_some_have_no_buffer(tmp_path: Path, order: int) -> None:
     """Checks that what stands for an empty cell is not taken without a word, but where the list or the mapping says it

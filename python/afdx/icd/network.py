@@ -92,9 +92,8 @@ class Named:
     def __init__(self) -> None:
         self.cells: dict[str, list[tuple[Row, Column[str]]]] = {}
 
-    def add(self, row: Row, column: Column[str], switch: str | None) -> None:
-        if switch is not None:
-            self.cells.setdefault(switch, []).append((row, column))
+    def add(self, row: Row, column: Column[str], switch: str) -> None:
+        self.cells.setdefault(switch, []).append((row, column))
 
     def warn_of_lone(self, of: List, others: set[str]) -> None:
         """Warns of a switch that but one of these cells names, and that is not among the others: no link can cross it,
@@ -103,6 +102,18 @@ class Named:
             if len(cells) == 1 and switch not in others:
                 row, column = cells[0]
                 of.warn(row, column, f"switch {switch} has this cable alone and no end system: is its name right?")
+
+
+def take_switch(of: List, row: Row, column: Column[str], switch: str | None, network: Network) -> None:
+    """Takes a switch's name, or complains if another one differs from it in capital letters alone: their tables would
+    have one name where such letters do not count, and one of the two is wrong."""
+    if switch is None or switch in network.switches:
+        return
+    other = {known.lower(): known for known in network.switches}.get(switch.lower())
+    if other:
+        of.complain(row, column, f"another switch is called {other}: capital letters have to be the same")
+    else:
+        network.switches.add(switch)
 
 
 def read_ends(of: List, network: Network, ports: Once) -> None:
@@ -115,7 +126,7 @@ def read_ends(of: List, network: Network, ports: Once) -> None:
                     of.cell(row, columns.BUFFER), of.cell(row, columns.DELAY_LIMIT))
         ports.take(of, row, columns.PORT, port.switch, port.number)
         network.names.add(name)
-        network.switches.add(port.switch)
+        take_switch(of, row, columns.SWITCH, port.switch, network)
         if of.is_sound(row):
             network.ends[name] = port
     of.warn_of_gaps(columns.BUFFER, columns.DELAY_LIMIT)
@@ -144,9 +155,10 @@ def read_cables(of: List, network: Network, ports: Once) -> None:
         b = Port(of.cell(row, columns.SWITCH_B), of.cell(row, columns.PORT_B), *line)
         delay = of.cell(row, columns.WIRE_DELAY)
         take_ports(of, row, a, b, ports)
-        network.switches |= {a.switch, b.switch}
-        of_cables.add(row, columns.SWITCH_A, a.switch)
-        of_cables.add(row, columns.SWITCH_B, b.switch)
+        for column, switch in ((columns.SWITCH_A, a.switch), (columns.SWITCH_B, b.switch)):
+            take_switch(of, row, column, switch, network)
+            if switch in network.switches:
+                of_cables.add(row, column, switch)
         if of.is_sound(row):
             network.cables.append(Cable(a, b, delay))
     of_cables.warn_of_lone(of, of_ends)
