@@ -375,6 +375,18 @@ def test_a_note_under_a_list_has_one_line(tmp_path: Path) -> None:
         assert refusal(paths, "--mapping", str(path)).lines == (line(what, paths[1], 7, "port", number),)
 
 
+def test_a_row_of_units_or_headings_has_one_line(tmp_path: Path) -> None:
+    """Checks that a row with one thing wrong says which, and so do errors of the spreadsheet."""
+    units = "-,-,ES,ES,ms,us,byte,byte,H/L,,\n"
+    heading, rest = worked_lists.LINKS.split("\n", 1)
+    paths = worked_lists.write(tmp_path, f"{heading}\n{units}{rest}{heading}\n", worked_lists.ENDS + "gyro,A,#N/A,x\n",
+                               worked_lists.WIRES + "A,3,B,b,100,0\n")
+    what = "no number in this row: if it has units or headings, it has to go"
+    assert refusal(paths).lines == (
+        line(what, paths[0], 2, "1", "-"), line(what, paths[0], 7, "1", "id"), line(ERROR, paths[1], 7, "port", "#N/A"),
+        line("not a whole number", paths[1], 7, "mbit", "x"), line("not a whole number", paths[2], 5, "port_b", "b"))
+
+
 def test_a_row_of_few_texts_is_no_note(tmp_path: Path) -> None:
     paths = worked_lists.write(tmp_path, ends=worked_lists.ENDS + "1,A,1,\n")
     assert refusal(paths).lines == (

@@ -17,6 +17,7 @@ UNITS = {"ms", "us", "ns"}  # at the ends of keys
 UNSAVED = "a formula whose value was not saved with it"
 ERROR = "an error of the spreadsheet in place of a value: it has to be mended there"
 NOTE = "no more than two cells of this row are filled: if it is a note, it has to go"
+WORDED = "no number in this row: if it has units or headings, it has to go"
 BARE = "no heading above this cell: its column has to have one, or to go"
 ALIKE = "not read, but {} is: what counts has to be in that column"
 GAP = "empty, though others of this column are not: {} counts here"
@@ -70,6 +71,11 @@ def is_short(row: Row) -> bool:
     merged range are, count as one."""
     has_error = any(isinstance(text, Error) for text in row.cells)
     return not has_error and sum(text != "" for text, _ in groupby(row.cells)) <= 2
+
+
+def is_worded(row: Row) -> bool:
+    """Returns whether no cell of a row has a digit, or an error: it may have units, or headings again."""
+    return not any(isinstance(text, Error) or re.search(r"\d", text) for text in row.cells)
 
 
 class List:
@@ -225,16 +231,17 @@ class List:
 
     def rows(self, note: Callable[[Row], str] = lambda row: NOTE) -> Iterator[Row]:
         """Returns the rows. A cell that no heading is above, as an unquoted separator makes them, is a complaint. A row
-        that may be a note has but one, which is made of it."""
+        that may be a note, of which this one says what it is, or that may belong to the headings has but one."""
         for row in self.sheet.rows:
             before = len(self.complaints.found)
             beyond = [at for at in range(self.width, len(row.cells)) if row.cells[at]]
             self.complain_beside(row, "more cells than the heading has", beyond[:1])
             self.warn_of_struck(row)
             yield row
-            if len(self.complaints.found) > before + 1 and is_short(row):
+            if len(self.complaints.found) > before + 1 and (is_short(row) or is_worded(row)):
                 del self.complaints.found[before:]
-                self.complain_beside(row, note(row), [at for at, text in enumerate(row.cells) if text][:1])
+                what = note(row) if is_short(row) else WORDED
+                self.complain_beside(row, what, [at for at, text in enumerate(row.cells) if text][:1])
         self.complain_of_bare_columns()
 
     def bare_columns(self) -> set[int]:
