@@ -48,7 +48,8 @@ def changed(book: bytes, part: str, texts: dict[bytes, bytes]) -> bytes:
 
 
 @pytest.mark.parametrize("text", [
-    b"id,to\n1,A\n", b"id;to\n1;A\n", b"id\tto\r\n1\tA\r\n", b"\xef\xbb\xbfid;to\n1 ; A", b'"id","to"\n"1","A"\n'])
+    b"id,to\n1,A\n", b"id;to\n1;A\n", b"id\tto\r\n1\tA\r\n", b"\xef\xbb\xbfid;to\n1 ; A", b'"id","to"\n"1","A"\n',
+    b'"id"\t"to"\r\n"1"\t"A"\r\n'])
 def test_separators_and_line_ends(tmp_path: Path, text: bytes) -> None:
     assert read(tmp_path / "list.csv", text) == [Row(1, ["id", "to"]), Row(2, ["1", "A"])]
 
@@ -263,7 +264,7 @@ def test_a_workbook_with_lists_to_choose_from_is_read_without_a_warning(
     ("list.xlsx", b"\xd0\xcf\x11\xe0\xa1\xb1\x1a\xe1" + bytes(504), f"{PASSWORD}, {{}}"),
     ("list.xlsx", changed(workbook([["id"]]), "xl/workbook.xml", STRICT),
      "an .xlsx of the strict form: save it as .xlsx, as an Excel workbook, {}"),
-    ("list.xlsx", b"id,to\n", "not a workbook that can be read, {}")])
+    ("list.xlsx", b"id,to\n", "not a workbook that can be read: save it again, as .xlsx or .csv, {}")])
 def test_files_that_are_no_lists(tmp_path: Path, name: str, text: bytes, line: str) -> None:
     with pytest.raises(Failure) as ended:
         read(tmp_path / name, text)

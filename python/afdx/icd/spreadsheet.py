@@ -216,7 +216,7 @@ def workbook_rows(text: bytes) -> Found:
 def separator_of(text: str) -> str:
     """Returns the separator that all of the first rows have as often as the first one, if it is the only such one, or
     what the first row has most of, both outside quotes, in which there may be line feeds too."""
-    rows = [row for row in QUOTED.sub("", text.lstrip("\r\n")).split("\n") if row.strip()][:FIRST] or [""]
+    rows = [row for row in QUOTED.sub("", text.lstrip("\r\n")).split("\n") if row.strip("\r ")][:FIRST] or [""]
     even = [sign for sign in SEPARATORS if sign in rows[0] and len({row.count(sign) for row in rows}) == 1]
     return even[0] if len(even) == 1 else max(SEPARATORS, key=rows[0].count)
 
@@ -250,7 +250,7 @@ def why_unread(text: bytes) -> str:
         return "an .xlsx with a password, or an old .xls: save it as .xlsx without a password"
     if has_part(text, WORKBOOK, STRICT):
         return "an .xlsx of the strict form: save it as .xlsx, as an Excel workbook"
-    return "not a workbook that can be read"
+    return "not a workbook that can be read: save it again, as .xlsx or .csv"
 
 
 def rows_of(command: str, path: Path) -> Found:
