@@ -74,6 +74,21 @@ def test_what_all_rows_have_as_often_separates(tmp_path: Path, rows: str, cells:
     assert len(read(tmp_path / "list.csv", rows.encode())[0].cells) == cells
 
 
+@pytest.mark.parametrize("text, is_refused", [
+    ('id,name,from,to\n1,"a,A,B\n2,b,A,C\n3,c",A,D\n', True), ('\nid;name;from;to\n"1;a;A;B\n2";b;A;C\n', True),
+    ('id,name,from,to\r\n1,a,A,"B\r\n2,b,A,C"\r\n', True), ('id,name,from,to\n1,"a, b,\nc, d",A,B\n', False),
+    ('id,name,from,to\n1,"a,\nb\nc",A,B\n', False), ('id,to\n1,"A\nB,C"\n', False)])
+def test_rows_between_quotes_of_which_others_are_missing(tmp_path: Path, text: str, is_refused: bool) -> None:
+    """Checks that rows that would be one cell are not left out without a word, and that cells may have line feeds."""
+    if not is_refused:
+        assert len(read(tmp_path / "list.csv", text.encode())) == 2
+        return
+    with pytest.raises(Failure) as ended:
+        read(tmp_path / "list.csv", text.encode())
+    what, number = "whole rows within quotes, line {}: one may be missing", 3 if text.startswith("\n") else 2
+    assert ended.value.lines == (f"command: not separated values: {what.format(number)}, {tmp_path}/list.csv",)
+
+
 def test_a_first_line_that_says_the_separator(tmp_path: Path) -> None:
     rows = read(tmp_path / "list.csv", b'\xef\xbb\xbfsep=;\r\nid,a,b;to\r\n1;A\r\n')
     assert rows == [Row(2, ["id,a,b", "to"]), Row(3, ["1", "A"])]

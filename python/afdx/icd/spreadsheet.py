@@ -221,6 +221,15 @@ def separator_of(text: str) -> str:
     return even[0] if len(even) == 1 else max(SEPARATORS, key=rows[0].count)
 
 
+def has_next_row(cell: str, at: int, width: int, separator: str) -> bool:
+    """Returns whether a cell with this place in its row has the rest of the row, and the next one up to that place, as
+    between quotes of which others are missing. Before a space, as texts have it, a separator counts for none."""
+    if "\n" not in cell or width < 4:
+        return False
+    first, *between, last = [line.count(separator) - line.count(f"{separator} ") for line in cell.split("\n")]
+    return (first, last) == (width - 1 - at, at) and set(between) <= {width - 1}
+
+
 def separated_rows(text: str) -> list[Row]:
     """Returns the rows of separated values; one with line feeds in its cells is of the line where it begins. A first
     line may say the separator, as some spreadsheets have it."""
@@ -228,9 +237,12 @@ def separated_rows(text: str) -> list[Row]:
     separator = said[1] if said else separator_of(text)
     begin, first = (said.end(), 1) if said else (0, 0)
     reader = csv.reader(io.StringIO(text[begin:], newline=""), delimiter=separator, strict=True)
-    rows, line = [], first + 1
+    rows, line, width = [], first + 1, 0
     for cells in reader:
         rows.append(Row(line, [told(cell.strip()) for cell in cells]))
+        width = width or len(cells)
+        if any(has_next_row(cell, at, width, separator) for at, cell in enumerate(rows[-1].cells)):
+            raise csv.Error(f"whole rows within quotes, line {line}: one may be missing")
         line = first + reader.line_num + 1
     return rows
 
