@@ -132,7 +132,8 @@ def test_bad_rows_of_all_lists_at_once(tmp_path: Path) -> None:
 
 
 def test_a_row_for_each_receiver(tmp_path: Path) -> None:
-    """Checks that it is said of rows that differ in no other column that is read, and of no other rows."""
+    """Checks that it is said of rows that differ in no other column that is read, and of no other rows, and that rows
+    that differ in none may be of two networks."""
     links = ",".join([*GOOD, "remark"]) + "\n"
     changes: list[dict[str, str]] = [{}, {"to": "C1"}, {"to": "C2"}, {"to": "C1", "via": "C"}, {}]
     for change in changes:
@@ -141,7 +142,16 @@ def test_a_row_for_each_receiver(tmp_path: Path) -> None:
     all_in_one = ", with another to: all receivers have to stand in one row, with | between them"
     assert refusal(paths).lines == tuple(
         line(f"{paths[0]} line 2 has it too{more}", paths[0], number, "id", "20")
-        for number, more in ((3, all_in_one), (4, all_in_one), (5, ""), (6, "")))
+        for number, more in ((3, all_in_one), (4, all_in_one), (5, ""),
+                             (6, ", the same in all that is read: networks A and B have lists of their own")))
+
+
+def test_a_row_for_each_network_of_an_end_system(tmp_path: Path) -> None:
+    paths = worked_lists.write(tmp_path, ends=worked_lists.ENDS + "A1,B,2,100\nA1,A,3,100\n")
+    what = f"{paths[1]} line 2 has it too"
+    assert refusal(paths).lines == (
+        line(f"{what}, at another switch: networks A and B have lists of their own", paths[1], 7, "name", "A1"),
+        line(what, paths[1], 8, "name", "A1"))
 
 
 @pytest.mark.parametrize("cells, number, value", [("B,20,A,20,1000,50", 2, "B"), ("A,22,C,22,100,25", 4, "A")])

@@ -14,6 +14,7 @@ from afdx.icd.lists import NOTE, List
 from afdx.icd.mapping import Mapping
 from afdx.icd.spreadsheet import Row
 
+OF_BOTH = "networks A and B have lists of their own"
 GOES_ON = "receivers without a sender: all of a link have to stand in its row, with | between them"
 JOINED = re.compile(r"[;/+&\n]|\band\b")  # what may lie between receivers, and does not here
 
@@ -116,12 +117,17 @@ def take_switch(of: List, row: Row, column: Column[str], switch: str | None, net
         network.switches.add(switch)
 
 
+def one_network(of: List, row: Row, other: Row) -> str:
+    """Says what to do about two rows of an end system at different switches."""
+    return f", at another switch: {OF_BOTH}" if of.text(row, columns.SWITCH) != of.text(other, columns.SWITCH) else ""
+
+
 def read_ends(of: List, network: Network, ports: Once) -> None:
     """Reads the end systems, each at a port of its own."""
     names = Once()
     for row in of.rows():
         name = of.cell(row, columns.END)
-        names.take(of, row, columns.END, name)
+        names.take(of, row, columns.END, name, hint=partial(one_network, of, row))
         port = Port(of.cell(row, columns.SWITCH), of.cell(row, columns.PORT), of.cell(row, columns.MBIT),
                     of.cell(row, columns.BUFFER), of.cell(row, columns.DELAY_LIMIT))
         ports.take(of, row, columns.PORT, port.switch, port.number)
@@ -213,10 +219,10 @@ def check_names(of: List, link: Link, network: Network) -> None:
 
 
 def one_row_for_all(of: List, row: Row, other: Row) -> str:
-    """Says what to do about two rows of a link that differ in its receivers alone."""
+    """Says what to do about two rows of a link that differ in its receivers alone, or in nothing that is read."""
     differ = [column for column in columns.LINKS if of.text(row, column) != of.text(other, column)]
     if differ != [columns.TARGETS]:
-        return ""
+        return "" if differ else f", the same in all that is read: {OF_BOTH}"
     return f", with another {of.heading(columns.TARGETS)}: all receivers have to stand in one row, with | between them"
 
 
