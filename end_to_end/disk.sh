@@ -72,21 +72,19 @@ keeps() {
     done
 }
 
-# trace_fails LINE COMMAND..: after this command has changed IN or OUT, a trace ends with status 5 and this line, and every file is the
-# one that it was.
-trace_fails() {
-    local line=$1
-    shift
-    again && "$@" && all_but 0 >before.txt || return 1
-    "$afdx" trace table.toml in out >answer.txt 2>said.txt
-    echo $? >status.txt
-    cat said.txt
-    said 5 "$line" && [ ! -s answer.txt ] && all_but 0 >after.txt && diff before.txt after.txt
-}
-
 # instead KIND FILE: has what is no file in the place of a file.
 instead() {
     rm -r "$2" && "$1" "$2"
+}
+
+# names_unread FILE ARGUMENT..: where each read of this file fails, though it can be opened, afdx with these arguments ends with a line
+# that names it, and every file is the one that it was.
+names_unread() {
+    again && ln -sf /proc/self/mem "$1" && all_but 0 >before.txt || return 1
+    "$afdx" "${@:2}" >answer.txt 2>said.txt
+    echo $? >status.txt
+    cat said.txt
+    said 5 "afdx: device get $1" && [ ! -s answer.txt ] && all_but 0 >after.txt && diff before.txt after.txt
 }
 
 # through_a_link TARGET: a link in OUT that leads to no file that was got is replaced, and what it leads to is as it was.
@@ -376,7 +374,11 @@ check "a FIFO in OUT" keeps in out 0 "$put_1" instead mkfifo out/port-1.pcap
 check "a FIFO in IN is read" from_a_fifo
 check "a folder in a capture's place in OUT" keeps in out 0 "$put_2" instead mkdir out/port-2.pcap
 check "a folder in a capture's place in IN" keeps in out 0 "afdx: device get in/port-2.pcap" instead mkdir in/port-2.pcap
-check "the same where trace reads it" trace_fails "afdx: device get in/port-2.pcap" instead mkdir in/port-2.pcap
+for name in in/port-1.pcap in/port-2.pcap; do
+    for command in run trace compare; do
+        check "$name can be opened and not read by $command" names_unread "$name" "$command" table.toml in out
+    done
+done
 check "a file in the place of OUT" keeps in out 0 "$put_1" instead touch out
 check "a capture that may not be written" keeps in out 0 "$put_1" chmod a-w out/port-1.pcap
 check "OUT of a network is IN" out_of_a_network_is_in
