@@ -60,6 +60,20 @@ const pictures = shown.map(svg => { svg.scrollIntoView(); return placed(svg.quer
 const bars = [...document.querySelectorAll(".bar")].map(bar => placed(bar.querySelectorAll("b, span")));
 return [...pictures, ...bars];
 """
+# The texts of pictures with axes that are cut at the picture's edge.
+CUT = """
+const shown = [...document.querySelectorAll("svg[role=img]")].filter(svg => svg.checkVisibility());
+return shown.flatMap(svg => {
+    svg.scrollIntoView();
+    const whole = svg.getBoundingClientRect();
+    const stands = box => box.left < whole.left || box.right > whole.right || box.top < whole.top || box.bottom > whole.bottom;
+    return [...svg.querySelectorAll("text")].filter(text => stands(text.getBoundingClientRect())).map(text => text.textContent);
+});
+"""
+HIDDEN = "return [...document.querySelectorAll('.side')].filter(side => side.scrollWidth > side.clientWidth).length"
+LATEST = """const heading = document.querySelectorAll("#differences th button")[4];
+heading.click();
+heading.click();"""
 TIGHT = "return [...document.querySelectorAll('td, th')].filter(cell => cell.scrollWidth > cell.clientWidth).map(cell => cell.textContent)"
 FIRST = """
 const table = document.getElementById("all");
@@ -153,6 +167,9 @@ def check_recordings(page: Any, options: argparse.Namespace, rows: list[tuple[st
              for port, link, kind, came, _, left, _, delay, bound in lines]
     cells = page.execute_script(ROWS, "differences")
     expect(f"rows of differences: {len(cells)}", [row[:3] + row[5:] for row in cells] == shown)
+    page.execute_script(LATEST)
+    sorted_by_utc = sorted((row[4] for row in cells), reverse=True)
+    expect("differences sort by their time in UTC", [row[4] for row in page.execute_script(ROWS, "differences")] == sorted_by_utc)
     texts, ticks, bands = page.execute_script(MARKED)
     named = {text for port, _, kind, *_ in lines for text in (f"port {port}", kind)}
     expect(f"a picture of {named}, not of {texts}", named == {text for text in texts if text in KINDS or text.startswith("port ")})
@@ -206,6 +223,9 @@ def check_places(page: Any, width: int) -> None:
     expect(f"the link stays where the table is scrolled: {first}", first["link"] >= 0)
     for texts in page.execute_script(TEXTS):
         expect(f"at {width} px {touching(texts)} touch", touching(texts) is None)
+    cut = page.execute_script(CUT)
+    expect(f"at {width} px no text of a picture is cut, not {cut[:3]}", not cut)
+    expect(f"at {width} px small tables are there whole", width < max(WIDTHS) or page.execute_script(HIDDEN) == 0)
     tight = page.execute_script(TIGHT)
     expect(f"at {width} px each cell has room, not {tight[:3]}", not tight)
 

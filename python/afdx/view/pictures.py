@@ -122,11 +122,10 @@ def port_delays(run: Run, port: int) -> Any:
         plot(axes, instants, values / 1e9, priority)
         bound = bounds[priority]
         if bound is not None:
-            axes.axhline(bound / 1e9, color=colour, linewidth=1.6, linestyle=(0, (5, 3)),
-                         label=f"{priority}: bound {bound:,} ns")
+            axes.axhline(bound / 1e9, color=colour, linewidth=1.6, linestyle=(0, (5, 3)), label=f"bound {bound:,} ns")
     axes.set_ylim(bottom=0)
     axes.yaxis.set_major_formatter(SECONDS)
-    legend(axes, (-0.02, 0.99), 2, handletextpad=0.3)
+    legend(axes, (-0.02, 0.99), 2, handletextpad=0.3, fontsize=9)
     return figure
 
 
