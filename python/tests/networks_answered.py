@@ -11,7 +11,7 @@ import pytest
 from afdx.program import Progress
 from afdx.view.answers import Answers
 from afdx.view.network import run
-from afdx.view.network.answers import Asked, NetworkAnswers, sizes_of
+from afdx.view.network.answers import NetworkAnswers, SizedNetwork, sizes_of
 from afdx.view.network.layout import Layout, Port, Wire
 from afdx.view.network.run import NetworkRun
 from afdx.view.table import Link, Table
@@ -99,7 +99,7 @@ CUT_ARRIVALS = ARRIVALS | {"B": [row for row in ARRIVALS["B"] if row[0] == 3]}
 CUT_DEPARTURES = DEPARTURES | {"B": [(1, 1, 2, 11, "low", 5000, 5200), (2, 1, 0, 12, "high", 400, 500)]}
 
 
-def cut(monkeypatch: pytest.MonkeyPatch) -> Asked:
+def cut(monkeypatch: pytest.MonkeyPatch) -> SizedNetwork:
     """Has the answers be those of the outage."""
     for name in ("LAYOUT", "CHECK", "REPORT", "MEASURED", "ARRIVALS", "DEPARTURES"):
         monkeypatch.setitem(globals(), name, globals()[f"CUT_{name}"])
@@ -119,8 +119,8 @@ def departures_of(switch: str) -> str:
 
 
 def asked(checked: bool = True, said: str = CHECK, refused: tuple[str, ...] = (),
-          premises: tuple[str, ...] = ()) -> Asked:
-    return Asked("net.toml", checked, said, list(refused), list(premises), sizes_of(SIZE), LAYOUT, TABLES)
+          premises: tuple[str, ...] = ()) -> SizedNetwork:
+    return SizedNetwork("net.toml", checked, said, list(refused), list(premises), sizes_of(SIZE), LAYOUT, TABLES)
 
 
 def answers(folder: Path) -> NetworkAnswers:
@@ -135,6 +135,6 @@ def answers(folder: Path) -> NetworkAnswers:
     return NetworkAnswers(REPORT, switches)
 
 
-def read(folder: Path, what: Asked | None = None) -> NetworkRun:
+def read(folder: Path, what: SizedNetwork | None = None) -> NetworkRun:
     """Reads the answers that are put into the folder."""
     return run.read(what or asked(), answers(folder), Progress("test"))

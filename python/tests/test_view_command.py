@@ -91,7 +91,7 @@ def test_a_pipe(folder: Path) -> None:
 def test_no_temporary_folder(tmp_path: Path, monkeypatch: pytest.MonkeyPatch) -> None:
     monkeypatch.setattr(tempfile, "tempdir", str(tmp_path / "none"))
     with pytest.raises(Failure) as caught:
-        with answers.asked(program.Program("afdx-view", "/bin/true"), "", "table.toml", "in"):
+        with answers.answered(program.Program("afdx-view", "/bin/true"), "", "table.toml", "in"):
             pass
     assert (caught.value.status, caught.value.lines) == (
         DEVICE, ("afdx-view: cannot make a temporary folder: No such file or directory",))
@@ -165,7 +165,7 @@ def test_a_page_of_answers(folder: Path) -> None:
 
 
 def test_what_the_text_of_a_page_says(folder: Path) -> None:
-    making.make("afdx-view", command.options_of(["table.toml", ".", "page.html", "--answers", "."]))
+    making.make("afdx-view", command.request_of(["table.toml", ".", "page.html", "--answers", "."]))
     page = " ".join((folder / "page.html").read_text().split())
     assert '<p class="verdict bad"> <b>Not accepted</b>: port 2 breaks L2 L4. 7 frames in, 4 copies out,' in page
     assert "<b>2 lost</b>, 2 policed." in page

@@ -7,7 +7,7 @@ import pytest
 from afdx import program
 from afdx.failure import DEVICE, LOAD, USAGE, Failure
 from afdx.view import answers, arrivals, command, differences
-from afdx.view.answers import Asked, Compared
+from afdx.view.answers import Compared, ToCompare
 from afdx.view.differences import Difference
 from afdx.view.recorded import Recordings
 from afdx.view.run import Run
@@ -28,7 +28,7 @@ def piece(request: pytest.FixtureRequest, monkeypatch: pytest.MonkeyPatch) -> No
 def read(folder: Path, said: str = recorded_answers.SAID, rows: str = recorded_answers.ROWS) -> tuple[Run, Recordings]:
     answered.put_answers(folder)
     recorded_answers.put(folder, said, rows)
-    asked = Asked("recorded", recorded_answers.OPTIONS)
+    asked = ToCompare("recorded", recorded_answers.OPTIONS)
     run = answered.read(folder, compared=Compared(asked, said, folder / "differences.csv"))
     assert run.recordings
     return run, run.recordings
@@ -105,7 +105,7 @@ def test_a_band_by_hand() -> None:
 
 
 def test_offsets_of_all_options() -> None:
-    assert Asked("out", ["--stamps=free", "--offset=3=-37200,1=+5", "--rest"]).offsets() == {3: -37200, 1: 5}
+    assert ToCompare("out", ["--stamps=free", "--offset=3=-37200,1=+5", "--rest"]).offsets() == {3: -37200, 1: 5}
 
 
 def test_a_page_of_recordings(folder: Path) -> None:
@@ -154,10 +154,10 @@ def test_options_that_are_refused(arguments: list[str], said: str, capsys: pytes
 
 def test_options_are_handed_on_as_they_are_given() -> None:
     """Checks that an option that is given twice, which the program refuses, is handed on too."""
-    options = command.options_of(["t", "i", "p.html", "--recorded", "o", "--rest", "--stamps", "free", "--offset=1=5",
+    request = command.request_of(["t", "i", "p.html", "--recorded", "o", "--rest", "--stamps", "free", "--offset=1=5",
                                   "--offset", "2=-5", "--least-latency", "3"])
-    assert options.recordings == Asked("o", ["--least-latency=3", "--stamps=free", "--offset=1=5", "--offset=2=-5",
-                                             "--rest"])
+    assert request.recordings == ToCompare("o", ["--least-latency=3", "--stamps=free", "--offset=1=5", "--offset=2=-5",
+                                                 "--rest"])
 
 
 @pytest.mark.parametrize("status", [0, 1, USAGE, LOAD])
@@ -168,9 +168,9 @@ def test_that_recordings_differ_is_an_answer(tmp_path: Path, status: int) -> Non
     asked = program.Program("afdx-view", str(file))
     if status > 1:
         with pytest.raises(Failure) as caught:
-            answers.compare(asked, "t", "in", Asked("out", ["--rest"]), tmp_path)
+            answers.compare(asked, "t", "in", ToCompare("out", ["--rest"]), tmp_path)
         assert (caught.value.status, caught.value.lines) == (status, ("refused",))
         return
-    found = answers.compare(asked, "t", "in", Asked("out", ["--rest"]), tmp_path)
+    found = answers.compare(asked, "t", "in", ToCompare("out", ["--rest"]), tmp_path)
     assert found.said == f"compare t in out --rest --rows {tmp_path} --csv\n"
     assert found.rows == tmp_path / "differences.csv"

@@ -18,7 +18,7 @@ DIFFERS = 1  # the status of `compare` that recordings differ, which is an answe
 
 
 @dataclass(frozen=True)
-class Asked:
+class ToCompare:
     """The folder of what was recorded at the output ports of a switch, and the options of `compare`, as `--name=value`
     but for `--rest`."""
     folder: str
@@ -34,7 +34,7 @@ class Asked:
 @dataclass(frozen=True)
 class Compared:
     """What `compare` printed of recordings, and its file."""
-    recordings: Asked
+    recordings: ToCompare
     said: str
     rows: Path
 
@@ -72,7 +72,7 @@ def need_files(command: str, paths: Sequence[str]) -> None:
             raise Failure(USAGE, f"{command}: {path} is not a file, and the program reads it more than once")
 
 
-def compare(program: Program, table: str, folder: str, recordings: Asked, room: Path) -> Compared:
+def compare(program: Program, table: str, folder: str, recordings: ToCompare, room: Path) -> Compared:
     """Has the program compare recordings, and put its file into the room."""
     answer = program.ask("compare", table, folder, recordings.folder, *recordings.options, "--rows", room, CSV)
     if answer.status not in (0, DIFFERS):
@@ -81,8 +81,8 @@ def compare(program: Program, table: str, folder: str, recordings: Asked, room: 
 
 
 @contextmanager
-def asked(program: Program, size: str, table: str, folder: str, unchecked: bool = False,
-          recordings: Asked | None = None) -> Iterator[Answers]:
+def answered(program: Program, size: str, table: str, folder: str, unchecked: bool = False,
+             recordings: ToCompare | None = None) -> Iterator[Answers]:
     """Runs the program over a table, of which it has said the size, a folder of captures, and recordings if there are
     some; the answers are there for the time of the context."""
     options = ["--unchecked"] if unchecked else []
@@ -93,7 +93,7 @@ def asked(program: Program, size: str, table: str, folder: str, unchecked: bool 
         yield Answers(size, program.answer("measure", table, folder, *options, CSV), room, compared)
 
 
-def kept(command: str, folder: Path, recordings: Asked | None) -> Answers:
+def kept(command: str, folder: Path, recordings: ToCompare | None) -> Answers:
     """Returns what a folder has of an earlier run: size.csv and measure.csv with what these commands printed, the files
     of `trace`, and of recordings compare.csv and the file of `compare`."""
     size, measured = (text_of(command, folder / name) for name in PRINTED)

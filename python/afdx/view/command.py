@@ -3,8 +3,9 @@ import argparse
 from collections.abc import Sequence
 
 from afdx import modules
-from afdx.view.answers import Asked
+from afdx.view.answers import ToCompare
 from afdx.view.making import make
+from afdx.view.request import Request
 
 COMMAND = "afdx-view"
 # the options of `afdx compare` that have a value and decide what it finds
@@ -32,7 +33,7 @@ def add_comparison(parser: argparse.ArgumentParser) -> None:
                         help="for compare: the recordings begin with the switch at rest")
 
 
-def recordings_of(parser: argparse.ArgumentParser, options: argparse.Namespace) -> Asked | None:
+def recordings_of(parser: argparse.ArgumentParser, options: argparse.Namespace) -> ToCompare | None:
     """Returns what is to be compared, if anything is."""
     given = vars(options)
     handed = [f"{name}={value}" for name in VALUED for value in given[name]] + ([REST] if given[REST] else [])
@@ -42,7 +43,7 @@ def recordings_of(parser: argparse.ArgumentParser, options: argparse.Namespace) 
         parser.error("recordings are compared by an accepted table alone: --recorded goes without --unchecked")
     if options.recorded is None:
         return None
-    asked = Asked(options.recorded, handed)
+    asked = ToCompare(options.recorded, handed)
     try:
         asked.offsets()
     except ValueError:  # with --answers no program refuses it
@@ -50,7 +51,7 @@ def recordings_of(parser: argparse.ArgumentParser, options: argparse.Namespace) 
     return asked
 
 
-def options_of(arguments: Sequence[str]) -> argparse.Namespace:
+def request_of(arguments: Sequence[str]) -> Request:
     parser = argparse.ArgumentParser(
         prog=COMMAND,
         description="Runs afdx over captures and makes one page of pictures of what became of the frames, at one "
@@ -76,12 +77,12 @@ def options_of(arguments: Sequence[str]) -> argparse.Namespace:
     names = (options.table, options.folder, options.out, options.answers or "", options.recorded or "")
     if any(name.startswith("-") for name in names):
         parser.error("a name may not begin with a dash: write ./ before it")
-    options.recordings = recordings_of(parser, options)
-    return options
+    return Request(options.table, options.folder, options.out, options.unchecked, options.answers or "",
+                   recordings_of(parser, options))
 
 
 def main(arguments: Sequence[str]) -> int:
-    options = options_of(arguments)
+    request = request_of(arguments)
     modules.need(COMMAND, "jinja2", "matplotlib", "numpy", "pandas")
-    make(COMMAND, options)
+    make(COMMAND, request)
     return 0

@@ -34,7 +34,7 @@ class Difference:
 
 
 @dataclass(frozen=True)
-class Place:
+class Times:
     """Where differences are drawn. Instants are ns after 1970."""
     begin: int  # of the picture of all
     end: int
@@ -46,16 +46,16 @@ class Place:
 class Differences:
     """Counts differences, and keeps of them what is shown."""
 
-    def __init__(self, ports: Sequence[int], shown: Sequence[Pair], offsets: dict[int, int], place: Place) -> None:
+    def __init__(self, ports: Sequence[int], shown: Sequence[Pair], offsets: dict[int, int], times: Times) -> None:
         """Makes room for the differences at these ports, some of whose links have pictures; `offsets` are in ns, by
         port."""
         self.ports = list(ports)
         self.offsets = offsets
-        self.place = place
+        self.times = times
         self.many: Counter[tuple[int, str]] = Counter()  # by port and kind
         self.rows: dict[int, list[Difference]] = {port: [] for port in ports}  # the first of each port
-        self.marks = Greatest(len(ports) * len(KINDS), PARTS, max(1, place.end - place.begin))
-        self.ticks = Greatest(len(shown), place.parts, place.span)  # by place in `shown`
+        self.marks = Greatest(len(ports) * len(KINDS), PARTS, max(1, times.end - times.begin))
+        self.ticks = Greatest(len(shown), times.parts, times.span)  # by place in `shown`
         self.places = {pair.port * LINKS + pair.link: number for number, pair in enumerate(shown)}
 
     def group(self, port: int, kind: str) -> int:
@@ -76,14 +76,14 @@ class Differences:
         """Marks differences in the picture of all."""
         groups = {pair: self.group(*pair) for pair in self.many}
         own = numpy.array([groups[pair] for pair in zip(rows.port, rows.kind)], numpy.int64)
-        instants = numpy.clip(stamps - self.place.begin, 0, self.marks.span)
+        instants = numpy.clip(stamps - self.times.begin, 0, self.marks.span)
         self.marks.add(own, instants, numpy.zeros(len(rows)))
 
     def tick(self, rows: Any, stamps: Ints) -> None:
         """Marks differences of links in the pictures of these."""
         places = (rows.port * LINKS + rows.link.astype("int64")).map(self.places)
         drawn = places.notna().to_numpy()
-        instants = numpy.clip(stamps - self.place.first, 0, self.place.span)[drawn]
+        instants = numpy.clip(stamps - self.times.first, 0, self.times.span)[drawn]
         self.ticks.add(places[drawn].to_numpy(numpy.int64), instants, numpy.zeros(len(instants)))
 
     def keep(self, rows: Any, stamps: Ints) -> None:

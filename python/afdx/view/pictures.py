@@ -132,12 +132,12 @@ def port_delays(run: Run, port: int) -> Any:
 def differing(differences: Differences, width: float) -> Any:
     """Draws when which differences were, in a row for each port that has some. The width is in inches."""
     ports = sorted({port for port, _ in differences.many})
-    place, height = differences.place, 0.5 * len(ports) + 0.1
+    times, height = differences.times, 0.5 * len(ports) + 0.1
     figure = Figure(figsize=(width, height + 1.2))
     axes = panel(figure, 0.3, height)
     rule(axes)
     axes.xaxis.set_major_formatter(SECONDS)
-    begin, span = (place.begin - place.first) / 1e9, differences.marks.span / 1e9
+    begin, span = (times.begin - times.first) / 1e9, differences.marks.span / 1e9
     axes.set_xlim(begin - 0.01 * span, begin + 1.01 * span)
     for kind in KINDS:
         mark, colour, below = SIGNS[kind]

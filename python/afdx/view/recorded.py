@@ -5,7 +5,7 @@ from afdx import printed
 from afdx.view.answers import Compared
 from afdx.view.arrivals import Fates
 from afdx.view.bounded import Bounded
-from afdx.view.differences import KINDS, Differences, Place
+from afdx.view.differences import KINDS, Differences, Times
 from afdx.view.differences import read as read_differences
 from afdx.view.pairs import Pair
 
@@ -128,8 +128,8 @@ def read(compared: Compared, pairs: list[Pair], shown: list[Pair], fates: Fates,
     ports = ports_of(compared.said, links)
     (span,), (verdict,) = (printed.rows_of(compared.said, kind) for kind in ("span", "verdict"))
     begin, end = int(span["from"]), int(span["until"])
-    place = Place(begin, end, begin if fates.first is None else fates.first, fates.span(), parts)
-    differences = Differences([port.port for port in ports], shown, compared.recordings.offsets(), place)
+    times = Times(begin, end, begin if fates.first is None else fates.first, fates.span(), parts)
+    differences = Differences([port.port for port in ports], shown, compared.recordings.offsets(), times)
     read_differences(compared.rows, differences)
     found = {(port.port, kind): many for port in ports for kind, many in port.differences.items() if many}
     conforms = VERDICTS[verdict["verdict"]]

@@ -24,7 +24,7 @@ from afdx.view.table import Table, table_of
 
 
 @dataclass(frozen=True)
-class Asked:
+class SizedNetwork:
     """A network file that the program has read, with its tables, and what it printed of both."""
     name: str
     checked: bool
@@ -64,7 +64,7 @@ def premises_of(said: str) -> list[str]:
     return [line for line in said.splitlines() if line.startswith("premise ")]
 
 
-def ask_size(program: Program, name: str, unchecked: bool) -> Asked:
+def ask_size(program: Program, name: str, unchecked: bool) -> SizedNetwork:
     """Has the program check a network. One that is refused ends the command, unless it is to run unchecked."""
     if not unchecked:
         said, refused = program.answer("network", "check", name, CSV), []
@@ -75,8 +75,8 @@ def ask_size(program: Program, name: str, unchecked: bool) -> Asked:
     sizes = sizes_of(program.answer("network", "size", name, CSV))
     layout = layout_of(toml.read(program.progress.command, Path(name)), Path(name).parent)
     tables = {switch: table_of(toml.read(program.progress.command, path)) for switch, path in layout.tables.items()}
-    return Asked(name, not unchecked, said, refused, premises,
-                 {switch: sizes.get(switch, "") for switch in tables}, layout, tables)
+    return SizedNetwork(name, not unchecked, said, refused, premises,
+                        {switch: sizes.get(switch, "") for switch in tables}, layout, tables)
 
 
 def capture(folder: Path | str, port: Port) -> str:
@@ -84,14 +84,14 @@ def capture(folder: Path | str, port: Port) -> str:
     return os.path.join(folder, port.switch, f"port-{port.number}.pcap")
 
 
-def given(asked: Asked, folder: str) -> list[str]:
+def given(asked: SizedNetwork, folder: str) -> list[str]:
     """Names the captures of the ports of end systems."""
     wired = asked.layout.into()
     ports = [Port(switch, number) for switch, table in asked.tables.items() for number in table.ports]
     return [capture(folder, port) for port in ports if port not in wired]
 
 
-def inputs_of(asked: Asked, folder: str) -> dict[str, str]:
+def inputs_of(asked: SizedNetwork, folder: str) -> dict[str, str]:
     """Returns the names of all files that the page is made of, each with what the page shows of it."""
     tables = {str(path): asked.shown_table(switch) for switch, path in asked.layout.tables.items()}
     return shown_by_name([asked.name]) | tables | shown_by_name(given(asked, folder), folder)
@@ -128,7 +128,7 @@ def silence(command: str, put: Path, end: Path) -> None:
         raise failing(command, f"cannot write {end.name}", error) from error
 
 
-def gather(command: str, asked: Asked, switch: str, folder: str, room: Path) -> Path:
+def gather(command: str, asked: SizedNetwork, switch: str, folder: str, room: Path) -> Path:
     """Returns a folder with the captures of all ports of a switch, once the network has run into the room."""
     came, wired = room / "in" / switch, asked.layout.into()
     came.mkdir(parents=True)
@@ -146,7 +146,7 @@ def gather(command: str, asked: Asked, switch: str, folder: str, room: Path) -> 
     return came
 
 
-def ask_switch(program: Program, asked: Asked, switch: str, folder: str, room: Path) -> Answers:
+def ask_switch(program: Program, asked: SizedNetwork, switch: str, folder: str, room: Path) -> Answers:
     """Has the program say what became of the frames at a switch."""
     came = gather(program.progress.command, asked, switch, folder, room)
     traced, table = room / "traced" / switch, asked.layout.tables[switch]
@@ -157,7 +157,7 @@ def ask_switch(program: Program, asked: Asked, switch: str, folder: str, room: P
 
 
 @contextmanager
-def answered(program: Program, asked: Asked, folder: str) -> Iterator[NetworkAnswers]:
+def answered(program: Program, asked: SizedNetwork, folder: str) -> Iterator[NetworkAnswers]:
     """Runs the program over a network and a folder of captures; the answers are there for the time of the context."""
     options = [] if asked.checked else ["--unchecked"]
     with files.temporary_folder(program.progress.command) as name:

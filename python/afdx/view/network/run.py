@@ -6,7 +6,7 @@ from afdx import printed
 from afdx.program import Progress
 from afdx.view.arrivals import Fates, read_fates
 from afdx.view.network import following, ways
-from afdx.view.network.answers import Asked, NetworkAnswers
+from afdx.view.network.answers import NetworkAnswers, SizedNetwork
 from afdx.view.network.layout import Port, Wire
 from afdx.view.network.ways import DrawnWays, LostEnd, Way
 from afdx.view.run import Run, run_of
@@ -41,7 +41,7 @@ class Totals:
 @dataclass(frozen=True)
 class NetworkRun:
     """Instants are ns after the first frame's stamp."""
-    asked: Asked
+    asked: SizedNetwork
     totals: Totals
     runs: dict[str, Run]
     loads: list[Load]  # of all output ports to which links lead
@@ -52,7 +52,7 @@ class NetworkRun:
     span: int
 
 
-def totals_of(asked: Asked, report: str) -> Totals:
+def totals_of(asked: SizedNetwork, report: str) -> Totals:
     into, out_of = asked.layout.into(), asked.layout.out_of()
     came, copies = printed.rows_of(report, "in"), printed.rows_of(report, "out")
     frames = sum(int(row["seen"]) for row in came if Port(row["switch"], int(row["port"])) not in into)
@@ -62,7 +62,7 @@ def totals_of(asked: Asked, report: str) -> Totals:
     return Totals(frames, sent, lost, policed)
 
 
-def loads_of(asked: Asked, runs: dict[str, Run], report: str) -> list[Load]:
+def loads_of(asked: SizedNetwork, runs: dict[str, Run], report: str) -> list[Load]:
     """Returns the loads of the ports that have links, in the order of the network file."""
     sent: Counter[Port] = Counter()
     for row in printed.rows_of(report, "out"):
@@ -95,7 +95,7 @@ def count_policed(found: list[Way], report: str) -> None:
         way.passed, way.policed = int(row["passed"]), int(row["policed"])
 
 
-def read(asked: Asked, answers: NetworkAnswers, progress: Progress) -> NetworkRun:
+def read(asked: SizedNetwork, answers: NetworkAnswers, progress: Progress) -> NetworkRun:
     """Reads a run of a network. KeyError or ValueError is raised if the answers do not fit together."""
     fates = {}
     for switch, own in answers.switches.items():

@@ -8,7 +8,7 @@ from afdx import printed
 from afdx.view.bounded import Sender
 from afdx.view.departures import PRIORITIES
 from afdx.view.greatest import Floats, Greatest, Ints
-from afdx.view.network.answers import Asked
+from afdx.view.network.answers import SizedNetwork
 from afdx.view.network.following import Delivered, Frames, way_number, way_of
 from afdx.view.network.layout import Port, port_of
 from afdx.view.run import RUN_PARTS, parts_of, shown_of
@@ -69,7 +69,7 @@ def measured_of(deliveries: Iterable[Delivered]) -> Measured:
     return measured
 
 
-def checked_ways(asked: Asked) -> list[Way]:
+def checked_ways(asked: SizedNetwork) -> list[Way]:
     """Returns the ways that `check` printed, but for those over which nothing comes."""
     ways = []
     for row in printed.rows_of(asked.said):
@@ -83,12 +83,12 @@ def checked_ways(asked: Asked) -> list[Way]:
     return ways
 
 
-def lost_ends(asked: Asked) -> list[LostEnd]:
+def lost_ends(asked: SizedNetwork) -> list[LostEnd]:
     """Returns the ends that get nothing: their rows have no way."""
     return [LostEnd(int(row["link"]), port_of(row["to"])) for row in printed.rows_of(asked.said) if not row["ways"]]
 
 
-def seen_ways(asked: Asked, frames: Frames, measured: Measured) -> list[Way]:
+def seen_ways(asked: SizedNetwork, frames: Frames, measured: Measured) -> list[Way]:
     """Returns the ways that frames took."""
     found = (way_of(frames, int(number)) for number in measured.numbers)
     return [Way(link, start, end, asked.tables[end.switch].links[link].priority, [], [], None, None)
@@ -100,7 +100,7 @@ def number_of(frames: Frames, way: Way) -> int:
     return way_number(way.link, start, way.start.number, end, way.end.number)
 
 
-def ways_of(asked: Asked, frames: Frames, measured: Measured) -> list[Way]:
+def ways_of(asked: SizedNetwork, frames: Frames, measured: Measured) -> list[Way]:
     """Returns all ways with what was measured of them. ValueError is raised if a frame took another way than those that
     the program knows."""
     ways = seen_ways(asked, frames, measured) if asked.refused else checked_ways(asked)
