@@ -37,16 +37,7 @@ LENGTH = 250_000_000  # ns
 DELAY = 50  # ns of a cable between switches
 GAPS = {100: 960, 1000: 96}  # ns between frames on a line of so many Mbit/s, with which the stamps of what a switch sends end
 FAULTS, LATE = 5, 900_000  # of each kind, and ns
-MAPPING = """\
-[columns]
-id = "VL_ID"
-name = "VL_NAME"
-from = "SRC_ES"
-to = "DST_ES"
-udp_payload = "MAX_PAYLOAD_UDP"
-priority = "PRIO"
-[columns.ends]
-name = "ES_NAME"
+MAPPING = icds.COLUMNS + """\
 [switches]
 latency_us = 10
 least_latency_us = 4

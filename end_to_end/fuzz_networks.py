@@ -26,7 +26,7 @@ import model
 import network_model
 import networks
 from fuzz_run import Answer, Files, Trial, refusal
-from fuzz_tables import Mutation, drawn, listed
+from fuzz_tables import Mutation, drawn, drop_a_key, listed, set_an_edge
 from toml_reading import NoToml, Tree, Unknown
 
 BASES = 60  # networks that are mutated: to draw one until it is accepted takes long
@@ -76,11 +76,7 @@ def wire(chance: Random, tree: Tree) -> Tree:
 
 
 def to_an_edge(chance: Random, tree: Tree) -> None:
-    row = members(chance, tree)
-    keys = [key for key in row if key in EDGES]
-    if keys:
-        key = chance.choice(keys)
-        row[key] = drawn(chance, EDGES[key])
+    set_an_edge(chance, members(chance, tree), EDGES)
 
 
 def wire_reversed(chance: Random, tree: Tree) -> None:
@@ -157,9 +153,7 @@ def with_a_key(chance: Random, tree: Tree) -> None:
 
 
 def without_a_key(chance: Random, tree: Tree) -> None:
-    row = members(chance, tree)
-    if row:
-        del row[chance.choice(list(row))]
+    drop_a_key(chance, members(chance, tree))
 
 
 def many_switches(chance: Random, tree: Tree) -> None:

@@ -89,12 +89,22 @@ def rows_of(chance: Random, tree: Tree) -> list[Any]:
     return chance.choice(found) if found else []
 
 
-def to_an_edge(chance: Random, tree: Tree) -> None:
-    row = members(chance, tree)
-    keys = [key for key in row if key in EDGES]
+def set_an_edge(chance: Random, row: Tree, edges: dict[str, list[Any]]) -> None:
+    """Gives a key of the row, if one has edges, one of these."""
+    keys = [key for key in row if key in edges]
     if keys:
         key = chance.choice(keys)
-        row[key] = drawn(chance, EDGES[key])
+        row[key] = drawn(chance, edges[key])
+
+
+def drop_a_key(chance: Random, row: Tree) -> None:
+    """Takes a key out of a row, if it has one."""
+    if row:
+        del row[chance.choice(list(row))]
+
+
+def to_an_edge(chance: Random, tree: Tree) -> None:
+    set_an_edge(chance, members(chance, tree), EDGES)
 
 
 def to_another_kind(chance: Random, tree: Tree) -> None:
@@ -104,9 +114,7 @@ def to_another_kind(chance: Random, tree: Tree) -> None:
 
 
 def without_a_key(chance: Random, tree: Tree) -> None:
-    row = members(chance, tree)
-    if row:
-        del row[chance.choice(list(row))]
+    drop_a_key(chance, members(chance, tree))
 
 
 def with_a_key(chance: Random, tree: Tree) -> None:

@@ -17,7 +17,7 @@ from openpyxl.styles import Font
 Row = tuple[Any, ...]
 SWITCHES = ["SW1", "SW2", "SW3", "SW4", "SW5"]
 CABLES = [("SW1", "SW2"), ("SW2", "SW3"), ("SW3", "SW4"), ("SW4", "SW5"), ("SW5", "SW1"), ("SW2", "SW5")]
-MAPPING = """\
+COLUMNS = """\
 [columns]
 id = "VL_ID"
 name = "VL_NAME"
@@ -27,6 +27,8 @@ udp_payload = "MAX_PAYLOAD_UDP"
 priority = "PRIO"
 [columns.ends]
 name = "ES_NAME"
+"""
+MAPPING = COLUMNS + """\
 [switches]
 latency_us = 8
 least_latency_us = 8

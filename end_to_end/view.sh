@@ -38,17 +38,21 @@ opens_network() {
     /usr/bin/python3 "$top/end_to_end/view_network.py" "$@"
 }
 
-# says KIND PAGE TEXT..: the verdict is of this kind and has each of these texts.
-says() {
-    local kind=$1 page=$2 text verdict
+# tells KIND HTML TEXT..: this part of a page begins its verdict with this kind, and has each of these texts.
+tells() {
+    local kind=$1 part=$2 text
     shift 2
-    verdict=$(tr '\n' ' ' <"$page" | grep -o '<p class="verdict [^/]*</*[^p]*.*' | sed 's|</p>.*||; s|  *| |g')
-    echo "$verdict"
-    grep -q "^<p class=\"verdict $kind\">" <<<"$verdict" || { echo "not $kind"; return 1; }
-    verdict=$(sed 's|<[^>]*>||g; s|^ ||' <<<"$verdict")
+    echo "$part"
+    grep -q "<p class=\"verdict $kind\">" <<<"$part" || { echo "not $kind"; return 1; }
+    part=$(sed 's|<[^>]*>||g; s|^ ||' <<<"$part")
     for text in "$@"; do
-        grep -qE "$text" <<<"$verdict" || { echo "no $text"; return 1; }
+        grep -qE "$text" <<<"$part" || { echo "no $text"; return 1; }
     done
+}
+
+# says KIND PAGE TEXT..: the first verdict is of this kind and has each of these texts.
+says() {
+    tells "$1" "$(tr '\n' ' ' <"$2" | grep -o '<p class="verdict [^/]*</*[^p]*.*' | sed 's|</p>.*||; s|  *| |g')" "${@:3}"
 }
 
 # from_answers: of what the program answered before the same page is made but for its origin, and no program is run.
@@ -266,15 +270,7 @@ check "a network whose table is not there" ends_with 5 "afdx: device get none.to
 
 # recorded PAGE KIND TEXT..: the section of the recordings has a verdict of this kind, and each of these texts.
 recorded() {
-    local page=$1 kind=$2 text section
-    shift 2
-    section=$(sed -n '/id="recordings"/,/<table/p' "$page" | tr '\n' ' ' | sed 's|  *| |g')
-    echo "$section"
-    grep -q "<p class=\"verdict $kind\">" <<<"$section" || { echo "not $kind"; return 1; }
-    section=$(sed 's|<[^>]*>||g' <<<"$section")
-    for text in "$@"; do
-        grep -qE "$text" <<<"$section" || { echo "no $text"; return 1; }
-    done
+    tells "$2" "$(sed -n '/id="recordings"/,/<table/p' "$1" | tr '\n' ' ' | sed 's|  *| |g')" "${@:3}"
 }
 
 # from_recorded_answers: of what compare answered before too the same page is made but for its origin.

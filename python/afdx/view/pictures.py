@@ -15,9 +15,7 @@ MARKS = {"high": "o", "low": "D"}
 # of differences the mark, its colour, and how far it is below the middle of its port's row
 SIGNS = {"missing": ("x", POLICED, -0.28), "extra": ("P", PASSED, -0.14), "early": ("<", COLOURS["low"], 0.0),
          "late": (">", LATE, 0.14), "foreign": ("s", FOREIGN, 0.28)}
-
 SECONDS = EngFormatter("s", sep=" ")
-
 
 Groups = Sequence[tuple[Ints, Floats]]  # instants and values, by place in PRIORITIES
 

@@ -13,13 +13,19 @@ VERDICTS = {"conforms": True, "differs": False}  # of `afdx compare`
 AT_LINKS = KINDS[:-1]  # kinds of differences that are of a link
 
 
-def word_of(conforms: bool) -> str:
-    """Returns the word that `afdx compare` has for it."""
-    return next(word for word, means in VERDICTS.items() if means == conforms)
+class Judged:
+    """Is what has differences, or none."""
+    differences: dict[str, int]  # by kind
+
+    @property
+    def verdict(self) -> str:
+        """Returns the word that `afdx compare` has for it."""
+        conforms = not any(self.differences.values())
+        return next(word for word, means in VERDICTS.items() if means == conforms)
 
 
 @dataclass(frozen=True)
-class Recorded(Bounded):
+class Recorded(Bounded, Judged):
     """A link at an output port that was recorded, beside the same of the model. Times are in ns."""
     model: Pair
     passed: int
@@ -33,10 +39,6 @@ class Recorded(Bounded):
     bound: int
 
     @property
-    def verdict(self) -> str:
-        return word_of(not any(self.differences.values()))
-
-    @property
     def paired(self) -> int:
         return self.seen - self.differences["extra"] - self.before
 
@@ -47,17 +49,13 @@ class Recorded(Bounded):
 
 
 @dataclass(frozen=True)
-class RecordedPort:
+class RecordedPort(Judged):
     """What was recorded at an output port, of all links and of none."""
     port: int
     seen: int
     differences: dict[str, int]  # by kind
     before: int
     after: int
-
-    @property
-    def verdict(self) -> str:
-        return word_of(not any(self.differences.values()))
 
 
 @dataclass(frozen=True)

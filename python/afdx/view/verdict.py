@@ -2,6 +2,7 @@
 from dataclasses import dataclass
 
 from afdx import printed
+from afdx.pages import words
 from afdx.view.pairs import Pair
 from afdx.view.run import Run
 from afdx.view.spells import Babbling
@@ -36,7 +37,7 @@ def broken_of(run: Run) -> list[str]:
     """Names the ports that break rules; of many the first ones."""
     broken = [f"port {need['port']} breaks {printed.listed(need['breaks'])}" for need in run.needs if need["breaks"]]
     more = len(broken) - NAMED
-    return broken if more <= 0 else [*broken[:NAMED], f"{more:,} more port{'' if more == 1 else 's'}"]
+    return broken if more <= 0 else [*broken[:NAMED], words.count(more, "more port")]
 
 
 def nearest_of(pairs: list[Pair]) -> Pair | None:

@@ -1,6 +1,7 @@
 """Finds what the page says first of a run of a network."""
 from dataclasses import dataclass
 
+from afdx.pages import words
 from afdx.view.network.run import NetworkRun
 from afdx.view.network.ways import Way
 from afdx.view.verdict import NAMED, NEAR, Babbler
@@ -32,9 +33,9 @@ def babblers_of(run: NetworkRun) -> list[NetworkBabbler]:
 
 def refused_of(run: NetworkRun) -> list[str]:
     """Returns the lines of a refusal; of many the first ones."""
-    more = len(run.asked.refused) - NAMED
-    return [*run.asked.refused[:NAMED], f"{more:,} more line{'' if more == 1 else 's'}"] if more > 0 else \
-        run.asked.refused
+    refused = run.asked.refused
+    more = len(refused) - NAMED
+    return refused if more <= 0 else [*refused[:NAMED], words.count(more, "more line")]
 
 
 def verdict_of(run: NetworkRun) -> NetworkVerdict:
