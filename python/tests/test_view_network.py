@@ -153,7 +153,7 @@ def test_what_is_drawn_of_ways(tmp_path: Path) -> None:
 
 def test_all_switches_have_one_time(tmp_path: Path) -> None:
     found = answered.read(tmp_path)
-    assert {(own.fates.first, own.span) for own in found.runs.values()} == {(answered.FIRST, 1_000_310)}
+    assert {(own.clock.first, own.span) for own in found.runs.values()} == {(answered.FIRST, 1_000_310)}
 
 
 def test_totals_and_loads(tmp_path: Path) -> None:

@@ -18,7 +18,7 @@ def piece(request: pytest.FixtureRequest, monkeypatch: pytest.MonkeyPatch) -> No
 def test_a_run(tmp_path: Path) -> None:
     answered.put_answers(tmp_path)
     run = answered.read(tmp_path)
-    assert (run.fates.first, run.span) == (answered.FIRST, 4_000_000)
+    assert (run.clock.first, run.span) == (answered.FIRST, 4_000_000)
     assert run.fates.many == {"passed": 4, "policed": 2, "foreign": 1}
     facts = [(pair.link, pair.port, pair.priority, pair.passed, pair.policed, pair.sent, pair.full, pair.aged,
               pair.slack) for pair in run.pairs]
@@ -85,7 +85,7 @@ def test_no_frames(tmp_path: Path) -> None:
     answered.put_answers(tmp_path, measured=answered.MEASURED.replace("delays,10,2,2", "delays,10,2,0"),
                          arrivals=answered.ARRIVALS.splitlines()[0], departures=answered.DEPARTURES.splitlines()[0])
     run = answered.read(tmp_path)
-    assert run.fates.first is None
+    assert run.clock.first is None
     assert run.policed.links == []
 
 

@@ -16,7 +16,7 @@ def check_copies(run: "Run") -> None:
 
 def check_instants(run: "Run") -> None:
     """Raises ValueError if a stamp that `measure` has is before the first one of `trace` or after the last one."""
-    first, last = run.fates.first, run.fates.last
+    first, last = run.clock.first, run.clock.last
     for row in run.occupied:
         at = printed.number(row["at"])
         if at is not None and (first is None or last is None or not first <= at <= last):

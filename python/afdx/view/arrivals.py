@@ -24,20 +24,30 @@ def pieces(path: Path, kinds: dict[str, str]) -> Iterator[Any]:
         yield from (rows for rows in reader if len(rows))
 
 
+@dataclass(frozen=True)
+class Clock:
+    """The stamps of the first frame and of the last one, in ns; None if no frame came in."""
+    first: int | None = None
+    last: int | None = None
+
+    @property
+    def span(self) -> int:
+        """Returns the time from the first frame to the last one; 1 ns if there is no such time."""
+        return max(1, self.last - self.first) if self.first is not None and self.last is not None else 1
+
+
 class Fates:
     """Counts what became of the frames."""
 
     def __init__(self) -> None:
-        self.first: int | None = None  # stamps in ns
-        self.last: int | None = None
+        self.clock = Clock()
         self.many: Counter[str] = Counter()
         self.by_link = {fate: numpy.zeros(LINKS, numpy.int64) for fate in ("passed", "policed")}
         self.full: Counter[tuple[int, int]] = Counter()  # copies that found a full buffer, by link and port
 
     def add(self, rows: Any) -> None:
-        if self.first is None:
-            self.first = int(rows.stamp.iloc[0])
-        self.last = int(rows.stamp.iloc[-1])
+        first = int(rows.stamp.iloc[0]) if self.clock.first is None else self.clock.first
+        self.clock = Clock(first, int(rows.stamp.iloc[-1]))
         self.many.update({str(fate): int(many) for fate, many in rows.fate.value_counts().items()})
         for fate, counts in self.by_link.items():
             counts += numpy.bincount(rows.link[rows.fate == fate].to_numpy(numpy.int64), minlength=LINKS)
@@ -48,10 +58,6 @@ class Fates:
 
     def policed_links(self) -> list[int]:
         return [int(link) for link in numpy.flatnonzero(self.by_link["policed"])]
-
-    def span(self) -> int:
-        """Returns the time from the first frame to the last one; 1 ns if there is no such time."""
-        return max(1, self.last - self.first) if self.first is not None and self.last is not None else 1
 
 
 def read_fates(path: Path) -> Fates:
@@ -85,15 +91,15 @@ def add_points(policed: Policed, spells: Spells, rows: Any, first: int) -> None:
     policed.passed.add(groups[~excess], instants[~excess], instants[~excess].astype(numpy.float64))
 
 
-def read_policed(path: Path, table: Table, fates: Fates, parts: int) -> Policed:
+def read_policed(path: Path, table: Table, fates: Fates, clock: Clock, parts: int) -> Policed:
     """Reads the frames once more, if any was policed, for the links of which that is known now."""
     links = fates.policed_links()
-    span = fates.span()
     watched = sorted(sorted(links, key=lambda link: (-fates.by_link["policed"][link], link))[:WATCHED])
-    cover = Cover(COVER, span)
+    cover = Cover(COVER, clock.span)
     spells = Spells({link: table.links[link].gap for link in links}, watched, cover)
-    policed = Policed(links, watched, spells.by_link, cover, *(Greatest(len(links), parts, span) for _ in range(2)))
-    if links and fates.first is not None:
+    policed = Policed(links, watched, spells.by_link, cover,
+                      *(Greatest(len(links), parts, clock.span) for _ in range(2)))
+    if links and clock.first is not None:
         for rows in pieces(path, {"stamp": "int64", "link": "float64", "fate": "category", "early": "float64"}):
-            add_points(policed, spells, rows, fates.first)
+            add_points(policed, spells, rows, clock.first)
     return policed

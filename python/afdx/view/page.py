@@ -54,7 +54,7 @@ def port_cards(run: Run) -> list[PortCard]:
     for need in run.needs:
         seen = occupied[need["port"]]
         at = printed.number(seen["at"])
-        fullest = None if at is None or run.fates.first is None else at - run.fates.first
+        fullest = None if at is None or run.clock.first is None else at - run.clock.first
         cards.append(PortCard(need["port"], printed.listed(need["breaks"]), bars_of(need, seen), fullest))
     return cards
 
@@ -113,7 +113,7 @@ def template(name: str) -> Any:
 
 def parts_of(run: Run, progress: Progress, depth: int = 2, mark: str = "") -> dict[str, Any]:
     """Returns what the templates show of a run: below headings of this depth, with names that begin with the mark."""
-    first = run.fates.first
+    first = run.clock.first
     return {
         "depth": depth, "mark": mark, "run": run, "first": first, "verdict": verdict_of(run),
         "both": partial(both, first or 0), "overview": [] if first is None else overviews(run, progress),

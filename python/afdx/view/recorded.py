@@ -3,7 +3,7 @@ from dataclasses import dataclass
 
 from afdx import printed
 from afdx.view.answers import Compared
-from afdx.view.arrivals import Fates
+from afdx.view.arrivals import Clock
 from afdx.view.bounded import Bounded
 from afdx.view.differences import KINDS, Differences, Times
 from afdx.view.differences import read as read_differences
@@ -119,14 +119,14 @@ def ports_of(said: str, links: list[Recorded]) -> list[RecordedPort]:
     return ports
 
 
-def read(compared: Compared, pairs: list[Pair], shown: list[Pair], fates: Fates, parts: int) -> Recordings:
+def read(compared: Compared, pairs: list[Pair], shown: list[Pair], clock: Clock, parts: int) -> Recordings:
     """Reads what was found of recordings; `shown` are the pairs that have a picture of so many parts. KeyError or
     ValueError is raised if it is not of these pairs, or its numbers are not those of its file."""
     links = links_of(compared.said, pairs)
     ports = ports_of(compared.said, links)
     (span,), (verdict,) = (printed.rows_of(compared.said, kind) for kind in ("span", "verdict"))
     begin, end = int(span["from"]), int(span["until"])
-    times = Times(begin, end, begin if fates.first is None else fates.first, fates.span(), parts)
+    times = Times(begin, end, begin if clock.first is None else clock.first, clock.span, parts)
     differences = Differences([port.port for port in ports], shown, compared.recordings.offsets(), times)
     read_differences(compared.rows, differences)
     found = {(port.port, kind): many for port in ports for kind, many in port.differences.items() if many}

@@ -6,7 +6,7 @@ from afdx import printed
 from afdx.program import Progress
 from afdx.view import departures, recorded
 from afdx.view.answers import Answers
-from afdx.view.arrivals import Fates, Policed, read_fates, read_policed
+from afdx.view.arrivals import Clock, Fates, Policed, read_fates, read_policed
 from afdx.view.bounded import Sender
 from afdx.view.departures import PRIORITIES, Drawn
 from afdx.view.greatest import Greatest
@@ -32,6 +32,7 @@ class Run:
     occupied: list[printed.Row]  # of `measure`, of ports
     pairs: list[Pair]
     fates: Fates
+    clock: Clock  # that of all frames of the page
     policed: Policed
     drawn: Drawn
     parts: int  # of the time in a strip
@@ -39,7 +40,7 @@ class Run:
 
     @property
     def span(self) -> int:
-        return self.fates.span()
+        return self.clock.span
 
     @property
     def accepted(self) -> bool:
@@ -73,21 +74,22 @@ def drawn_of(pairs: list[Pair], shown: list[Pair], parts: int, span: int) -> Dra
 def read(answers: Answers, table: Table, checked: bool, progress: Progress) -> Run:
     """Reads a run. KeyError or ValueError is raised if the answers are not of this table."""
     progress.say("reading")
-    return run_of(answers, table, checked, read_fates(answers.arrivals))
+    fates = read_fates(answers.arrivals)
+    return run_of(answers, table, checked, fates, fates.clock)
 
 
-def run_of(answers: Answers, table: Table, checked: bool, fates: Fates, runs: int = 1) -> Run:
-    """Reads the rest of a run, one of so many on a page."""
+def run_of(answers: Answers, table: Table, checked: bool, fates: Fates, clock: Clock, runs: int = 1) -> Run:
+    """Reads the rest of a run, one of so many on a page, which is on this clock."""
     pairs = pairs_of(answers.measured, table, fates)
     if checked and not all(pair.bound for pair in pairs):
         raise ValueError("no bound in the answers of a checked run")
     shown = shown_of(pairs, checked, runs)
     parts = parts_of(len(shown) + len(fates.policed_links()), runs)
-    policed = read_policed(answers.arrivals, table, fates, parts)
-    drawn = drawn_of(pairs, shown, parts, fates.span())
-    if fates.first is not None:
+    policed = read_policed(answers.arrivals, table, fates, clock, parts)
+    drawn = drawn_of(pairs, shown, parts, clock.span)
+    if clock.first is not None:
         columns = departures.columns_of(pairs, drawn, checked)
-        departures.read(answers.departures, drawn, columns, fates.first + table.latency)
-    recordings = recorded.read(answers.compared, pairs, shown, fates, parts) if answers.compared else None
+        departures.read(answers.departures, drawn, columns, clock.first + table.latency)
+    recordings = recorded.read(answers.compared, pairs, shown, clock, parts) if answers.compared else None
     return Run(checked, printed.rows_of(answers.size), printed.rows_of(answers.measured, "buffer"), pairs, fates,
-               policed, drawn, parts, recordings)
+               clock, policed, drawn, parts, recordings)

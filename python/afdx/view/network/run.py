@@ -1,10 +1,11 @@
 """Puts together what the page shows of a run of a network."""
 from collections import Counter
+from collections.abc import Iterable
 from dataclasses import dataclass
 
 from afdx import printed
 from afdx.program import Progress
-from afdx.view.arrivals import Fates, read_fates
+from afdx.view.arrivals import Clock, Fates, read_fates
 from afdx.view.network import following, ways
 from afdx.view.network.answers import NetworkAnswers, SizedNetwork
 from afdx.view.network.layout import Port, Wire
@@ -77,14 +78,11 @@ def loads_of(asked: SizedNetwork, runs: dict[str, Run], report: str) -> list[Loa
     return loads
 
 
-def share_time(fates: dict[str, Fates]) -> tuple[int | None, int]:
-    """Has all switches count from the network's first frame to its last; returns its stamp, and the time between."""
-    own = [one for one in fates.values() if one.first is not None]
-    first = min((one.first for one in own if one.first is not None), default=None)
-    last = max((one.last for one in own if one.last is not None), default=None)
-    for one in own:
-        one.first, one.last = first, last
-    return first, own[0].span() if own else 1
+def clock_of(switches: Iterable[Fates]) -> Clock:
+    """Returns the clock from the network's first frame to its last."""
+    clocks = [fates.clock for fates in switches]
+    return Clock(min((clock.first for clock in clocks if clock.first is not None), default=None),
+                 max((clock.last for clock in clocks if clock.last is not None), default=None))
 
 
 def count_policed(found: list[Way], report: str) -> None:
@@ -101,19 +99,19 @@ def read(asked: SizedNetwork, answers: NetworkAnswers, progress: Progress) -> Ne
     for switch, own in answers.switches.items():
         progress.say(f"reading what came to {switch}")
         fates[switch] = read_fates(own.arrivals)
-    (first, span), many = share_time(fates), len(fates) + 1
-    runs = {}
+    clock, many, runs = clock_of(fates.values()), len(fates) + 1, {}
     for switch, own in answers.switches.items():
         progress.say(f"reading what left {switch}")
-        runs[switch] = run_of(own, asked.tables[switch], asked.checked, fates[switch], many)
+        here = Clock() if fates[switch].clock.first is None else clock
+        runs[switch] = run_of(own, asked.tables[switch], asked.checked, fates[switch], here, many)
     progress.say("following frames")
     frames = following.frames_of(answers)
     origins = following.origins_of(answers, asked.layout, frames)
     measured = ways.measured_of(following.delivered(answers, asked.layout, frames, origins))
     found = ways.ways_of(asked, frames, measured)
     count_policed(found, answers.report)
-    drawing = ways.Drawing(found, frames, asked.checked, first or 0, span, many)
+    drawing = ways.Drawing(found, frames, asked.checked, clock.first or 0, clock.span, many)
     for copies in following.delivered(answers, asked.layout, frames, origins):
         drawing.add(copies)
     return NetworkRun(asked, totals_of(asked, answers.report), runs, loads_of(asked, runs, answers.report), found,
-                      ways.lost_ends(asked), drawing.drawn, first, span)
+                      ways.lost_ends(asked), drawing.drawn, clock.first, clock.span)
