@@ -150,11 +150,10 @@ def straight(start: Box, end: Box, aside: float) -> str:
 
 
 def bent(start: Box, end: Box, aside: float, bow: float) -> str:
-    """Draws a bow at the right of a column, which stands out so far."""
+    """Draws a bow at the right of a column, which stands out so far; at a box those upward are above those downward."""
     turn = aside if start.y <= end.y else -aside
-    x, y, to_y = start.x + start.width, start.middle[1] + turn, end.middle[1] + turn
-    if start is end:
-        y, to_y = y - HEAD / 2, to_y + HEAD / 2
+    way = HEAD / 3 if start.y < end.y else -HEAD / 3
+    x, y, to_y = start.x + start.width, start.middle[1] + turn + way, end.middle[1] + turn - way
     return f"M{x:.1f} {y:.1f}Q{x + 2 * (bow + turn / 2):.1f} {(y + to_y) / 2:.1f} {x:.1f} {to_y:.1f}"
 
 
