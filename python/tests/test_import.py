@@ -583,7 +583,7 @@ def test_random_recordings(tmp_path_factory: pytest.TempPathFactory, recorded: l
     rules = rules_of("".join(source.rule() for source in asked).encode())
     got: dict[str, bytearray] = {port: bytearray() for port in rules.ports}
     found = [sorted(raw.glob(source.file)) for source in rules.sources]
-    with patch.object(ordering, "MOST_WAITING", most), patch.object(ordering, "LEAST_WRITTEN", 0):
+    with patch.multiple(ordering, MOST_WAITING=most, OF_EACH=0, LEAST_WRITTEN=0):
         done = Import(rules, raw, found, lambda port, text: got[port].extend(text), piece)
         done.run(lambda _: None)
     assert not done.faults or most < 2**24 and all("late" in str(fault) for fault in done.faults)
@@ -649,12 +649,25 @@ def test_mutated_compressed_recordings(folder: Folder, at: int, by: bytes) -> No
 def test_late_by_less_than_the_window_where_too_many_wait(folder: Folder) -> None:
     """Checks that nothing that was written is passed by a frame before it: it is refused, with both records."""
     records = [Record(AT + number, frame(fill=number)) for number in range(1, 40)] + [Record(AT, frame())]
-    with patch.object(ordering, "MOST_WAITING", 1000), patch.object(Import.__init__, "__defaults__", (1000,)):
+    with (patch.multiple(ordering, MOST_WAITING=1000, OF_EACH=0),
+          patch.object(Import.__init__, "__defaults__", (1000,))):
         assert folder.run(ONE, a_pcap=captures.pcap(records)) == (3, [], [
             "afdx-import: a frame of port-1 is late, and later ones no longer wait: 2026-01-15T10:00:00.000000000Z "
-            "comes after 2026-01-15T10:00:00.000000026Z (a.pcap, record 26, offset 1924), "
+            "comes after 2026-01-15T10:00:00.000000031Z (a.pcap, record 31, offset 2304), "
             "a.pcap, record 40, offset 2988"])
     assert folder.captures() == {}
+
+
+def test_many_recordings_of_a_port_where_too_many_wait(folder: Folder) -> None:
+    """Checks that what waits for recordings that are behind passes none of their frames, however much it is, and that
+    frames may still be late by a part of the window."""
+    records = [Record(AT + number * 10**6 - number % 10 // 9 * 6_500_000, frame(number)) for number in range(400)]
+    texts = {f"a{part}_pcap": captures.pcap(records[part::4]) for part in range(4)}
+    with (patch.multiple(ordering, MOST_WAITING=2000, OF_EACH=1000),
+          patch.object(Import.__init__, "__defaults__", (1000,))):
+        status, lines, said = folder.run(ONE.replace("a.pcap", "a*.pcap"), **texts)
+    assert (status, lines[0].split()[:5], said) == (0, ["port-1", "frames", "400", "reordered", "40"], [])
+    assert folder.captures() == {"port-1.pcap": captures.pcap(sorted(records, key=lambda one: one.stamp))}
 
 
 def test_a_folder_in_the_place_of_a_capture(folder: Folder, monkeypatch: pytest.MonkeyPatch) -> None:

@@ -7,7 +7,8 @@ from afdx.importing.chunks import Chunk, Seen, merged
 from afdx.importing.instants import instant
 from afdx.recordings.faults import RecordingFault
 
-MOST_WAITING = 16 * 1024 * 1024  # bytes of a port's records that wait for earlier ones
+MOST_WAITING = 16 * 1024 * 1024  # bytes of a port's records that wait for earlier ones,
+OF_EACH = 4 * 1024 * 1024  # and so many more for each source that has begun
 LEAST_WRITTEN = 2 * 1024 * 1024  # bytes of a port's records that are worth a write
 MOST_LOOKED = 512  # records of each write of which earlier ones with the same bytes are looked for
 MOST_SHARED = 8  # steps in which records wait in memory that they share with those of other ports
@@ -21,6 +22,7 @@ class Ordering:
     def __init__(self, port: str, window_ms: int, write: Callable[[memoryview], None]) -> None:
         self.port = port
         self.window_ms = window_ms
+        self.window = window_ms * MILLISECOND
         self.write = write
         self.reordered = 0
         self.twice = 0  # records that have come before, with the same stamp
@@ -36,9 +38,6 @@ class Ordering:
         self.refuse_late(source, chunk)
         self.waiting.append(chunk if chunk.is_sorted else chunk.sorted())
         self.size += len(chunk.text)
-        if self.size > MOST_WAITING:
-            older = self.waiting[:-1]
-            self.release(max((chunk.last for chunk in older), default=LONG_AGO), len(older))
 
     def refuse_late(self, source: int, chunk: Chunk) -> None:
         newest = self.newest.get(source)
@@ -56,7 +55,7 @@ class Ordering:
         stamp = chunk.stamp
         before = np.maximum.accumulate(np.append(newest.stamp if newest else LONG_AGO, stamp))[:-1]
         self.reordered += int(np.count_nonzero(stamp < before))
-        late = stamp < before - self.window_ms * MILLISECOND
+        late = stamp < before - self.window
         if late.any():
             first = int(late.argmax())
             is_here = newest is None or int(before[first]) > newest.stamp
@@ -73,13 +72,30 @@ class Ordering:
         memory of its own, so that no others are kept with it."""
         if not progress:
             self.release(LONG_AGO, len(self.waiting))
-        elif self.size < LEAST_WRITTEN:
-            pass
-        elif len(progress) > 1:
-            self.release(min(progress.values()) - self.window_ms * MILLISECOND)
-        elif newest := self.newest.get(next(iter(progress))):
-            self.release(newest.stamp - self.window_ms * MILLISECOND)
+        elif self.size >= LEAST_WRITTEN:
+            self.release(self.slowest(progress) - self.window)
+        if self.size > MOST_WAITING:
+            self.release_early(progress)
         self.set_apart()
+
+    def slowest(self, progress: dict[int, int]) -> int:
+        """Returns how far the slowest of these sources has come; if it is the only one, by the port's own records."""
+        if len(progress) > 1:
+            return min(progress.values())
+        newest = self.newest.get(next(iter(progress)))
+        return newest.stamp if newest else LONG_AGO
+
+    def release_early(self, progress: dict[int, int]) -> None:
+        """Writes more if too much waits: what half of the window lets, a quarter, and so on. If that is not enough, as
+        sources of one recording have clocks that are far apart, all but the last records are written."""
+        most = MOST_WAITING + len(progress.keys() & self.newest.keys()) * OF_EACH
+        slowest, window = self.slowest(progress), self.window
+        while self.size > most and window:
+            window //= 2
+            self.release(slowest - window)
+        if self.size > most:
+            older = self.waiting[:-1]
+            self.release(max((chunk.last for chunk in older), default=LONG_AGO), len(older))
 
     def set_apart(self) -> None:
         for index, chunk in enumerate(self.waiting):
