@@ -68,6 +68,21 @@ END
         "$afdx" run "$network/table.toml" tagged/in tagged/out | diff - tagged/report.txt
 }
 
+# set_back: of a clock that was set back in the middle the page's warning; cut there, with an offset, it is what came in.
+set_back() {
+    local port=$top/examples/network/in/port-1.pcap
+    mkdir -p back/raw && editcap -r "$port" back/1.pcap 1-123 && editcap -t -0.15 "$port" back/2.pcap 1-123 &&
+        mergecap -a -F nsecpcap -w back/raw/port-1.pcap back/1.pcap back/2.pcap || return 1
+    printf '[[source]]\nfile = "port-1.pcap"\nto = "port-1"\n' >back/rules.toml
+    afdx-import back/rules.toml back/raw back/in 2>back/said.txt >/dev/null
+    cat back/said.txt
+    grep -qxF "$(grep 'clock set back' "$page")" back/said.txt || return 1
+    (cd back && grep '^editcap .*1-123$' "$page" | bash)
+    printf '[[source]]\nfile = "%s.pcap"\nto = "port-1"\n' before after >back/rules.toml
+    echo 'offset_ns = 150000000' >>back/rules.toml
+    afdx-import back/rules.toml back/raw back/in && cmp back/in/port-1.pcap "$port"
+}
+
 # peak MEGABYTES: the most memory, in KiB, that the import of a recording of this size takes.
 peak() {
     PYTHONPATH=$top/end_to_end python3 - "$1" <<'END'
@@ -163,5 +178,6 @@ for command in afdx-import afdx-skew; do
 done
 check "a mirror of both directions" mirrored
 check "tags" untagged
+check "a clock that was set back" set_back
 check "memory of twice the recording" memory_stays
 finish

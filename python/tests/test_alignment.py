@@ -180,6 +180,7 @@ SAME = [Record(AT + number * 10**7, frame(1, 1)) for number in range(100)]
 
 @pytest.mark.parametrize("a, b, said", [
     ([], [Record(AT, frame(1, 1))], "no frames, {}/a"),
+    ([Record(AT, frame(1, 1))], [Record(AT, frame(1, 1)[:50], 60)], "all frames are cut, {}/b"),
     ([Record(AT, frame(1, 1))], [Record(AT, frame(1, 2))], "no frame is in both recordings"),
     (SAME, SAME, "the same frames come again and again: more than one offset fits"),
     (BURST, other(BURST, 37_000_000, 0, lambda: 0), "the same frames come again and again: more than one offset fits"),

@@ -389,6 +389,27 @@ def test_late_by_the_window_and_later(folder: Folder) -> None:
     assert folder.captures() == before
 
 
+@pytest.mark.parametrize("by, count", [(100_000_000, 0), (100_000_001, 1)])
+def test_a_clock_that_was_set_back(folder: Folder, by: int, count: int) -> None:
+    """Checks that frames that are late by more than 100 ms are warned of, with the place of the one that is most so."""
+    stamps = [AT + 10**9, AT + 10**9 - 10**6, AT + 10**9 - by, AT + 10**9 - by + 10, AT + 2 * 10**9]
+    records = [Record(stamp, frame(fill=fill)) for fill, stamp in enumerate(stamps)]
+    assert folder.run(ONE, a_pcap=captures.pcap(records))[2] == count * [
+        "afdx-import: warning: 3 of 5 frames are late, by up to 0.100 s: was the recorder's clock set back?, "
+        "port-1 (a.pcap, record 3, offset 176)"]
+
+
+def test_a_name_with_brackets(folder: Folder) -> None:
+    """Checks that a file that has the name is taken, and not those that it fits as a pattern."""
+    (folder.path / "raw").mkdir()
+    (folder.path / "raw" / "a[1].pcap").write_bytes(captures.pcap(A))
+    assert folder.run(ONE.replace("a.pcap", "a[1].pcap"), a1_pcap=captures.pcap([]))[0] == 0
+    assert folder.captures() == {"port-1.pcap": captures.pcap(A)}
+    (folder.path / "raw" / "a[1].pcap").unlink()
+    assert folder.run(ONE.replace("a.pcap", "a[1].pcap"), a1_pcap=captures.pcap([]))[0] == 0
+    assert folder.captures() == {"port-1.pcap": captures.pcap([])}
+
+
 def test_a_pipe_is_no_recording(folder: Folder) -> None:
     """Checks that a pipe is not waited for, and is passed over if a pattern names a recording too."""
     raw = folder.path / "raw"

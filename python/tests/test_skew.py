@@ -1,4 +1,5 @@
 """How far apart two networks deliver the same frames."""
+import os
 from functools import partial
 from pathlib import Path
 
@@ -111,6 +112,11 @@ def test_faults(tmp_path: Path, capsys: pytest.CaptureFixture[str]) -> None:
         run(tmp_path)
     assert (caught.value.status, caught.value.lines) == (
         5, (f"afdx-skew: cannot read {tmp_path}/b/port-1.pcap: No such file or directory",))
+    (tmp_path / "b" / "port-1.pcap").unlink()
+    os.mkfifo(tmp_path / "b" / "port-1.pcap")
+    with pytest.raises(Failure) as caught:
+        run(tmp_path)
+    assert caught.value.lines == (f"afdx-skew: no regular file, {tmp_path}/b/port-1.pcap, header, offset 0",)
     assert capsys.readouterr().out == ""
 
 

@@ -92,8 +92,10 @@ class Sampler:
         self.keys: list[npt.NDArray[np.uint64]] = []
         self.stamps: list[Column] = []
         self.count = 0
+        self.seen = 0  # frames, kept or not
 
     def add(self, key: npt.NDArray[np.uint64], stamp: Column) -> None:
+        self.seen += len(key)
         low = self.is_kept(key)
         self.keys.append(key[low])
         self.stamps.append(stamp[low])
@@ -121,8 +123,8 @@ def sightings(path: Path) -> Sightings:
         if first is None and len(batch.stamp):
             first = int(batch.stamp[0])
         sampler.add(*keyed(batch, checks))
-    if first is None:
-        raise Unaligned(f"no frames, {path}")
+    if first is None or not sampler.seen:
+        raise Unaligned(f"no frames, {path}" if first is None else f"all frames are cut, {path}")
     tick = max(interface.tick for interface in recording.interfaces)
     return Sightings(first, tick, np.concatenate(sampler.keys), np.concatenate(sampler.stamps), recording.broken,
                      sampler.often)

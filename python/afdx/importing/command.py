@@ -46,11 +46,17 @@ def rules_in(path: Path) -> Rules:
         raise Failure(INPUT, *(f"{COMMAND}: {what}, {path}" for what in fault.faults)) from fault
 
 
+def named_by(pattern: str, raw: Path) -> list[Path]:
+    """Returns what has this name, as one with brackets, or if nothing has what fits this pattern, by name."""
+    path = raw / pattern
+    return [path] if path.exists() else [raw / name for name in sorted(glob(pattern, root_dir=raw))]
+
+
 def recordings_of(rules: Rules, raw: Path) -> list[list[Path]]:
     """Returns the files of each source, by name."""
     if not raw.is_dir():
         raise Failure(DEVICE, f"{COMMAND}: no folder {raw}")
-    named = [[raw / name for name in sorted(glob(source.file, root_dir=raw))] for source in rules.sources]
+    named = [named_by(source.file, raw) for source in rules.sources]
     found = [[path for path in paths if path.is_file()] for paths in named]
     missing = [f"{COMMAND}: no {'regular file' if named[at] else 'recording'} {source.file}, source {at + 1}, {raw}"
                for at, source in enumerate(rules.sources) if not found[at]]

@@ -25,6 +25,8 @@ class Ordering:
         self.window = window_ms * MILLISECOND
         self.write = write
         self.reordered = 0
+        self.most_late = 0  # ns, and the record that was so much before an earlier one
+        self.latest: Seen | None = None
         self.twice = 0  # records that have come before, with the same stamp
         self.looked = 0  # records that were looked at, and those that have come shortly before
         self.repeated = 0
@@ -54,8 +56,12 @@ class Ordering:
         window."""
         stamp = chunk.stamp
         before = np.maximum.accumulate(np.append(newest.stamp if newest else LONG_AGO, stamp))[:-1]
-        self.reordered += int(np.count_nonzero(stamp < before))
-        late = stamp < before - self.window
+        late_by = before - stamp
+        self.reordered += int(np.count_nonzero(late_by > 0))
+        latest = int(late_by.argmax())
+        if late_by[latest] > self.most_late:
+            self.most_late, self.latest = int(late_by[latest]), chunk.seen(latest)
+        late = late_by > self.window
         if late.any():
             first = int(late.argmax())
             is_here = newest is None or int(before[first]) > newest.stamp

@@ -16,6 +16,7 @@ from afdx.recordings.faults import Place
 
 MOST_NAMED = 8  # end systems, or interfaces, that are named in a line
 NETWORK_NAMES = ["neither network", *(f"network {name}" for name in NETWORKS)]  # by their numbers
+SET_BACK = 100_000_000  # ns; frames that are later are hardly so because a recorder has put them in another order
 MANY, PART = 10, 10  # frames, and one of so many, that make the question whether the mirror has both directions
 
 
@@ -129,11 +130,15 @@ def has_both_directions(port: Port) -> bool:
 
 
 def port_notes(ports: dict[str, Port]) -> Iterator[str]:
-    """Says where networks are mixed, where frames were taken twice, and where clocks may be apart."""
+    """Says where networks are mixed, where clocks may have been set back or be apart, and where frames were taken
+    twice."""
     for name, port in ports.items():
         if all(port.networks.values()):
             counts = " and ".join(f"{count} of network {network}" for network, count in port.networks.items())
             yield f"warning: frames of both networks: {counts}, {name}"
+        if (latest := port.ordering.latest) and port.ordering.most_late > SET_BACK:
+            yield (f"warning: {port.ordering.reordered} of {port.frames} frames are late, by up to "
+                   f"{port.ordering.most_late / SECOND:.3f} s: was the recorder's clock set back?, {name} ({latest.place})")
         if has_both_directions(port):
             count = f"{port.ordering.repeated} of {port.ordering.looked}"
             yield (f"warning: {count} frames looked at have the bytes of one at most 5 ms before: does "

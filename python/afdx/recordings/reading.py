@@ -41,6 +41,8 @@ class Recording:
             raise
 
     def all_batches(self) -> Iterator[Batch]:
+        if self.path.exists() and not self.path.is_file():  # to open a pipe would be to wait for who writes it
+            raise RecordingFault("no regular file", self.next_place())
         with self.path.open("rb", buffering=0) as file:
             unpacked = Unpacked(file)
             data = self.longer(unpacked, b"")
