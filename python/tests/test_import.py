@@ -18,7 +18,7 @@ from hypothesis import strategies as some
 import captures
 from afdx import signals
 from afdx.failure import Failure
-from afdx.importing import ordering
+from afdx.importing import ordering, running
 from afdx.importing.command import main
 from afdx.importing.frames import CheckSequences
 from afdx.importing.rules import rules_of
@@ -689,6 +689,23 @@ def test_many_recordings_of_a_port_where_too_many_wait(folder: Folder) -> None:
         status, lines, said = folder.run(ONE.replace("a.pcap", "a*.pcap"), **texts)
     assert (status, lines[0].split()[:5], said) == (0, ["port-1", "frames", "400", "reordered", "40"], [])
     assert folder.captures() == {"port-1.pcap": captures.pcap(sorted(records, key=lambda one: one.stamp))}
+
+
+def test_what_waits_stays_little(tmp_path: Path) -> None:
+    """Checks that frames that are few do not wait in ever more parts, and that recordings share the bytes in which they
+    are read at one time."""
+    records = [Record(AT + number * 10**8, frame(end_system=1 + (number % 10 == 0))) for number in range(2000)]
+    paths = [tmp_path / f"{number}.pcap" for number in range(4)]
+    for path in paths:
+        path.write_bytes(captures.pcap(records))
+    rules = rules_of(b'[[source]]\nfile = "*.pcap"\nend_systems = { 1 = "port-1", 2 = "port-2" }\n')
+    waiting, pieces = [], []
+    with patch.multiple(ordering, MANY=8), patch.multiple(running, ALL_PIECES=2000, LEAST_PIECE=100):
+        done = Import(rules, tmp_path, [paths], Mock(), 1000)
+        done.run(lambda _: (waiting.append(len(done.ports["port-2"].ordering.waiting)),
+                            pieces.append([one.recording.piece for one in done.readings.values()])))
+    assert max(waiting) <= 16 and pieces[100] == [500] * 4
+    assert [port.frames for port in done.ports.values()] == [7200, 800]
 
 
 def test_a_folder_in_the_place_of_a_capture(folder: Folder, monkeypatch: pytest.MonkeyPatch) -> None:

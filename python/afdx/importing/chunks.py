@@ -10,6 +10,7 @@ from afdx.recordings.faults import Place
 
 SOON = 5_000_000  # ns; a link's frames that are so near have other sequence numbers
 KEY = 8  # bytes at a frame's end, which its sequence number is among
+SMALL = 64 * 1024  # bytes of a chunk below which it takes less to copy it than to go on with it by itself
 LINK, LINK_SIZE = 4, 2  # where a frame has its link, and in how many bytes
 
 
@@ -142,7 +143,8 @@ class Ordered:
 def merged(chunks: list[Chunk]) -> list[Ordered]:
     """Returns the records of sorted chunks in order, of equal stamps those of the first chunk first, all of one stamp
     together."""
-    if all(before.last < after.first for before, after in zip(chunks, chunks[1:])):
+    is_large = sum(len(chunk.text) for chunk in chunks) >= SMALL * len(chunks)
+    if is_large and all(before.last < after.first for before, after in zip(chunks, chunks[1:])):
         return [Ordered(chunk.text, chunk.at, chunk.stamp) for chunk in chunks]
     text = b"".join([chunk.text for chunk in chunks])
     length = np.concatenate([np.diff(chunk.at) for chunk in chunks])

@@ -9,7 +9,8 @@ from afdx.recordings.faults import RecordingFault
 
 MOST_WAITING = 16 * 1024 * 1024  # bytes of a port's records that wait for earlier ones,
 OF_EACH = 4 * 1024 * 1024  # and so many more for each source that has begun
-LEAST_WRITTEN = 2 * 1024 * 1024  # bytes of a port's records that are worth a write
+LEAST_WRITTEN = 2 * 1024 * 1024  # bytes of a port's records that are worth a write,
+MANY = 64  # or parts: each step goes through all that wait
 MOST_LOOKED = 512  # records of each write of which earlier ones with the same bytes are looked for
 MOST_SHARED = 8  # steps in which records wait in memory that they share with those of other ports
 LONG_AGO = -(2**62)
@@ -32,6 +33,7 @@ class Ordering:
         self.repeated = 0
         self.waiting: list[Chunk] = []
         self.size = 0  # bytes that wait
+        self.left = self.parts_left = 0  # bytes and parts that waited on when the last ones were written
         self.newest: dict[int, Seen] = {}  # of each source
         self.written: Seen | None = None
 
@@ -78,7 +80,7 @@ class Ordering:
         memory of its own, so that no others are kept with it."""
         if not progress:
             self.release(LONG_AGO, len(self.waiting))
-        elif self.size >= LEAST_WRITTEN:
+        elif self.size - self.left >= LEAST_WRITTEN or len(self.waiting) - self.parts_left >= MANY:
             self.release(self.slowest(progress) - self.window)
         if self.size > MOST_WAITING:
             self.release_early(progress)
@@ -121,6 +123,7 @@ class Ordering:
         self.waiting = waiting
         if ready:
             self.put(ready)
+        self.left, self.parts_left = self.size, len(self.waiting)
 
     def put(self, ready: list[Chunk]) -> None:
         left = MOST_LOOKED

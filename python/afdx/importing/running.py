@@ -16,6 +16,8 @@ from afdx.recordings.faults import RecordingFault
 from afdx.recordings.reading import PIECE, Recording
 
 FIRST_LOOK = 64 * 1024  # bytes in which a recording's first record is looked for at a time
+ALL_PIECES = 64 * 1024 * 1024  # bytes that all recordings that are read at one time share,
+LEAST_PIECE = 64 * 1024  # and what each gets at least
 
 
 def first_stamp(path: Path) -> int | None:
@@ -39,7 +41,7 @@ class Reading:
         self.frames = 0
         self.left = Left()
         self.batches = recording.batches()
-        self.ended = False
+        self.begun = self.ended = False
         self.fault: RecordingFault | None = None
 
     def step(self) -> None:
@@ -73,6 +75,8 @@ class Import:
         self.readings = {path: Reading(Recording(path, str(path.relative_to(raw)), piece), begin)
                          for path, begin in first.items()}
         self.takers: list[tuple[Reading, Taker]] = []
+        self.piece = piece
+        self.open = 0  # recordings that are being read
         # of each port, by the taker's number, how far recordings have come that feed it and have not ended
         self.progress: dict[str, dict[int, int]] = {name: {} for name in rules.ports}
         for source, paths in zip(rules.sources, found):
@@ -108,11 +112,15 @@ class Import:
                 heapq.heappush(queue, (self.key(reading), index))
 
     def step(self, reading: Reading) -> None:
+        self.open += not reading.begun
+        reading.begun = True
+        reading.recording.piece = min(self.piece, max(LEAST_PIECE, ALL_PIECES // self.open))
         try:
             reading.step()
         except RecordingFault as fault:
             reading.fault = fault
             reading.ended = True
+        self.open -= reading.ended
         self.note_progress(reading)
         for port in dict.fromkeys(port for taker in reading.takers for port in taker.names):
             self.ports[port].ordering.settle(self.progress[port])
