@@ -137,8 +137,9 @@ def port_notes(ports: dict[str, Port]) -> Iterator[str]:
             counts = " and ".join(f"{count} of network {network}" for network, count in port.networks.items())
             yield f"warning: frames of both networks: {counts}, {name}"
         if (latest := port.ordering.latest) and port.ordering.most_late > SET_BACK:
-            yield (f"warning: {port.ordering.reordered} of {port.frames} frames are late, by up to "
-                   f"{port.ordering.most_late / SECOND:.3f} s: was the recorder's clock set back?, {name} ({latest.place})")
+            by = f"{port.ordering.most_late / SECOND:.3f} s"
+            late = f"{port.ordering.reordered} of {port.frames} frames are late, by up to {by}"
+            yield f"warning: {late}: was the recorder's clock set back?, {name} ({latest.place})"
         if has_both_directions(port):
             count = f"{port.ordering.repeated} of {port.ordering.looked}"
             yield (f"warning: {count} frames looked at have the bytes of one at most 5 ms before: does "

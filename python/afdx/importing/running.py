@@ -10,7 +10,7 @@ from afdx.importing.frames import CheckSequences, heads
 from afdx.importing.left import Left
 from afdx.importing.ordering import LONG_AGO, Ordering
 from afdx.importing.rules import Rules, Source
-from afdx.importing.taking import Port, Taker, corrected
+from afdx.importing.taking import Destinations, Port, Taker, corrected
 from afdx.recordings.columns import picked
 from afdx.recordings.faults import RecordingFault
 from afdx.recordings.reading import PIECE, Recording
@@ -82,8 +82,9 @@ class Import:
         for source, paths in zip(rules.sources, found):
             begins = [begin for path in paths if (begin := first[path]) is not None]
             anchor = min(begins, default=0) if source.drift_from_ns is None else source.drift_from_ns
+            to = Destinations(source, self.ports)
             for path in paths:
-                self.add(self.readings[path], source, anchor)
+                self.add(self.readings[path], source, anchor, to)
         for reading in self.readings.values():
             self.note_progress(reading)
 
@@ -92,9 +93,9 @@ class Import:
         """Returns the first fault of each recording that has one, in the rules' order."""
         return [reading.fault for reading in self.readings.values() if reading.fault]
 
-    def add(self, reading: Reading, source: Source, anchor: int) -> None:
+    def add(self, reading: Reading, source: Source, anchor: int, to: Destinations) -> None:
         checks = reading.checks if source.fcs == "auto" else reading.claimed
-        taker = Taker(len(self.takers), source, anchor, reading.recording, checks, self.ports)
+        taker = Taker(len(self.takers), source, anchor, reading.recording, checks, to)
         reading.takers.append(taker)
         self.takers.append((reading, taker))
 

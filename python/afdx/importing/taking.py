@@ -129,23 +129,30 @@ def corrected(stamp: Column, source: Source, anchor: int) -> Column:
     return moved
 
 
+class Destinations:
+    """Are the ports of a source, which it has for all of its recordings."""
+
+    def __init__(self, source: Source, ports: dict[str, Port]) -> None:
+        self.names = list(dict.fromkeys(source.ports))
+        self.ports = [ports[name] for name in self.names]
+        # the number of the port, from 1, or 0 for none: by end system; at the end if a frame names none
+        self.port_of = np.zeros(END_SYSTEMS + 1, np.min_scalar_type(len(self.names)))
+        for end_system, name in source.end_systems.items():
+            self.port_of[int(end_system)] = self.names.index(name) + 1
+
+
 class Taker:
     """Takes frames by one source of the rules from one recording."""
 
     def __init__(self, number: int, source: Source, anchor: int, recording: Recording,
-                 checks: dict[int, CheckSequences], ports: dict[str, Port]) -> None:
+                 checks: dict[int, CheckSequences], to: Destinations) -> None:
         self.number = number
         self.source = source
         self.anchor = anchor
         self.recording = recording
         self.checks = checks  # by interface, the same for all sources of the recording that have the same `fcs`
-        self.names = list(dict.fromkeys(source.ports))
-        self.ports = [ports[name] for name in self.names]
+        self.names, self.ports, self.port_of = to.names, to.ports, to.port_of
         self.tagged = 0  # frames that were taken and have a VLAN tag
-        # the number of the port, from 1, or 0 for none: by end system; at the end if a frame names none
-        self.port_of = np.zeros(END_SYSTEMS + 1, np.min_scalar_type(len(self.names)))
-        for end_system, name in source.end_systems.items():
-            self.port_of[int(end_system)] = self.names.index(name) + 1
 
     def take(self, batch: Batch, of: Heads) -> Column:
         """Takes the source's frames of a batch to their ports; returns which they are."""
