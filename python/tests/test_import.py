@@ -691,6 +691,25 @@ def test_many_recordings_of_a_port_where_too_many_wait(folder: Folder) -> None:
     assert folder.captures() == {"port-1.pcap": captures.pcap(sorted(records, key=lambda one: one.stamp))}
 
 
+@pytest.mark.parametrize("ahead", [3600 * SECOND, -3600 * SECOND])
+@pytest.mark.parametrize("begin", [0, 1, 3])
+@pytest.mark.parametrize("is_asked", [False, True])
+def test_interfaces_with_clocks_that_are_apart(folder: Folder, ahead: int, begin: int, is_asked: bool) -> None:
+    """Checks recordings that follow one another, of two lines whose clocks differ by an hour: each port is in order."""
+    sent = [Record(AT + number * 10**6, frame(number), interface=(number // 3 + begin) % 2) for number in range(900)]
+    read = [replace(one, stamp=one.stamp + one.interface * ahead) for one in sent]
+    texts = {f"a{part}_pcapng": captures.pcapng(read[part * 301:part * 301 + 301], ["left", "right"])
+             for part in range(3)}
+    rule = '[[source]]\nfile = "a*.pcapng"\ninterface = {}\nto = "port-{}"\noffset_ns = {}\n'
+    rules = rule.format(0, 1, 0) + (rule.format(1, 2, -ahead) if is_asked else "")
+    with (patch.multiple(ordering, LEAST_WRITTEN=0, MOST_WAITING=1000, OF_EACH=0),
+          patch.object(Import.__init__, "__defaults__", (1000,))):
+        assert folder.run(rules, **texts)[0] == 0
+    assert folder.captures() == {
+        f"port-{number + 1}.pcap": captures.pcap([one for one in sent if one.interface == number])
+        for number in range(1 + is_asked)}
+
+
 def test_what_waits_stays_little(tmp_path: Path) -> None:
     """Checks that frames that are few do not wait in ever more parts, and that recordings share the bytes in which they
     are read at one time."""

@@ -153,6 +153,7 @@ class Taker:
         self.checks = checks  # by interface, the same for all sources of the recording that have the same `fcs`
         self.names, self.ports, self.port_of = to.names, to.ports, to.port_of
         self.tagged = 0  # frames that were taken and have a VLAN tag
+        self.lag = 0  # ns by which the clock of its interfaces is behind the recording's newest stamp
 
     def take(self, batch: Batch, of: Heads) -> Column:
         """Takes the source's frames of a batch to their ports; returns which they are."""
