@@ -74,10 +74,11 @@ class Reading:
     def note_lags(self, stamp: Column, taken: list[Column]) -> None:
         """Notes how far the last frame of each taker is before the newest one up to there: interfaces may have clocks
         that are apart."""
+        newest = np.maximum.accumulate(stamp)
         for taker, its in zip(self.takers, taken):
             if len(its):
                 last = int(its[-1])
-                taker.lag = max(self.newest or 0, int(stamp[:last + 1].max())) - int(stamp[last])
+                taker.lag = max(self.newest or 0, int(newest[last])) - int(stamp[last])
 
     def progress(self, taker: Taker) -> int:
         """Returns how far the recording has come, by the clock that the taker's stamps have."""
