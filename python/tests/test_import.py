@@ -718,11 +718,16 @@ def test_what_waits_stays_little(tmp_path: Path) -> None:
     for path in paths:
         path.write_bytes(captures.pcap(records))
     rules = rules_of(b'[[source]]\nfile = "*.pcap"\nend_systems = { 1 = "port-1", 2 = "port-2" }\n')
-    waiting, pieces = [], []
+    waiting: list[int] = []
+    pieces: list[list[int]] = []
+
+    def look(_: int) -> None:
+        waiting.append(len(done.ports["port-2"].ordering.waiting))
+        pieces.append([one.recording.piece for one in done.readings.values()])
+
     with patch.multiple(ordering, MANY=8), patch.multiple(running, ALL_PIECES=2000, LEAST_PIECE=100):
         done = Import(rules, tmp_path, [paths], Mock(), 1000)
-        done.run(lambda _: (waiting.append(len(done.ports["port-2"].ordering.waiting)),
-                            pieces.append([one.recording.piece for one in done.readings.values()])))
+        done.run(look)
     assert max(waiting) <= 16 and pieces[100] == [500] * 4
     assert [port.frames for port in done.ports.values()] == [7200, 800]
 
