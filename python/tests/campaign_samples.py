@@ -28,13 +28,19 @@ def row(kind: str, **fields: object) -> str:
 HEADING = ",".join(COLUMNS)
 SEEN = row("in", port=1, seen=4, cut=0, short=1, long=0, foreign=0, no_link=0, wrong_port=0, too_big=0, clean=3)
 PASSED = row("link", link=10, passed=3, policed=0)
+LEFT = "\n".join(row("out", port=1, priority=word, offered=0, full=0, aged=0, sent=0) for word in ("high", "low"))
 DELAYS = row("delays", link=10, port=2, sent=3, least=100, greatest=200, bound=1000, slack=800, slack_per_mille=800)
+SPAN = row("span", to=2500, frames=3, **{"from": 1000})
 QUIET = f"""case $command in
 survey|run) echo "{HEADING}"
             echo "{SEEN}"
-            echo "{PASSED}" ;;
+            echo "{PASSED}"
+            echo "{LEFT}" ;;
 esac
-[ "$command" != survey ] || echo "{DELAYS}"
+[ "$command" != survey ] || {{
+    echo "{DELAYS}"
+    echo "{SPAN}"
+}}
 """
 
 GOOD = """program = "./afdx"

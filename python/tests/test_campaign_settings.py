@@ -53,6 +53,48 @@ def test_recordings_are_named_below_the_first_wildcard(tmp_path: Path) -> None:
     assert tasks[0].memory == 4 * 48 + (64 << 20)
 
 
+@pytest.mark.parametrize("pattern, names", [
+    ("flights/..odd", ["..odd"]), ("flights/..o*", ["..odd"]), ("flights/*", ["monday", "tuesday"]), (".", ["room"])])
+def test_names_of_folders(tmp_path: Path, pattern: str, names: list[str]) -> None:
+    room = tmp_path / "room"
+    room.mkdir()
+    file = campaign(room, GOOD.replace("flights/*/run*", pattern))
+    (room / "flights/..odd").mkdir()
+    assert [task.recording.name for task in tasks_of(read_campaign(file))] == names
+
+
+@pytest.mark.parametrize("target", ["away", "run2"])  # the latter is a loop
+def test_a_link_that_leads_nowhere_is_a_recording(tmp_path: Path, target: str) -> None:
+    """Checks that no recording of a disk that is away is left out; a file is none."""
+    file = campaign(tmp_path)
+    (tmp_path / "flights/monday/run2").symlink_to(target)
+    (tmp_path / "flights/monday/run3").touch()
+    names = [task.recording.name for task in tasks_of(read_campaign(file))]
+    assert names == ["monday/run1", "monday/run2", "tuesday/run1"]
+
+
+@pytest.mark.parametrize("pattern", ["flights/*/run*", "flights/*/run1"])
+@pytest.mark.parametrize("target, line", [
+    ("away", "No such file or directory"), ("wednesday", "Too many levels of symbolic links")])
+def test_a_folder_that_cannot_be_looked_into(tmp_path: Path, pattern: str, target: str, line: str) -> None:
+    """Checks that recordings in it are not left out; another file there has none."""
+    file = campaign(tmp_path, GOOD.replace("flights/*/run*", pattern))
+    (tmp_path / "flights/README").touch()
+    assert len(tasks_of(read_campaign(file))) == 2
+    (tmp_path / "flights/wednesday").symlink_to(target)
+    with pytest.raises(Failure) as failure:
+        tasks_of(read_campaign(file))
+    assert (failure.value.status, failure.value.lines) == (
+        5, (f"afdx-campaign: cannot read {tmp_path}/flights/wednesday: {line}",))
+
+
+@pytest.mark.parametrize("root, own", [("campaign", "campaign"), (".", "kept"), (".", "csv")])
+def test_what_a_campaign_keeps_is_no_recording(tmp_path: Path, root: str, own: str) -> None:
+    file = campaign(tmp_path, GOOD.replace("flights/*/run*", "*").replace('"campaign"', f'"{root}"'))
+    (tmp_path / own).mkdir()
+    assert [task.recording.name for task in tasks_of(read_campaign(file))] == ["flights"]
+
+
 def test_a_table_without_ports(tmp_path: Path) -> None:
     """Checks that the tasks of such a table are of no files: afdx accepts it, and reads no capture."""
     file = campaign(tmp_path)
@@ -156,6 +198,12 @@ def test_the_key_is_of_what_the_answer_is_a_function_of(tmp_path: Path) -> None:
     assert keys() == third
     (tmp_path / "afdx").write_text("#!/bin/sh\n# another program\n")
     assert not set(keys()) & set(third)
+    for keep, same in (("none", True), ("all", False)):  # what is kept lies by the table's name
+        text = f'ask = "run"\nkeep = "{keep}"\n' + GOOD
+        file.write_text(text)
+        fourth = keys()
+        file.write_text(text.replace('name = "one"', 'name = "two"'))
+        assert (keys() == fourth) == same and (same or not set(keys()) & set(fourth))
 
 
 @pytest.mark.parametrize("line, ask, key, judge", [

@@ -21,25 +21,28 @@ from afdx.campaign.worker.stamps import first_stamp
 from afdx.campaign.worker.task import Task, identity_of
 from afdx.campaign.worker.work import Outcome, answer_at, note_change, work, work_hard
 from captures import header, words
-from tests.campaign_samples import DELAYS, HEADING, PASSED, PATIENCE, QUIET, SEEN, await_number, ends, row, task
+from tests.campaign_samples import (
+    DELAYS, HEADING, LEFT, PASSED, PATIENCE, QUIET, SEEN, SPAN, await_number, ends, row, task)
 
 BABBLED = row("link", link=10, passed=3, policed=2)
 SPELL = row("spell", link=10, policed=2, to=2500, least_early=500, greatest_early=700, **{"from": 2000})
-SPAN = row("span", to=2500, frames=3, **{"from": 1000})
-POLICED = QUIET.replace(PASSED, BABBLED) + f"""
-[ "$command" != survey ] || {{
-    echo "{SPELL}"
-    echo "{SPAN}"
-}}
-"""
+POLICED = QUIET.replace(PASSED, BABBLED).replace(SPAN, f"{SPELL}\n{SPAN}")
 GARBLED = "the program printed what no afdx prints, "
 FAULTS = [
     (r"printf 'caf\303\251\n'; " + QUIET, "garbled", 76, f"{GARBLED}line 1: caf\ufffd\ufffd", 1),
-    (rf"{QUIET}printf '\377\n'", "garbled", 76, f"{GARBLED}line 5: \ufffd", 1),
+    (rf"{QUIET}printf '\377\n'", "garbled", 76, f"{GARBLED}line 8: \ufffd", 1),
     ("echo hello; echo x,y", "garbled", 76, f"{GARBLED}line 1: hello", 1),
-    (f"{QUIET}echo link,10", "garbled", 76, f"{GARBLED}line 5: link,10", 1),
-    (QUIET + QUIET, "garbled", 76, f"{GARBLED}two rows of one link", 1),
+    (f"{QUIET}echo link,10", "garbled", 76, f"{GARBLED}line 8: link,10", 1),
+    (f'{QUIET}echo "{PASSED}"', "garbled", 76, f"{GARBLED}two rows of one link", 1),
+    (f'{QUIET}echo "{SEEN}"', "garbled", 76, f"{GARBLED}line 8: {SEEN}", 1),
     (QUIET.replace("200", str(2**63)), "garbled", 76, f"{GARBLED}a number from {2**63} on", 1),
+    *((QUIET.replace("200", word), "garbled", 76, f"{GARBLED}line 6: {DELAYS.replace('200', word)}", 1)
+      for word in ("-200", "2_00", " 200")),
+    (f'echo "{HEADING}"', "garbled", 76, f"{GARBLED}a part of its rows alone", 1),
+    *((f"({QUIET}) | head -n {lines}", "garbled", 76, f"{GARBLED}a part of its rows alone", 1) for lines in (3, 4, 6)),
+    (f"({QUIET}) | head -c -5", "garbled", 76, f"{GARBLED}line 7: {SPAN[:-4]}", 1),
+    (QUIET.replace(",1000,", ",0,"), "garbled", 76, f"{GARBLED}line 6: {DELAYS.replace(',1000,', ',0,')}", 1),
+    (QUIET.replace(",1000,", ",,"), "garbled", 76, f"{GARBLED}a delay without its bound", 1),
     ("exit 0", "garbled", 76, f"{GARBLED}nothing", 1),
     (r"printf 'one\ntwo\t\033[31mred\177\n' >&2; exit 7", "refused", 7, r"one two \x1b[31mred\x7f", 1),
     ("head -c 5000 /dev/zero | tr '\\000' e >&2; exit 7", "refused", 7, "e" * 1000 + " ..", 1),
@@ -110,7 +113,8 @@ def test_a_fault_that_passes_is_none(tmp_path: Path) -> None:
 def test_a_survey_is_asked_in_one(tmp_path: Path) -> None:
     asked = task(tmp_path, POLICED)
     assert work_hard(asked).status == 0
-    assert answer_at(asked.answer)["text"].splitlines() == [HEADING, SEEN, BABBLED, DELAYS, SPELL, SPAN]
+    assert answer_at(asked.answer)["text"].splitlines() == [
+        HEADING, SEEN, BABBLED, *LEFT.splitlines(), DELAYS, SPELL, SPAN]
 
 
 def test_an_answer_is_given_once(tmp_path: Path) -> None:
@@ -126,7 +130,9 @@ def test_an_answer_is_given_once(tmp_path: Path) -> None:
 @pytest.mark.parametrize("act, fault", [
     (f'touch -d 2001-01-01 "$folder/port-2.pcap"\n{QUIET}', "changed"),
     (f'echo >>"$0"\n{QUIET}', "changed"),
-    (f'echo >>"$2"\n{QUIET}', "changed")])
+    (f'echo >>"$2"\n{QUIET}', "changed"),
+    *((f"""sleep 0.05; cp -p {file} "$folder/old"; echo >>{file}; sleep 0.05; cp -p "$folder/old" {file}\n{QUIET}""",
+       "changed") for file in ('"$0"', '"$2"'))])
 def test_what_changes_while_it_is_read_is_a_fault(tmp_path: Path, act: str, fault: str) -> None:
     asked = task(tmp_path, act)
     assert work_hard(asked).status == 75
@@ -242,7 +248,7 @@ def test_children_have_the_limits_of_the_task(tmp_path: Path) -> None:
     ("none", 2, False), ("policed", 0, False), ("policed", 2, True), ("all", 0, True)])
 def test_outputs_are_kept(tmp_path: Path, keep: str, policed: int, kept: bool) -> None:
     passed = row("link", link=10, passed=3, policed=policed)
-    act = f'echo "{HEADING}"; echo "{passed}"; echo text >"$out/port-1.pcap"'
+    act = f'{QUIET.replace(PASSED, passed)}echo text >"$out/port-1.pcap"'
     asked = task(tmp_path, act, ask="run", keep=keep)
     work_hard(asked)
     assert (tmp_path / "campaign/kept/t/r1/port-1.pcap").exists() == kept
@@ -367,14 +373,24 @@ def test_of_a_network_the_same_is_asked(tmp_path: Path, ask: str, kept: list[str
     run) echo >"$out/A/port-1.pcap" ;;
     trace) echo >"$out/A/arrivals.csv"; echo >"$out/B/arrivals.csv" ;;
     esac
-    {QUIET}"""
+    ({QUIET}) | sed '1s/^/switch,/; 2,$s/^/A,/'
+    [ -e "$folder/cut" ] || ({QUIET}) | sed '1d; s/^/B,/'"""
     asked = task(tmp_path, act, ask=ask, keep="none" if ask == "survey" else "all")
-    asked = replace(asked, table=replace(asked.table, switches=("A", "B")))
+    for switch in ("A", "B"):
+        Path(asked.recording.folder, switch).mkdir()
+        Path(asked.recording.folder, switch, "port-1.pcap").touch()
+    asked = listed(replace(asked, table=replace(asked.table, switches=("A", "B")), recording=replace(
+        asked.recording, files=("A/port-1.pcap", "B/port-1.pcap"))))
     assert work_hard(asked).status == 0
-    rows = [HEADING, SEEN, PASSED]
-    assert answer_at(asked.answer)["text"].splitlines() == (rows if ask == "run" else [*rows, DELAYS])
+    rows = [SEEN, PASSED, *LEFT.splitlines(), *([] if ask == "run" else [DELAYS, SPAN])]
+    assert answer_at(asked.answer)["text"].splitlines() == [
+        f"switch,{HEADING}", *(f"{switch},{line}" for switch in ("A", "B") for line in rows)]
     folder = tmp_path / "campaign/kept/t/r1"
     assert sorted(str(path.relative_to(folder)) for path in folder.glob("*/*")) == kept
+    asked.answer.unlink()
+    Path(asked.recording.folder, "cut").touch()
+    assert fault_at(asked) == ("garbled", 76, f"{GARBLED}a part of its rows alone")
+    assert not list(folder.glob("*/*"))
 
 
 def test_first_stamps_in_either_order_and_both_parts(tmp_path: Path) -> None:

@@ -27,9 +27,9 @@ order by tables.id, runs.begin, recording"""
 DELAYS = "select switch, link, port, greatest from delays where run = ? and greatest is not null"
 
 MEASURES = {
-    "frames seen": 'sum("seen")',
-    "frames filtered": "sum(" + " + ".join(f'"{name}"' for name in FILTERED) + ")",
-    "copies lost": "sum(high_full + high_aged + low_full + low_aged)"}
+    "frames seen": 'total("seen")',
+    "frames filtered": "total(" + " + ".join(f'"{name}"' for name in FILTERED) + ")",
+    "copies lost": "total(high_full + high_aged + low_full + low_aged)"}
 
 COUNTS = f"""
 select tables.name, recording, {", ".join(MEASURES.values())}

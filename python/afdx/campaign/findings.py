@@ -13,8 +13,10 @@ BINS = 50  # of the slack histogram
 
 Rows = list[tuple[Any, ...]]
 
+# `total`, since `sum` ends with an error where it has no room, for all recordings
 WORST = """
-select tables.name, switch, link, port, sum(sent), max(greatest), bound, 1.0 * max(greatest) / bound, recording
+select tables.name, switch, link, port, cast(total(sent) as integer), max(greatest), bound,
+    1.0 * max(greatest) / bound, recording
 from delays join runs on runs.id = run join tables on tables.id = runs."table"
 where greatest is not null group by tables.id, switch, link, port order by tables.id, switch, link, port"""
 
@@ -31,7 +33,8 @@ left join spells on spells.run = links.run and spells.switch = links.switch and 
 where policed > 0 order by tables.id, links.switch, links.link, spells.begin, runs.begin, recording"""
 
 LOST_NAMES = (*FILTERED, "full", "aged")
-LOST_SUMS = (*(f'sum("{name}")' for name in FILTERED), *(f"sum(high_{name} + low_{name})" for name in ("full", "aged")))
+LOST_SUMS = tuple(f"cast(total({words}) as integer)" for words in (
+    *(f'"{name}"' for name in FILTERED), *(f"high_{name} + low_{name}" for name in ("full", "aged"))))
 LOST = f"""
 select name, recording, {", ".join(f'"{word}"' for word in LOST_NAMES)} from (
     select tables.id as place, tables.name as name, recording, runs.begin as begin,

@@ -1,9 +1,11 @@
 """Lists the tasks of a campaign: each recording under each table."""
+import contextlib
 import glob
 import hashlib
 import json
 import os
 import shutil
+import stat
 from dataclasses import asdict, replace
 from pathlib import Path
 
@@ -17,6 +19,7 @@ from afdx.failure import DEVICE, INPUT, LOAD, tell
 from afdx.program import Program
 
 LEAST_MEMORY = 64 << 20  # bytes that a task takes of any recording
+OWN = {".", "answers", "changed", "csv", "kept", "rounds"}  # the root and its folders, which are no recordings
 
 
 def tasks_of(campaign: Campaign) -> list[Task]:
@@ -27,7 +30,7 @@ def tasks_of(campaign: Campaign) -> list[Task]:
     try:
         identity = program_identity(program)
         tables = [(checked(program, table), table) for table in campaign.tables]
-        folders = folders_of(campaign.file.parent, campaign.recordings)
+        folders = folders_of(campaign.file.parent, campaign.recordings, campaign.root)
         return [Task(
             root=str(campaign.root), program=os.path.abspath(program), program_identity=identity, recording=recording,
             table=table, ask=campaign.ask, keep=campaign.keep, scratch=campaign.scratch, tries=campaign.limits.tries,
@@ -66,33 +69,70 @@ def captures_of(configured: Configured) -> tuple[str, ...]:
         if f"{switch['name']}.{port['id']}" not in wired)
 
 
-def folders_of(folder: Path, patterns: tuple[str, ...]) -> dict[str, str]:
+def folders_of(folder: Path, patterns: tuple[str, ...], root: Path) -> dict[str, str]:
     """Finds the folders of recordings by name, which is the path below the part of the pattern without wildcards.
 
     The folder in which the patterns are is none of theirs: brackets in its name are not theirs either.
     """
     folders: dict[str, str] = {}
     for pattern in patterns:
-        found = sorted(str(folder / name) for name in glob.glob(pattern, root_dir=folder)
-                       if os.path.isdir(folder / name))
+        check_reach(folder, Path(pattern).parts)
+        found = sorted(path for path in (str(folder / name) for name in glob.glob(pattern, root_dir=folder))
+                       if may_be_folder(path) and not (glob.has_magic(pattern) and is_own(path, root)))
         if not found:
             raise failure(INPUT, f"no folder is {folder / pattern}")
         for path in found:
-            name = os.path.relpath(path, folder / above(pattern))
-            if not name.isprintable():
-                raise failure(INPUT, f"a recording's name cannot be printed: {name!r}")
-            if name.startswith(".."):
-                raise failure(INPUT, f"a recording's name leads out of the folder that has its outputs: {name}")
+            name = name_of(path, folder / above(pattern))
             if folders.setdefault(name, path) != path:
                 raise failure(INPUT, f"two recordings are called {name}: {folders[name]} and {path}")
     return folders
+
+
+def check_reach(folder: Path, parts: tuple[str, ...]) -> None:
+    """Raises the OSError of a folder that the parts of a pattern lead through and that cannot be looked into: glob
+    passes over it, and recordings in it would be left out without a word."""
+    for number, part in enumerate(parts):
+        for name in glob.glob(str(Path(*parts[:number])), root_dir=folder):
+            if not stat.S_ISDIR(os.stat(folder / name).st_mode):
+                continue
+            if glob.has_magic(part):
+                os.scandir(folder / name).close()
+            else:
+                with contextlib.suppress(FileNotFoundError):
+                    os.lstat(folder / name / part)
+
+
+def may_be_folder(path: str) -> bool:
+    """Returns whether a path is that of a folder, or cannot be followed, as a link to a disk that is away: that is a
+    fault of this recording."""
+    try:
+        return stat.S_ISDIR(os.stat(path).st_mode)
+    except OSError:
+        return True
+
+
+def is_own(path: str, root: Path) -> bool:
+    """Returns whether a folder is the root of the campaign, or one that the campaign keeps in it."""
+    return os.path.relpath(os.path.realpath(path), os.path.realpath(root)).partition("/")[0] in OWN
+
+
+def name_of(path: str, above: Path) -> str:
+    """Returns the name of a recording, which is its path below a folder, or that folder's own name."""
+    name = os.path.relpath(path, above)
+    if name == ".":
+        name = os.path.basename(os.path.abspath(path))
+    if not name.isprintable():
+        raise failure(INPUT, f"a recording's name cannot be printed: {name!r}")
+    if name.partition("/")[0] == "..":
+        raise failure(INPUT, f"a recording's name leads out of the folder that has its outputs: {name}")
+    return name
 
 
 def above(pattern: str) -> str:
     """Returns the folder above the first wildcard of a pattern, or above a folder that has none."""
     parts = Path(pattern).parts
     plain = next((number for number, part in enumerate(parts) if glob.has_magic(part)), len(parts) - 1)
-    return str(Path(*parts[:plain]))
+    return str(Path(*parts[:max(0, plain)]))
 
 
 def recordings_of(folders: dict[str, str], files: tuple[str, ...], by_content: bool) -> list[Recording]:

@@ -1,13 +1,11 @@
 """Asks the questions that there are of a recording; each is answered by comma-separated values that afdx writes."""
 from __future__ import annotations
 
-import contextlib
-import shutil
 from pathlib import Path
 
 from afdx.campaign.worker.files import put_copy, remove_left, remove_old
 from afdx.campaign.worker.program import Program, Said
-from afdx.campaign.worker.rows import rows_of
+from afdx.campaign.worker.rows import Rows
 from afdx.campaign.worker.task import Task
 
 ASKS = ("survey", "run", "trace")
@@ -17,7 +15,7 @@ OUT = "kept"  # the outputs that are to be kept, in a task's folder for temporar
 
 
 def ask(task: Task, program: Program, scratch: Path) -> Said:
-    """Returns the answer to the question of a task; outputs that are to be kept are below `scratch` then."""
+    """Returns the answer to the question of a task; its outputs are below `scratch` then."""
     of_networks = ("network",) if task.table.switches else ()
     files = (task.table.files[0], task.recording.folder)
     options = ("--unchecked",) if task.table.unchecked else ()
@@ -26,33 +24,21 @@ def ask(task: Task, program: Program, scratch: Path) -> Said:
     said = program(*of_networks, "survey", *files, *options, CSV)
     if task.ask == "survey" or said.status:
         return said
-    traced = run(task, program, scratch, (*of_networks, "trace", *files), options, said.text)
+    traced = run(task, program, scratch, (*of_networks, "trace", *files), options)
     return traced if traced.status else said
 
 
-def run(task: Task, program: Program, scratch: Path, arguments: tuple[str, ...], options: tuple[str, ...],
-        report: str | None = None) -> Said:
-    """Runs a command that puts files, and leaves these there if the task asks to keep them, by a report if it prints
-    none."""
+def run(task: Task, program: Program, scratch: Path, arguments: tuple[str, ...], options: tuple[str, ...]) -> Said:
+    """Runs a command that puts files."""
     out = scratch / OUT
     for folder in folders_in(task, out):
         folder.mkdir(parents=True)
-    said = program(*arguments, str(out), *options)
-    if said.status or not wanted(task.keep, said.text if report is None else report):
-        shutil.rmtree(out)
-    return said
+    return program(*arguments, str(out), *options)
 
 
-def polices(report: str) -> bool:
-    """Returns whether a report says of a link that its frames were policed; what is no report does not."""
-    with contextlib.suppress(ValueError):
-        return any(policed for *_, policed in rows_of(report).links)
-    return False
-
-
-def wanted(keeps: str, report: str) -> bool:
-    """Returns whether the outputs of a recording are kept."""
-    return keeps == "all" or keeps == "policed" and polices(report)
+def wanted(task: Task, rows: Rows) -> bool:
+    """Returns whether the outputs beside these rows are kept."""
+    return task.keep == "all" or task.keep == "policed" and any(policed for *_, policed in rows.links)
 
 
 def kept_place(task: Task) -> Path:
@@ -65,14 +51,15 @@ def folders_in(task: Task, place: Path) -> list[Path]:
     return [place / switch for switch in task.table.switches or (".",)]
 
 
-def keep(task: Task, scratch: Path) -> None:
-    """Puts the outputs of a task, if some are to be kept, in place of those of an earlier answer.
+def keep(task: Task, scratch: Path, rows: Rows | None) -> None:
+    """Puts the outputs of a task, if it has an answer by which they are to be kept, in place of those of an earlier one.
 
     Each file comes by a rename over what is there, and then alone that is removed which only the earlier answer has. So
     two workers that do one task, whose files are the same, take none from each other, whenever one of them is killed.
     """
     out, place = scratch / OUT, kept_place(task)
-    names = sorted(path.relative_to(out) for path in out.rglob("*") if path.is_file())
+    kept = rows is not None and wanted(task, rows)
+    names = sorted(path.relative_to(out) for path in out.rglob("*") if path.is_file()) if kept else []
     for name in names:
         put_copy(out / name, place / name)
     for folder in folders_in(task, place):

@@ -31,24 +31,29 @@ class Rows:
     delays: list[tuple[str, Number, Number, Number, Number, Number, Number]] = field(default_factory=list)
     spells: list[tuple[str, Number, Number, Number, Number, Number, Number]] = field(default_factory=list)
     ports: dict[Place, list[Number]] = field(default_factory=dict)  # in the order of PORT
+    spans: set[str] = field(default_factory=set)  # the switches of which a survey has the last row
 
     def port(self, switch: str, row: dict[str, str], kind: str) -> None:
         """Notes some of the numbers of a port."""
         values = [number(row[column]) for column in COLUMNS[kind]]
-        noted = self.ports.setdefault((switch, int(row["port"])), [None] * len(PORT))
+        noted = self.ports.setdefault((switch, whole(row["port"])), [None] * len(PORT))
+        if noted[BEGIN[kind]] is not None:
+            raise ValueError
         noted[BEGIN[kind]:BEGIN[kind] + len(values)] = values
 
     def delay(self, place: Place, row: dict[str, str]) -> None:
         """Notes the delays of a link, at an output port or, of a network, at the port where it leads out."""
         least, greatest, bound = (number(row[column]) for column in DELAYS)
+        if bound == 0:  # of which no delay has a share
+            raise ValueError
         switch, port = place
-        self.delays.append((switch, int(row["link"]), port, int(row["sent"]), least, greatest, bound))
+        self.delays.append((switch, whole(row["link"]), port, whole(row["sent"]), least, greatest, bound))
 
     def spell(self, switch: str, row: dict[str, str]) -> None:
         """Notes a spell; of a network `from` and `to` are ports."""
-        begin, end = (int(row[column]) for column in (("first", "last") if "first" in row else ("from", "to")))
-        frames, least, greatest = (int(row[column]) for column in SPELL)
-        self.spells.append((switch, int(row["link"]), begin, end, frames, least, greatest))
+        begin, end = (whole(row[column]) for column in (("first", "last") if "first" in row else ("from", "to")))
+        frames, least, greatest = (whole(row[column]) for column in SPELL)
+        self.spells.append((switch, whole(row["link"]), begin, end, frames, least, greatest))
 
 
 def rows_of(text: str) -> Rows:
@@ -63,7 +68,7 @@ def rows_of(text: str) -> Rows:
     heading = next(reader)
     try:
         for fields in reader:
-            read(rows, dict(zip(heading, fields)))
+            read(rows, dict(zip(heading, fields, strict=True)))
     except (LookupError, ValueError, csv.Error) as error:
         raise ValueError(f"line {reader.line_num}: {lines[reader.line_num - 1]}") from error
     return rows
@@ -86,19 +91,41 @@ def check_room(rows: Rows) -> None:
     numbers = chain.from_iterable(chain(
         (row[1:] for table, _ in tables for row in table),
         ((port, *values) for (_, port), values in rows.ports.items())))
-    if not all(value is None or -ROOM <= value < ROOM for value in numbers):
+    if not all(value is None or value < ROOM for value in numbers):
         raise ValueError(f"a number from {ROOM} on")
+
+
+def check_whole(rows: Rows, recorded: set[str], spans: set[str]) -> None:
+    """Raises ValueError of rows of which some are missing, as behind a filter that ended early: those of a run end with
+    what left each port, and these switches have ports; those of a survey end with a span of each switch."""
+    left = BEGIN["buffer"]  # after all that came and left
+    if (not recorded <= {switch for switch, _ in rows.ports} or not spans <= rows.spans
+            or any(None in values[:left] for values in rows.ports.values())):
+        raise ValueError("a part of its rows alone")
+
+
+def check_bounds(rows: Rows) -> None:
+    """Raises ValueError of a delay without its bound, which each link of a table that is accepted has."""
+    if any(greatest is not None and bound is None for *_, greatest, bound in rows.delays):
+        raise ValueError("a delay without its bound")
+
+
+def whole(field: str) -> int:
+    """Returns the number of a field that has digits alone, as afdx writes it."""
+    if not field.isdecimal():
+        raise ValueError
+    return int(field)
 
 
 def number(field: str) -> Number:
     """Returns the number of a field, None of an empty one."""
-    return int(field) if field else None
+    return whole(field) if field else None
 
 
 def place_of(port: str) -> Place:
     """Returns the switch and the number of a port, as SWITCH.7."""
     switch, _, own = port.rpartition(".")
-    return switch, int(own)
+    return switch, whole(own)
 
 
 def read(rows: Rows, row: dict[str, str]) -> None:
@@ -110,10 +137,12 @@ def read(rows: Rows, row: dict[str, str]) -> None:
         case "out":
             rows.port(switch, row, row["priority"])
         case "delays":
-            rows.delay((switch, int(row["port"])), row)
+            rows.delay((switch, whole(row["port"])), row)
         case "way":
             rows.delay(place_of(row["to"]), row)
         case "link":
-            rows.links.append((switch, int(row["link"]), int(row["passed"]), int(row["policed"])))
+            rows.links.append((switch, whole(row["link"]), whole(row["passed"]), whole(row["policed"])))
         case "spell":
             rows.spell(switch, row)
+        case "span":
+            rows.spans.add(switch)

@@ -53,9 +53,10 @@ class Task:
 
     @property
     def key(self) -> str:
-        """Returns the name of the answer: all that the answer is a function of, and nothing else."""
+        """Returns the name of the answer: all that the answer is a function of, and nothing else. If outputs are kept,
+        they lie by the table's name."""
         parts = [FORM, self.program_identity, self.recording.identity, self.table.identity, self.table.unchecked,
-                 self.ask, self.keep]
+                 self.ask, self.keep, *([] if self.keep == "none" else [self.table.name])]
         return hashlib.sha256(json.dumps(parts).encode()).hexdigest()
 
     @property

@@ -6,7 +6,6 @@ import errno
 import gzip
 import json
 import os
-import shutil
 import signal
 import socket
 import time
@@ -19,10 +18,10 @@ from typing import TypedDict
 from afdx.campaign.worker.captures import CHANGED, DEVICE, GARBLED, INPUT, Refused, check_captures, check_listed
 from afdx.campaign.worker.files import put, scratch_folder
 from afdx.campaign.worker.program import TIMED_OUT, Program, Said, Used
-from afdx.campaign.worker.questions import OUT, ask, keep
-from afdx.campaign.worker.rows import ROOM, check_room, rows_of
+from afdx.campaign.worker.questions import ask, keep
+from afdx.campaign.worker.rows import ROOM, Rows, check_bounds, check_room, check_whole, rows_of
 from afdx.campaign.worker.stamps import first_stamp
-from afdx.campaign.worker.task import FORM, Task, content_of, table_identity
+from afdx.campaign.worker.task import FORM, Task, content_of, signs_of, table_identity
 
 LOST = 137  # as of a process that was killed
 LONGEST = 30.0  # seconds between two tries of a task
@@ -78,16 +77,16 @@ def work(task: Task, attempt: int) -> Outcome:
     with scratch_folder(task.scratch) as scratch:
         program = Program(task.program, task.timeout, address_space(task.memory), scratch)
         try:
-            said = asked(task, program, scratch)
+            said, rows = asked(task, program, scratch)
             fault = fault_of(said)
         except Refused as refused:
-            fault, said = refused.fault, Said(refused.status, "", refused.line)
+            fault, said, rows = refused.fault, Said(refused.status, "", refused.line), None
         if fault in AGAIN and attempt < task.tries:
             return Outcome(said.status, False)
         if task.answer.exists():  # another worker's, as what is kept is
             return Outcome(status_of(task.answer), True)
         if task.keep != "none" and fault not in PASSING:
-            keep(task, scratch)
+            keep(task, scratch, rows)
     if fault == "changed":
         note_change(task)
     put_answer(task, said, fault, program.used, attempt)
@@ -118,11 +117,39 @@ def work_often(task: Task) -> Outcome:
     return work(task, task.tries)
 
 
-def asked(task: Task, program: Program, scratch: Path) -> Said:
-    """Asks of a recording that is whole and stays as it is, as program and table do that the plan has."""
+def asked(task: Task, program: Program, scratch: Path) -> tuple[Said, Rows | None]:
+    """Asks of a recording that is whole and stays as it is, as program and table do that the plan has; returns the rows
+    of an answer with it."""
     check_captures(task.recording)
+    before = looks(task)
     said = ask(task, program, scratch)
     check_listed(task.recording)
+    check_planned(task)
+    changed = [what for what, look in looks(task).items() if look != before[what]]
+    if changed:  # so that another one may have been read
+        raise Refused("changed", CHANGED, f"the {' and the '.join(changed)} changed meanwhile, and changed back")
+    return said, None if said.status else checked_rows(task, said)
+
+
+def looks(task: Task) -> dict[str, list[object]]:
+    """Returns what tells whether recording, program and table were written, if only to be again as they were: of a
+    recording, which something may link or archive meanwhile, sizes and times alone."""
+    recording = task.recording
+    return {"recording": [*signs_of(recording.folder, recording.files, by_content=False)],
+            "program": [look(task.program)], "table": [look(file) for file in task.table.files]}
+
+
+def look(path: str) -> tuple[int, ...] | None:
+    """Returns what tells whether a file was written or renamed; none if it is not there."""
+    try:
+        status = os.stat(path)
+    except OSError:
+        return None
+    return status.st_size, status.st_mtime_ns, status.st_ctime_ns
+
+
+def check_planned(task: Task) -> None:
+    """Refuses a program or a table that is not the one that was listed."""
     try:
         changed = [what for what, now, planned in (
             ("program", program_identity(task.program), task.program_identity),
@@ -131,18 +158,21 @@ def asked(task: Task, program: Program, scratch: Path) -> Said:
         raise Refused("program", DEVICE, f"cannot read {error.filename}: {error.strerror}") from error
     if changed:
         raise Refused("changed", CHANGED, f"the {' and the '.join(changed)} changed since the tasks were listed")
-    if not said.status:
-        check_rows(said, scratch)
-    return said
 
 
-def check_rows(said: Said, scratch: Path) -> None:
-    """Refuses what no afdx prints, so that the store can read all that is an answer; nothing is kept with it."""
+def checked_rows(task: Task, said: Said) -> Rows:
+    """Returns the rows of an answer. What no afdx prints is refused, so that the store can read all that is one."""
+    recorded = {os.path.dirname(file) for file in task.recording.files}  # the switches that have captures
+    spans = set() if task.ask == "run" else set(task.table.switches or ("",))
     try:
-        check_room(rows_of(said.text))
+        rows = rows_of(said.text)
+        check_room(rows)
+        check_whole(rows, recorded, spans)
+        if not task.table.unchecked:
+            check_bounds(rows)
     except ValueError as error:
-        shutil.rmtree(scratch / OUT, ignore_errors=True)
         raise Refused("garbled", GARBLED, f"the program printed what no afdx prints, {error}") from error
+    return rows
 
 
 def fault_of(said: Said) -> str:
