@@ -183,6 +183,22 @@ def contents(base: sqlite3.Connection) -> list[tuple[Any, ...]]:
     return sorted(found, key=repr)
 
 
+def test_sums_beyond_the_room_for_a_number(tmp_path: Path) -> None:
+    """Checks that such numbers of two recordings are in no others' way: no sum of them is an error."""
+    most = 2**63 - 1
+    tasks = [task(tmp_path, name=f"r{number}") for number in range(3)]
+    text = "\n".join((HEADING, row("delays", link=10, port=2, sent=most, least=1, greatest=most, bound=most), *(
+        row(kind, port=1, **dict.fromkeys(words, most)) for kind, words in (
+            ("in", ("seen", "cut", "short", "long", "foreign", "no-link", "wrong-port", "too-big", "clean")),
+            ("buffer", ("occupied", "buffer", "at")))), *(
+        row("out", port=1, priority=word, offered=most, full=most, aged=most, sent=most) for word in ("high", "low"))))
+    for asked, said in zip(tasks, (text, text, f"{HEADING}\n{PASSED}")):
+        put(asked, 0, said, 0)
+    with collected(Path(tasks[0].root), tasks) as base:
+        assert all(isinstance(question.ask(base), list) for question in QUESTIONS)
+        assert len(asked_of(base, "lost")) == 2 and asked_of(base, "worst")["greatest"][0] == most
+
+
 def test_rows_of_a_network_name_their_switch() -> None:
     read = rows_of("switch,kind,port,link,priority,passed,policed,offered,full,aged,sent,from,to,least,greatest,"
                    "least_bound,bound,occupied,buffer,at,first,last,least_early,greatest_early\n"

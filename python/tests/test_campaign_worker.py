@@ -18,7 +18,7 @@ from afdx.campaign.worker.files import scratch_folder
 from afdx.campaign.worker.program import TIMED_OUT, Program, Said
 from afdx.campaign.worker.questions import ask, remove_parts
 from afdx.campaign.worker.stamps import first_stamp
-from afdx.campaign.worker.task import Task, identity_of
+from afdx.campaign.worker.task import Task, identity_of, table_identity
 from afdx.campaign.worker.work import Outcome, answer_at, note_change, work, work_hard
 from captures import header, words
 from tests.campaign_samples import (
@@ -262,6 +262,28 @@ def test_what_is_kept_is_of_the_newest_answer(tmp_path: Path, keep: str, kept: l
     (folder / "old.pcap").write_text("text")
     work_hard(task(tmp_path, f'echo >"$out/port-1.pcap"\n{QUIET}', ask="run", keep=keep))
     assert sorted(path.name for path in folder.glob("*")) == kept
+
+
+@pytest.mark.parametrize("act, asks", [
+    (":", True), ("exit 3", True), ("kill -KILL $$", False)])
+def test_what_is_kept_of_a_table_that_changed_back(tmp_path: Path, act: str, asks: bool) -> None:
+    """Checks that a task is asked anew, once, if the outputs of another answer are in the place of its own."""
+    first = task(tmp_path, f"""echo >>"$folder/calls"
+    [ "$(wc -l <"$2")" -eq 3 ] || {act}
+    cp "$2" "$out/port-1.pcap"
+    {QUIET}""", ask="run", keep="all")
+    root, table, kept = Path(first.root), Path(first.table.files[0]), tmp_path / "campaign/kept/t/r1/port-1.pcap"
+    assert work_hard(first).status == 0
+    old = table.read_text()
+    table.write_text(f"{old}# changed\n")
+    second = replace(first, table=replace(first.table, identity=table_identity(first.table.files)))
+    work_hard(second)
+    table.write_text(old)
+    assert left_of(root, [first]) == [0][:asks] and left_of(root, [second]) == []
+    forget_outdated(root, [first])
+    assert work_hard(first).status == 0 and kept.read_text() == old
+    assert left_of(root, [first]) == [] and left_of(root, [second]) == [0][:asks]
+    assert Path(first.recording.folder, "calls").read_text().count("\n") == 3
 
 
 @pytest.mark.parametrize("act, kept", [

@@ -6,8 +6,9 @@ from collections.abc import Iterable, Iterator
 from pathlib import Path
 
 from afdx.campaign.worker.files import remove_old
+from afdx.campaign.worker.questions import is_kept_of_another
 from afdx.campaign.worker.task import Task
-from afdx.campaign.worker.work import Answer, answer_at, changes_folder
+from afdx.campaign.worker.work import PASSING, Answer, answer_at, changes_folder
 
 ENDING = ".json.gz"
 
@@ -28,13 +29,16 @@ def files_there(root: Path) -> dict[str, str]:
 
 
 def outdated(root: Path, tasks: list[Task]) -> set[str]:
-    """Returns the keys of answers that say of a task that something had changed, though all is now as its key says."""
+    """Returns the keys of answers that say of a task that something had changed, though all is now as its key says, and
+    of those beside which the outputs of another one are kept, unless they leave these."""
     noted = {path.name for path in changes_folder(root).glob("*")}
     found = set()
     for task in tasks:
-        if task.key in noted:
+        another = task.keep != "none" and is_kept_of_another(task)
+        if task.key in noted or another:
             with contextlib.suppress(FileNotFoundError):  # a worker may have been killed before it put the answer
-                found.update([task.key] if answer_at(task.answer)["fault"] == "changed" else [])
+                fault = answer_at(task.answer)["fault"]
+                found.update([task.key] if fault == "changed" or another and fault not in PASSING else [])
     return found
 
 

@@ -9,7 +9,7 @@ import tempfile
 import time
 from collections.abc import Callable, Iterator
 from pathlib import Path
-from typing import BinaryIO
+from typing import IO, Any, BinaryIO
 
 from afdx.files import put_by
 
@@ -34,13 +34,33 @@ def put_copy(source: Path, path: Path) -> None:
         read = stack.enter_context(open(source, "rb"))
 
         def write(file: BinaryIO) -> None:
-            held = os.dup(file.fileno())
-            stack.callback(os.close, held)
-            with contextlib.suppress(OSError):  # a file system may have no locks: then nobody gets this one either
-                fcntl.flock(held, fcntl.LOCK_EX)
+            held = os.fdopen(os.dup(file.fileno()))
+            lock(stack.enter_context(held), fcntl.LOCK_EX)
             shutil.copyfileobj(read, file, 1 << 20)
 
         put(path, write)
+
+
+@contextlib.contextmanager
+def marked(path: Path, text: str) -> Iterator[None]:
+    """Writes a mark, and has it stay: who writes another one waits, who wants the same does not. A kill may leave it
+    empty."""
+    path.parent.mkdir(parents=True, exist_ok=True)
+    with open(path, "a+", encoding="utf-8") as file:
+        lock(file, fcntl.LOCK_SH)
+        while file.seek(0) or file.read() != text:
+            lock(file, fcntl.LOCK_EX)
+            file.truncate(0)
+            file.write(text)
+            file.flush()
+            lock(file, fcntl.LOCK_SH)
+        yield
+
+
+def lock(file: IO[Any], how: int) -> None:
+    """Waits for the lock of a file, if its file system has locks: else nobody gets one."""
+    with contextlib.suppress(OSError):
+        fcntl.flock(file, how)
 
 
 def remove_left(path: Path) -> None:

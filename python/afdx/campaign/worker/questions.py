@@ -1,9 +1,12 @@
 """Asks the questions that there are of a recording; each is answered by comma-separated values that afdx writes."""
 from __future__ import annotations
 
+import contextlib
+import hashlib
+import json
 from pathlib import Path
 
-from afdx.campaign.worker.files import put_copy, remove_left, remove_old
+from afdx.campaign.worker.files import marked, put_copy, remove_left, remove_old
 from afdx.campaign.worker.program import Program, Said
 from afdx.campaign.worker.rows import Rows
 from afdx.campaign.worker.task import Task
@@ -46,6 +49,19 @@ def kept_place(task: Task) -> Path:
     return Path(task.root, "kept", task.table.name, task.recording.name)
 
 
+def kept_mark(task: Task) -> Path:
+    """Returns the file that has the key of the answer whose outputs are kept there."""
+    words = json.dumps([task.table.name, task.recording.name])
+    return Path(task.root, "newest", hashlib.sha256(words.encode()).hexdigest())
+
+
+def is_kept_of_another(task: Task) -> bool:
+    """Returns whether what is kept there is of another answer, as of a table that was changed and changed back."""
+    with contextlib.suppress(FileNotFoundError):
+        return kept_mark(task).read_text() != task.key
+    return False
+
+
 def folders_in(task: Task, place: Path) -> list[Path]:
     """Returns the folders of a place in which outputs lie: one for each switch of a network."""
     return [place / switch for switch in task.table.switches or (".",)]
@@ -56,14 +72,16 @@ def keep(task: Task, scratch: Path, rows: Rows | None) -> None:
 
     Each file comes by a rename over what is there, and then alone that is removed which only the earlier answer has. So
     two workers that do one task, whose files are the same, take none from each other, whenever one of them is killed.
+    The mark comes first, and the files of two answers one after the other.
     """
     out, place = scratch / OUT, kept_place(task)
     kept = rows is not None and wanted(task, rows)
     names = sorted(path.relative_to(out) for path in out.rglob("*") if path.is_file()) if kept else []
-    for name in names:
-        put_copy(out / name, place / name)
-    for folder in folders_in(task, place):
-        clear(folder, {place / name for name in names})
+    with marked(kept_mark(task), task.key):
+        for name in names:
+            put_copy(out / name, place / name)
+        for folder in folders_in(task, place):
+            clear(folder, {place / name for name in names})
 
 
 def clear(folder: Path, kept: set[Path]) -> None:
