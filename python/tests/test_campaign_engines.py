@@ -77,6 +77,7 @@ def test_an_array_that_is_queued_as_a_signal_comes_is_cancelled(tmp_path: Path) 
     driver = subprocess.run([COMMAND, "run", str(campaign(tmp_path)), "--engine", "slurm"], capture_output=True,
                             text=True, env={**os.environ, "PATH": f"{tmp_path}:{os.environ['PATH']}"}, process_group=0)
     assert (driver.returncode, (tmp_path / "cancelled").read_text()) == (INTERRUPTED, "7\n"), driver.stderr
+    assert not list(tmp_path.glob("campaign/rounds/*"))
 
 
 @pytest.mark.parametrize("future", [

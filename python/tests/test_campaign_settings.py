@@ -245,7 +245,8 @@ def test_a_refused_table_ends_it_before_a_recording_is_looked_at(tmp_path: Path,
     with pytest.raises(Failure) as failure:
         main(["run", str(file)])
     assert failure.value.status == status
-    assert failure.value.lines == (f"afdx-campaign: table one: {line}",)
+    said = line or f"{tmp_path}/afdx ended with 137"
+    assert failure.value.lines == (f"afdx-campaign: table one: {said}",)
 
 
 @pytest.mark.parametrize("engine", ["dask", "local:4", "tcp://127.0.0.1", "udp://127.0.0.1:1"])

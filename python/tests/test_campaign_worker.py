@@ -15,7 +15,7 @@ import pytest
 
 from afdx.campaign.answers import forget_outdated, left_of
 from afdx.campaign.worker.files import scratch_folder
-from afdx.campaign.worker.program import TIMED_OUT, Program, Said
+from afdx.campaign.worker.program import TIMED_OUT, Program, Said, no_room_in
 from afdx.campaign.worker.questions import ask, remove_parts
 from afdx.campaign.worker.stamps import first_stamp
 from afdx.campaign.worker.task import Task, identity_of, table_identity
@@ -87,6 +87,12 @@ def test_what_a_child_has_begun_ends_with_it(tmp_path: Path, after: str, status:
     asked = task(tmp_path, f'sleep 1000 & echo $! >"$folder/begun"; {after}', timeout=5, tries=1)
     assert work_hard(asked).status == status
     assert ends(await_number(Path(asked.recording.folder, "begun")))
+
+
+def test_why_a_child_could_not_say_what_failed(tmp_path: Path) -> None:
+    with open("/dev/full", "wb", buffering=0) as full, open(tmp_path / "new", "wb") as new:
+        assert no_room_in(full, tmp_path) == f"cannot write in {tmp_path}: No space left on device"
+        assert no_room_in(new, tmp_path) == ""
 
 
 def test_what_a_child_prints_is_in_scratch(tmp_path: Path) -> None:

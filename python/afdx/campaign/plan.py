@@ -48,7 +48,7 @@ def checked(program: str, configured: Configured) -> Table:
     answer = Program(COMMAND, program).ask(*of_networks, "size" if configured.unchecked else "check", path)
     if answer.status:
         status = LOAD if answer.status in (INPUT, LOAD) else DEVICE  # out of memory and killed, too
-        raise failure(status, f"table {configured.name}: {answer.line}")
+        raise failure(status, f"table {configured.name}: {answer.line or f'{program} ended with {answer.status}'}")
     if not configured.network:
         return Table(configured.name, (path,), (), configured.unchecked, table_identity((path,)))
     switches = toml.read(COMMAND, configured.file).get("switch", [])

@@ -83,8 +83,8 @@ class Round:
                 time.sleep(PAUSE)
                 self.note()
         except SystemExit:  # by a signal
-            if array:
-                subprocess.run(["scancel", array], capture_output=True, check=False)
+            if not array or self.cancelled(array):
+                self.file.unlink()
             raise
         self.note()
         self.file.unlink()
@@ -106,6 +106,10 @@ class Round:
         if said.returncode:
             raise failure(DEVICE, f"sbatch: {said.stderr.strip()}")
         return said.stdout.strip().partition(";")[0]
+
+    def cancelled(self, array: str) -> bool:
+        """Has Slurm cancel the array; returns whether it does, so that no job needs the round any more."""
+        return subprocess.run(["scancel", array], capture_output=True, check=False).returncode == 0
 
     def script(self) -> str:
         """Returns what a job runs."""

@@ -60,8 +60,10 @@ class Program:
             status = self._run(arguments, text, line)
             text.seek(0)
             line.seek(0)
-            return Said(status, text.read().decode("ascii", "replace"),
-                        line.read(READ).decode("utf-8", "surrogateescape").strip())
+            said = line.read(READ).decode("utf-8", "surrogateescape").strip()
+            if status and not said:
+                said = no_room_in(line, self.scratch.parent)
+            return Said(status, text.read().decode("ascii", "replace"), said)
 
     def _run(self, arguments: tuple[str, ...], text: IO[bytes], line: IO[bytes]) -> int:
         began = time.monotonic()
@@ -90,6 +92,15 @@ class Program:
         if late.is_set():
             return TIMED_OUT
         return child.returncode if child.returncode >= 0 else 128 - child.returncode
+
+
+def no_room_in(file: IO[bytes], folder: Path) -> str:
+    """Returns why nothing can be written into an empty file, as on a full disk, where a child's own words are lost."""
+    try:
+        os.write(file.fileno(), b"x")  # no write of `file`, which would try again as it is closed
+    except OSError as error:
+        return f"cannot write in {folder}: {error.strerror}"
+    return ""
 
 
 def end_group(child: int) -> None:
