@@ -19,7 +19,7 @@ from afdx.failure import DEVICE, INPUT, LOAD, tell
 from afdx.program import Program
 
 LEAST_MEMORY = 64 << 20  # bytes that a task takes of any recording
-OWN = {".", "answers", "changed", "csv", "kept", "newest", "rounds"}  # the root and its folders, which are no recordings
+OWN = {".", "answers", "changed", "csv", "kept", "newest", "rounds"}  # the root and its folders
 
 
 def tasks_of(campaign: Campaign) -> list[Task]:

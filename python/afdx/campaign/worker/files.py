@@ -42,16 +42,16 @@ def put_copy(source: Path, path: Path) -> None:
 
 
 @contextlib.contextmanager
-def marked(path: Path, text: str) -> Iterator[None]:
+def marked(path: Path, mark: bytes) -> Iterator[None]:
     """Writes a mark, and has it stay: who writes another one waits, who wants the same does not. A kill may leave it
     empty."""
     path.parent.mkdir(parents=True, exist_ok=True)
-    with open(path, "a+", encoding="utf-8") as file:
+    with open(path, "a+b") as file:
         lock(file, fcntl.LOCK_SH)
-        while file.seek(0) or file.read() != text:
+        while file.seek(0) or file.read() != mark:
             lock(file, fcntl.LOCK_EX)
             file.truncate(0)
-            file.write(text)
+            file.write(mark)
             file.flush()
             lock(file, fcntl.LOCK_SH)
         yield

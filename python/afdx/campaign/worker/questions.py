@@ -58,7 +58,7 @@ def kept_mark(task: Task) -> Path:
 def is_kept_of_another(task: Task) -> bool:
     """Returns whether what is kept there is of another answer, as of a table that was changed and changed back."""
     with contextlib.suppress(FileNotFoundError):
-        return kept_mark(task).read_text() != task.key
+        return kept_mark(task).read_bytes() != task.key.encode()
     return False
 
 
@@ -68,7 +68,7 @@ def folders_in(task: Task, place: Path) -> list[Path]:
 
 
 def keep(task: Task, scratch: Path, rows: Rows | None) -> None:
-    """Puts the outputs of a task, if it has an answer by which they are to be kept, in place of those of an earlier one.
+    """Puts the outputs of a task, if they are to be kept by the rows of its answer, for those of an earlier one.
 
     Each file comes by a rename over what is there, and then alone that is removed which only the earlier answer has. So
     two workers that do one task, whose files are the same, take none from each other, whenever one of them is killed.
@@ -77,7 +77,7 @@ def keep(task: Task, scratch: Path, rows: Rows | None) -> None:
     out, place = scratch / OUT, kept_place(task)
     kept = rows is not None and wanted(task, rows)
     names = sorted(path.relative_to(out) for path in out.rglob("*") if path.is_file()) if kept else []
-    with marked(kept_mark(task), task.key):
+    with marked(kept_mark(task), task.key.encode()):
         for name in names:
             put_copy(out / name, place / name)
         for folder in folders_in(task, place):
