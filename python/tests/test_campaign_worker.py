@@ -6,6 +6,7 @@ import signal
 import subprocess
 import sys
 import threading
+import time
 from collections.abc import Callable
 from dataclasses import replace
 from pathlib import Path
@@ -19,7 +20,7 @@ from afdx.campaign.worker.program import TIMED_OUT, Program, Said, no_room_in
 from afdx.campaign.worker.questions import ask, remove_parts
 from afdx.campaign.worker.stamps import first_stamp
 from afdx.campaign.worker.task import Task, identity_of, table_identity
-from afdx.campaign.worker.work import Outcome, answer_at, note_change, work, work_hard
+from afdx.campaign.worker.work import Outcome, answer_at, note_change, program_identity, work, work_hard
 from captures import header, words
 from tests.campaign_samples import (
     DELAYS, HEADING, LEFT, PASSED, PATIENCE, QUIET, SEEN, SPAN, await_number, ends, row, task)
@@ -143,6 +144,16 @@ def test_what_changes_while_it_is_read_is_a_fault(tmp_path: Path, act: str, faul
     asked = task(tmp_path, act)
     assert work_hard(asked).status == 75
     assert answer_at(asked.answer)["fault"] == fault
+
+
+def test_a_program_that_is_replaced_by_one_of_the_same_size_and_time(tmp_path: Path) -> None:
+    program = tmp_path / "afdx"
+    program.write_text("one")
+    identity, times = program_identity(str(program)), program.stat()
+    time.sleep(0.05)  # the clock of a file's status goes by some milliseconds
+    program.write_text("two")
+    os.utime(program, ns=(times.st_atime_ns, times.st_mtime_ns))
+    assert program_identity(str(program)) != identity
 
 
 def listed(asked: Task, by_content: bool = False) -> Task:

@@ -31,7 +31,7 @@ PASSING = (*AGAIN, "changed")  # faults that another worker of the task may not 
 MOST = 1000  # letters of a line that are kept
 CONTROLS = {number: f"\\x{number:02x}" for number in (*range(32), *range(127, 160))} | {9: " ", 10: " ", 13: " "}
 
-PROGRAMS: dict[tuple[str, int, int], str] = {}  # the hash of each, by size and time of change
+PROGRAMS: dict[tuple[str, tuple[int, ...]], str] = {}  # the hash of each, by what tells whether it was written
 
 
 @dataclass(frozen=True)
@@ -139,12 +139,17 @@ def looks(task: Task) -> dict[str, list[object]]:
             "program": [look(task.program)], "table": [look(file) for file in task.table.files]}
 
 
-def look(path: str) -> tuple[int, ...] | None:
-    """Returns what tells whether a file was written or renamed; none if it is not there."""
+def look(path: str) -> tuple[int, ...]:
+    """Returns what tells whether a file was written or renamed; nothing if it is not there."""
     try:
-        status = os.stat(path)
+        return written(path)
     except OSError:
-        return None
+        return ()
+
+
+def written(path: str) -> tuple[int, ...]:
+    """Returns size and times of a file: also one that is given its old time of change has another one of its status."""
+    status = os.stat(path)
     return status.st_size, status.st_mtime_ns, status.st_ctime_ns
 
 
@@ -188,9 +193,8 @@ def address_space(memory: int) -> int:
 
 
 def program_identity(path: str) -> str:
-    """Returns the hash of the program, taken once as long as the file has the same size and time of change."""
-    status = os.stat(path)
-    version = (path, status.st_size, status.st_mtime_ns)
+    """Returns the hash of the program, taken once as long as the file is not written."""
+    version = (path, written(path))
     if version not in PROGRAMS:
         PROGRAMS[version] = content_of(path)
     return PROGRAMS[version]
