@@ -16,8 +16,8 @@ def need(command: str, *names: str) -> None:
         packages = " ".join(f"python3-{name}" for name in missing)
         raise Failure(DEVICE, f"{command}: no {', '.join(missing)} in {sys.executable}: "
                               f"install {packages} and use /usr/bin/python3")
-    if "matplotlib" in names:  # where it looks for fonts, once for each user, it warns that this takes long
-        logging.getLogger("matplotlib.font_manager").setLevel(logging.ERROR)
+    if "matplotlib" in names:  # it warns that it looks for fonts, once for each user, and of a home that takes no files
+        logging.getLogger("matplotlib").setLevel(logging.ERROR)
 
 
 def main_of(command: str, module: str, *names: str) -> Callable[[Sequence[str]], int]:

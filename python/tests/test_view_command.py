@@ -69,7 +69,8 @@ def test_a_python_without_a_module(monkeypatch: pytest.MonkeyPatch) -> None:
 
 def test_that_fonts_are_looked_for_is_not_told() -> None:
     modules.need("afdx-view", "matplotlib")
-    assert not logging.getLogger("matplotlib.font_manager").isEnabledFor(logging.WARNING)
+    for name in ("matplotlib", "matplotlib.font_manager"):
+        assert not logging.getLogger(name).isEnabledFor(logging.WARNING)
 
 
 @pytest.mark.parametrize("name", ["table.toml", "port-2.pcap", "departures.csv"])
