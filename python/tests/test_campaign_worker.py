@@ -489,6 +489,13 @@ def test_a_child_dies_with_its_worker(tmp_path: Path) -> None:
     assert ends(child)
 
 
+def test_a_child_whose_worker_is_gone_before_it_begins(tmp_path: Path, monkeypatch: pytest.MonkeyPatch) -> None:
+    program = Program("/bin/echo", PATIENCE, 1 << 30, tmp_path)
+    assert program("text").text == "text\n"
+    monkeypatch.setattr(os, "getpid", lambda: 1)
+    assert program("text").text == ""
+
+
 def test_a_child_of_a_missing_program(tmp_path: Path) -> None:
     said = Program(str(tmp_path / "none"), PATIENCE, 1 << 30, tmp_path)("run")
     assert said.status == 127

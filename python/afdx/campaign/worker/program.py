@@ -149,7 +149,9 @@ def end_all() -> None:
 def limits(memory: int) -> list[str]:
     """Returns the command that sets a child's limits.
 
-    It dies with the thread that started it, leaves no core, and gets no more address space than this. By util-linux,
-    since code of ours between fork and exec may hang a process with threads.
+    It dies with the thread that started it, also with one that was gone before that was asked for, leaves no core, and
+    gets no more address space than this. By util-linux, since code of ours between fork and exec may hang a process
+    with threads.
     """
-    return ["setpriv", "--pdeathsig", "KILL", "prlimit", "--core=0", f"--as={memory}"]
+    of_this = ["sh", "-c", '[ "$PPID" = "$0" ] && exec "$@"', str(os.getpid())]
+    return ["setpriv", "--pdeathsig", "KILL", *of_this, "prlimit", "--core=0", f"--as={memory}"]
