@@ -23,11 +23,10 @@ breaks() {
     as_modelled "$2" && cat lines.txt && grep -qxF "$1" lines.txt
 }
 
-# prints_its_version WORD: the program's name and number, then the kit's line as README has it, then whether it was proved. The kit that
-# is installed may be a later one that proves the repository too.
+# prints_its_version WORD: the program's name and number, then the line of a kit that README names, then whether it was proved.
 prints_its_version() {
     "$afdx" "$1" >answer.txt 2>said.txt && cat answer.txt && sed -n 1p answer.txt | grep -qx 'afdx [0-9.]*' &&
-        grep -qF "Proved with \`$(sed -n 2p answer.txt)\`" "$top/README.md" && [ ! -s said.txt ] &&
+        grep -qF "\`$(sed -n 2p answer.txt)\`" "$top/README.md" && [ ! -s said.txt ] &&
         [ "$(sed -n '3,$p' answer.txt | grep -cxE 'not proved|proved ([0-9a-f]{40}(-dirty)?|of no commit)')" -eq 1 ] &&
         [ "$(wc -l <answer.txt)" -eq 3 ]
 }
