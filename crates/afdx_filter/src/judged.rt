@@ -1,7 +1,7 @@
 //! How the verdict on a frame is found.
 
-ghost use Rattle.std.specs.Prelude.{◌≡◌, Some, None};
-ghost use Rattle.afdx_table.specs.Content.{link_row};
+ghost use Rattle.std.specs.Prelude.{◌≡◌, IsTrue, Some, None};
+ghost use Rattle.afdx_table.specs.Content.{link_row, link_place};
 ghost use Rattle.afdx_filter.specs.Verdict.{verdict_of, link_verdict};
 ghost use Rattle.afdx_frame.specs.Address.{link_of};
 ghost use Rattle.afdx_filter.specs.Place.{place_named, link_named};
@@ -75,19 +75,43 @@ pub fn judge<A: Allocator>(table: &Table, in_port: u8, frame: &Record<'_, A>) ->
     if address.constant() != table.constant() {
         return Judged::refused(Verdict::Foreign);
     }
-    judge_number(table, in_port, size, address.link())
+    judge_number(table, in_port, size, address.link(), frame.guess())
+}
+
+/// Returns whether the link at a place has the number.
+#[inline(always)]
+fn has_number_at(table: &Table, place: usize, number: u16) -> bool
+    ensures { IsTrue result → link_place table.now number ≡ Some place }
+{
+    match table.link_at(place) {
+        Some(link) => link.id == number,
+        None => false,
+    }
+}
+
+/// Returns the place of the link of a number, which may be the one that is guessed.
+#[inline(always)]
+fn place_of(table: &Table, number: u16, guess: u16) -> Option<usize>
+    ensures place { result ≡ link_place table.now number }
+{
+    let place = usize::from(guess);
+    if has_number_at(table, place, number) {
+        Some(place)
+    } else {
+        table.link_place(number)
+    }
 }
 
 /// Judges a frame of this size and link number, which has passed the tests that come before that of its link.
 #[inline(always)]
-fn judge_number(table: &Table, in_port: u8, size: u32, number: u16) -> Judged
+fn judge_number(table: &Table, in_port: u8, size: u32, number: u16, guess: u16) -> Judged
     ensures verdict { result.verdict ≡ link_verdict in_port size (link_row table.now number) }
     ensures place { result.place ≡ place_named table.now result.verdict }
     ensures link { result.link ≡ link_named result.verdict number }
 {
     links_are_at_their_places();
     links_are_found();
-    let Some(place) = table.link_place(number) else {
+    let Some(place) = place_of(table, number, guess) else {
         return Judged::refused(Verdict::NoLink);
     };
     let link = table.link_at(place).unwrap();
@@ -102,6 +126,19 @@ fn judge_number(table: &Table, in_port: u8, size: u32, number: u16) -> Judged
         place: Some(place),
         link: Some(number),
     }
+}
+
+/// Returns the record with a guess: the place of the link that its frame names, if the table has that link. With it the frame is judged later
+/// without a wait for its bytes before the link's row is asked for. O(1), with one look-up; it takes no memory.
+#[inline(always)]
+pub fn with_place<'a, A: Allocator>(table: &Table, frame: Record<'a, A>) -> Record<'a, A>
+    ensures { result ≡ frame.entry }
+{
+    let place = match view(frame.bytes()) {
+        Some(address) => table.link_place(address.link()).unwrap_or(0),
+        None => 0,
+    };
+    frame.with_guess(place as u16)
 }
 
 /// Returns the verdict on a frame that arrives at a port: the first case of [`Verdict`] that holds.

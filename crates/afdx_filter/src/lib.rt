@@ -22,5 +22,5 @@ mod judged;
 pub mod laws;
 mod outcome;
 
-pub use judged::{Judged, judge, verdict};
+pub use judged::{Judged, judge, verdict, with_place};
 pub use outcome::Verdict;

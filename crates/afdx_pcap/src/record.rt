@@ -20,6 +20,8 @@ pub const MAX_CAPTURED: u32 = 262_144;
 pub struct Record<'a, A: Allocator> {
     stamp: Stamp,
     original: u32,
+    /// What a reader guessed of the frame, which contracts do not see.
+    guess: u16,
     bytes: Bytes<'a, A>,
 }
 
@@ -50,6 +52,7 @@ impl<'a, A: Allocator> Record<'a, A> {
         Ok(Record {
             stamp,
             original,
+            guess: 0,
             bytes: Bytes::Owned(bytes),
         })
     }
@@ -65,6 +68,7 @@ impl<'a, A: Allocator> Record<'a, A> {
             Some(Record {
                 stamp,
                 original,
+                guess: 0,
                 bytes: Bytes::Lent(bytes),
             })
         } else {
@@ -80,8 +84,29 @@ impl<'a, A: Allocator> Record<'a, A> {
         Record {
             stamp,
             original,
+            guess: 0,
             bytes,
         }
+    }
+
+    /// Returns the record with a guess of what its frame is about. Contracts do not see it: it spares a wait for the frame's bytes, and who
+    /// uses it checks it. O(1).
+    #[inline(always)]
+    pub fn with_guess(self, guess: u16) -> Record<'a, A>
+        ensures { result ≡ self.entry }
+    {
+        Record {
+            stamp: self.stamp,
+            original: self.original,
+            guess,
+            bytes: self.bytes,
+        }
+    }
+
+    /// Returns the guess that the record was given, or 0. O(1).
+    #[inline(always)]
+    pub fn guess(&self) -> u16 {
+        self.guess
     }
 
     /// Returns the instant at which the frame was captured. O(1).

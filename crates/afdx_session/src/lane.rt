@@ -20,10 +20,11 @@ ghost use Rattle.afdx_session.specs.Session.{refusal_at};
 
 use crate::plan::RunFault;
 use afdx_earliest::{Dues, Instants};
+use afdx_filter::with_place;
 use afdx_folder::NewFile;
 use afdx_pcap::laws::taken_records_are_the_first;
 use afdx_pcap::{PcapFault, Reader, Record, write_header};
-use afdx_table::PortRow;
+use afdx_table::{PortRow, Table};
 use afdx_units::Stamp;
 use std::alloc::{AllocError, Allocator};
 use std::collections::VecDeque;
@@ -59,6 +60,17 @@ pub(crate) struct Lane<'a, A: Allocator> {
     /// The bytes of `out` that have gone out.
     pub(crate) ready: usize,
     pub(crate) taken: u128,
+}
+
+/// Returns the record of a frame with a guess of its link's place, if a table is given. O(1).
+#[inline(always)]
+fn guessed<'a, A: Allocator>(table: Option<&Table>, frame: Record<'a, A>) -> Record<'a, A>
+    ensures { result ≡ frame.entry }
+{
+    match table {
+        Some(table) => with_place(table, frame),
+        None => frame,
+    }
 }
 
 impl<'a, A: Allocator + Copy> Lane<'a, A> {
@@ -101,9 +113,9 @@ impl<'a, A: Allocator + Copy> Lane<'a, A> {
         }
     }
 
-    /// Reads the next whole record, which joins those that wait. Returns whether there was one. O(its bytes), and O(1) if
-    /// these are lent.
-    pub(crate) fn draw(&mut self) -> Result<bool, RunFault>
+    /// Reads the next whole record, which joins those that wait; if a table is given, with a guess of its link's place. Returns whether
+    /// there was one. O(its bytes), and O(1) if these are lent.
+    pub(crate) fn draw(&mut self, table: Option<&Table>) -> Result<bool, RunFault>
         requires { self.old.reader.fault ≡ None }
         ensures read_on { IsReadOn self.old self.new }
         ensures ok { IfOk result (λ found. HasDrawn found self.old self.new) }
@@ -113,7 +125,7 @@ impl<'a, A: Allocator + Copy> Lane<'a, A> {
         match self.next()? {
             Some(record) => {
                 self.last = record.stamp();
-                self.waiting.push_back(record)?;
+                self.waiting.push_back(guessed(table, record))?;
                 Ok(true)
             }
             None => {
@@ -124,18 +136,18 @@ impl<'a, A: Allocator + Copy> Lane<'a, A> {
     }
 
     /// Reads all whole records that are there, which join those that wait. O(their bytes).
-    fn read_on(&mut self) -> Result<(), RunFault>
+    fn read_on(&mut self, table: Option<&Table>) -> Result<(), RunFault>
         requires { self.old.reader.fault ≡ None }
         ensures read_on { IsReadOn self.old self.new }
         ensures ok { OnOk result ((more : List pcap.Record) × Adds self.old self.new more × HasReadAll self.new) }
         ensures err { IfErr result (λ fault. IsLaneFault self.old fault) }
     {
-        while self.draw()? {}
+        while self.draw(table)? {}
         Ok(())
     }
 
     /// Takes the next piece of the capture, and reads the records that are whole now.
-    pub(crate) fn feed(&mut self, piece: &[u8]) -> Result<(), RunFault>
+    pub(crate) fn feed(&mut self, piece: &[u8], table: Option<&Table>) -> Result<(), RunFault>
         requires still_open { self.old.reader.closed ≡ false }
         requires no_fault { self.old.reader.fault ≡ None }
         requires done { self.old.undone ≡ 0 }
@@ -151,7 +163,7 @@ impl<'a, A: Allocator + Copy> Lane<'a, A> {
         }
         taken_records_are_the_first();
         self.undone = piece.len();
-        self.read_on()
+        self.read_on(table)
     }
 
     /// Ends the capture, and reads the whole records that are left.
@@ -165,7 +177,7 @@ impl<'a, A: Allocator + Copy> Lane<'a, A> {
         ensures err { IfErr result (λ fault. IsFaultAt self.old.reader.bytes self.old.port fault) }
     {
         self.reader.close();
-        self.read_on()
+        self.read_on(None)
     }
 
     /// Takes the next piece, whose records go nowhere, and returns its fault, if it has one.
@@ -174,7 +186,7 @@ impl<'a, A: Allocator + Copy> Lane<'a, A> {
         requires may { MayReadOn self.old }
         ensures { IfOk result (λ found. IsSkimmed self.old self.new piece.now found) }
     {
-        match self.feed(piece) {
+        match self.feed(piece, None) {
             Ok(()) => {
                 self.waiting.clear();
                 self.undone = 0;
@@ -207,7 +219,7 @@ impl<'a, A: Allocator + Copy> Lane<'a, A> {
         ensures err { IfErr result (λ fault. IsFaultAt text.now self.old.port fault) }
     {
         self.reader = Reader::over(alloc, text);
-        self.draw()?;
+        self.draw(None)?;
         Ok(())
     }
 

@@ -289,7 +289,7 @@ impl<'a, A: Allocator + Copy> Machine<'a, A> {
         by_stamp_is_ordered();
         merged_is_a_merge();
         merged_is_by_stamp_and_port();
-        self.lanes[place].feed(piece)?;
+        self.lanes[place].feed(piece, Some(self.switch.table()))?;
         self.make_round()?;
         self.settle();
         Ok(())
@@ -334,7 +334,7 @@ impl<'a, A: Allocator + Copy> Machine<'a, A> {
         by_stamp_is_ordered();
         merged_is_a_merge();
         merged_is_by_stamp_and_port();
-        self.lanes[place].feed(piece)?;
+        self.lanes[place].feed(piece, Some(self.switch.table()))?;
         self.make_round_into(files)?;
         self.settle();
         Ok(())
@@ -409,7 +409,7 @@ impl<'a, A: Allocator + Copy> Machine<'a, A> {
             Some(frame) => {
                 let lane = &mut self.lanes[place];
                 let port = lane.port;
-                lane.draw()?;
+                lane.draw(Some(self.switch.table()))?;
                 heads.set(place, head_of(lane));
                 self.give(port, frame)?;
                 Ok(true)

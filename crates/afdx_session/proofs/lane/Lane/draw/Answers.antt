@@ -10,7 +10,7 @@ returns-in_ok-push_back-in-Some-clause-ok g c =
       frame = c.in-Some.record;
       adds = adds_one c.taken_records_are_the_first.ensures.joins c.taken_records_are_the_first.ensures.latest c.args.self.now c.args.self.now _ [] c.in-Some.record (adds_none _) answer.2 answer.0
           on.bytes answer.1 c.stamp-self.ensures
-          (c.in_ok-push_back-in-Some.ensures.items ∙ ap (λ w. w.items ++ c.in-Some.record ∷ []) c.next.ensures.waiting);
+          (c.in_ok-push_back-in-Some.ensures.items ∙ ap (λ f. c.next.new.self.waiting.items ++ f ∷ []) c.guessed.ensures ∙ ap (λ w. w.items ++ c.in-Some.record ∷ []) c.next.ensures.waiting);
       last = c.stamp-self.ensures;
       ended = c.next.ensures.ended;
       no_fault = answer.0;
