@@ -1,13 +1,18 @@
 //! What is due at places, and the places at which something is due before an instant.
 
-ghost use Rattle.std.specs.Prelude.{◌≡◌, ◌<◌, ◌≤◌, None, length, replicate, set};
+ghost use Rattle.std.specs.Prelude.{◌≡◌, ℕ, ◌+◌, ◌<◌, ◌≤◌, nat_lt, int_lt, pos, ◌&&◌, if◌then◌else◌, None, length, replicate, set, slice_index};
+ghost use Rattle.std.specs.Int.{bit_at};
 ghost use Rattle.afdx_earliest.specs.Instants.{IsFirstIn};
 ghost use Rattle.afdx_earliest.specs.Dues.{AreMarked, IsTaken};
-ghost use Rattle.afdx_earliest.specs.Inner.Groups.{instant_in};
+ghost use Rattle.afdx_earliest.specs.Inner.Groups.{none, instant_in};
 
-use crate::numbers::{NONE, PLACES, first_from, number_for};
+use crate::numbers::{NONE, PLACES, first_from, last_before, number_for};
 use afdx_units::Stamp;
 use std::marker::Model;
+use std::simd::prelude::*;
+
+/// The marks of all places.
+const ALL: u32 = (1 << PLACES) - 1;
 
 /// For each of at most 24 places the instant at which something is due there, or none.
 ///
@@ -43,6 +48,19 @@ pub fn take_first(marks: &mut u32) -> Option<usize>
     Some(place as usize)
 }
 
+/// Returns marks of those of eight numbers, from a place on, that are greater than another: bit 0 is for the first of them. All are
+/// below 2^63, so that the processor compares them as signed ones.
+#[inline(always)]
+fn later_of(numbers: &[u64], place: usize, last: i64) -> u32
+    requires within { place + 8 ≤ length numbers.now }
+    requires kept { (j : ℕ) → slice_index numbers.now j ≤ none }
+    ensures small { result < 256 }
+    ensures marks { (j : ℕ) → bit_at result j ≡ (if nat_lt j 8 && int_lt last (pos (slice_index numbers.now (place + j))) then 1 else 0) }
+{
+    let lanes = u64x8::from_slice(&numbers[place..]).cast::<i64>();
+    lanes.simd_gt(i64x8::splat(last)).to_bitmask() as u32
+}
+
 impl Dues {
     /// Makes the dues of so many places, at none of which something is due. O(1).
     pub fn new(places: usize) -> Dues
@@ -71,14 +89,11 @@ impl Dues {
     pub fn before(&self, instant: u64) -> u32
         ensures { AreMarked instant self.now result }
     {
-        let numbers = &self.numbers;
-        let mut marks = 0;
-        for place in 0..PLACES {
-            if numbers[place] < instant {
-                marks |= 1 << place;
-            }
-        }
-        marks
+        let last = last_before(instant);
+        let low = later_of(&self.numbers, 0, last);
+        let middle = later_of(&self.numbers, 8, last);
+        let high = later_of(&self.numbers, 16, last);
+        !((high << 16) + (middle << 8) + low) & ALL
     }
 
     /// Gives a place another instant, or none. O(1).

@@ -1,6 +1,6 @@
 //! Instants as numbers.
 
-ghost use Rattle.std.specs.Prelude.{◌≡◌, ◌<◌, ◌≤◌, length};
+ghost use Rattle.std.specs.Prelude.{◌≡◌, ◌<◌, ◌≤◌, ◌-ℤ◌, length, min, pos};
 ghost use Rattle.afdx_units.specs.Time.{stamp_end};
 ghost use Rattle.afdx_earliest.specs.Inner.Groups.{none, IsFirstFrom, instant_in};
 
@@ -9,8 +9,8 @@ use afdx_units::Stamp;
 /// The most places that there are: a table has at most 24 ports.
 pub(crate) const PLACES: usize = 24;
 
-/// The number for a place that has no instant: none is as great.
-pub(crate) const NONE: u64 = u64::MAX;
+/// The number for a place that has no instant: none is as great, and it is the greatest that a signed number holds.
+pub(crate) const NONE: u64 = i64::MAX as u64;
 
 /// Returns the number that is kept for an instant or none.
 #[inline(always)]
@@ -21,6 +21,18 @@ pub(crate) fn number_for(instant: Option<Stamp>) -> u64
     match instant {
         Some(stamp) => stamp.ns(),
         None => NONE,
+    }
+}
+
+/// Returns the last number for an instant before this one, or -1 if there is none.
+#[inline(always)]
+pub(crate) fn last_before(instant: u64) -> i64
+    ensures { result ≡ pos (min instant none) -ℤ pos 1 }
+{
+    if instant <= NONE {
+        instant as i64 - 1
+    } else {
+        NONE as i64 - 1
     }
 }
 

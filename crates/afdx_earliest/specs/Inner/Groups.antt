@@ -2,9 +2,9 @@
 use Rattle.std.specs.Prelude.{◌≡◌, ℕ, ◌+◌, ◌*◌, ◌<◌, ◌≤◌, nat_le, if◌then◌else◌, List, length, map, take, slice_index, Option, Some, None}
 use Rattle.afdx_units.specs.Time.{stamp_end}
 
--- the number of a place that has no instant: the greatest of 64 bits
+-- the number of a place that has no instant: the greatest of 63 bits
 abbrev pub none : ℕ
-none = 18446744073709551615
+none = 9223372036854775807
 
 -- the instant that a number is kept for; one that is no instant is kept for none
 abbrev pub instant_in : ℕ → Option ℕ

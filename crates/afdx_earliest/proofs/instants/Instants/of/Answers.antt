@@ -1,4 +1,4 @@
-use Rattle.std.proofs.Common.{ℕ, ◌<◌, ◌≢◌, length, arith, below_more, get_or-set_same, get_or-set_other, ◌∙◌}
+use Rattle.std.proofs.Common.{◌≢◌, arith, below_more, get_or-set_same, get_or-set_other, ◌∙◌}
 use Rattle.std.proofs.lemmas.List.{length-set}
 use Rattle.afdx_earliest.proofs.Firsts.{grouped_of}
 use Rattle.afdx_earliest.proofs.instants.Instants.of.Goals as goal
