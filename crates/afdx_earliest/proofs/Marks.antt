@@ -9,7 +9,8 @@ use Rattle.std.proofs.Common.{refl, ap, ap₂, sym, ◌∙◌, subst, arith, inl
 use Rattle.std.specs.Int.{bit_at, bit_not, trailing_zeros}
 use Rattle.std.proofs.Math.Nat.{two-pow-succ}
 use Rattle.std.proofs.lemmas.Nat.{and-not, and_comm}
-use Rattle.std.proofs.lemmas.Nat.Bits.{bit_at-trailing_zeros, bit_at_clear_same, bit_at_clear_other, bit_at_above, bit_at_and, bit_at_cat_low, bit_at_cat_high, bit_at_not, bit_at_ones, bit_at_ones_above, and_pow}
+use Rattle.std.proofs.lemmas.Nat.Bits.{bit_at-trailing_zeros, bit_at_clear_same, bit_at_clear_other, bit_at_above, bit_at_and, bit_at_cat_low, bit_at_cat_high, bit_at_not}
+use Rattle.std.proofs.lemmas.Nat.Bits.{bit_at_ones, bit_at_ones_above, and_pow}
 use Rattle.std.proofs.lemmas.List.{get_or-replicate, get_or-map, length-map, length-set, get_or_past}
 use Rattle.std.proofs.lemmas.Bool.{cases_lt, cases_eq, lt-ltb, le-ltb}
 use Rattle.afdx_units.specs.Time.{stamp_end, is_before}
@@ -45,15 +46,6 @@ kept_set places numbers kept place number inside no_instant = record {
 }
 
 -- ---- the marks
-
-pub at_most_none : (places : ℕ) (numbers : List ℕ) → AreKept places numbers → (j : ℕ) → get_or numbers j 0 ≤ none
-at_most_none places numbers kept j = elim (cases_lt j 24) [
-  | inl within ↦ elim (cases_lt (get_or numbers j 0) stamp_end) [
-    | inl is_early ↦ omega (arith, is_early)
-    | inr is_late ↦ let same = kept.no_instant j within is_late in omega (arith, same)
-  ]
-  | inr past ↦ let empty = get_or_past numbers j 0 (let n = kept.long in omega (arith, n, past)) in omega (arith, empty)
-]
 
 -- an instant is before another if its number is not greater than the last one before that
 before_is : (instant number : ℕ) (last : ℤ) → last ≡ pos (min instant none) -ℤ pos 1 → (stamp_end ≤ number → number ≡ none)
