@@ -2,10 +2,9 @@
 
 ghost use Rattle.std.specs.Prelude.{◌≡◌};
 
+use crate::offers::Offers;
 use afdx_filter::Verdict;
-use afdx_port::Offer;
 use afdx_units::Stamp;
-use arrayvec::ArrayVec;
 use std::marker::Model;
 use thiserror::Error;
 
@@ -49,9 +48,6 @@ pub struct Row {
     pub in_port: u8,
 }
 
-/// Ports with the answer of each, in the order in which they were asked: they lie in the value, as a switch has at most 24.
-pub type Offers = ArrayVec<(u8, Offer), 24>;
-
 /// What became of an arrival.
 ///
 /// Contracts see it as a record of these fields, with the offers as a list of pairs.
@@ -59,16 +55,16 @@ pub type Offers = ArrayVec<(u8, Offer), 24>;
 pub struct Step {
     /// The number of arrivals that were taken before it.
     pub number: usize,
+    /// The place of its link in the table's file order, from 0, as the filter found it; none if it is no
+    /// link's. Contracts do not see it: it spares a look-up, and a caller that uses it checks that the link
+    /// there has the number.
+    pub place: Option<usize>,
     /// The port at which it came in.
     pub in_port: u8,
     pub fate: Fate,
     /// The ports that its link leads to, in the link's order, with the answer of each; none if it was not
     /// passed.
     pub offers: Offers,
-    /// The place of its link in the table's file order, from 0, as the filter found it; none if it is no
-    /// link's. Contracts do not see it: it spares a look-up, and a caller that uses it checks that the link
-    /// there has the number.
-    pub place: Option<usize>,
 }
 
 impl Step {
@@ -81,7 +77,7 @@ impl Step {
         offers: Offers,
         place: Option<usize>,
     ) -> Step
-        ensures { result ≡ record { number = number; in_port = row.now.in_port; fate = fate; offers = offers.items } }
+        ensures { result ≡ record { number = number; in_port = row.now.in_port; fate = fate; offers = offers } }
     {
         Step {
             number,
@@ -89,6 +85,20 @@ impl Step {
             fate,
             offers,
             place,
+        }
+    }
+
+    /// Makes a copy. O(1).
+    #[inline(always)]
+    pub fn copied(&self) -> Step
+        ensures { result ≡ self.now }
+    {
+        Step {
+            number: self.number,
+            place: self.place,
+            in_port: self.in_port,
+            fate: self.fate,
+            offers: self.offers.copied(),
         }
     }
 }
@@ -102,6 +112,6 @@ impl Model for Step {
       number = s.number;
       in_port = s.in_port;
       fate = s.fate;
-      offers = s.offers.items;
+      offers = s.offers;
     } };
 }

@@ -13,7 +13,7 @@ ghost use Rattle.afdx_measure.specs.Inner.Gauged.{AreGauged, IsFresh, AreFresh, 
 use crate::delays::Delays;
 use crate::filling::{Filling, fuller};
 use afdx_core::laws::{arrivals_join, calls_add_what_is_sent, verdicts_name_links};
-use afdx_core::{Relay, Step};
+use afdx_core::{Offers, Relay, Step};
 use afdx_port::{Offer, Sent};
 use afdx_table::Table;
 use afdx_table::laws::ports_are_distinct;
@@ -146,14 +146,15 @@ fn note_fillings<A: Allocator + Copy>(
     ports: &mut [AtPort<A>],
     relay: &Relay<'_, A>,
     at: Stamp,
-    offers: &[(u8, Offer)],
+    offers: &Offers,
 )
     ensures peaks { (r : Run) → Fill r relay.now.run at offers.now → ArePeaks r relay.now.run [] ports.old → ArePeaks r relay.now.run offers.now ports.new }
     ensures delays { DelaysStay ports.old ports.new }
 {
     ports_are_distinct();
-    for (port, offer) in offers {
-        note_offer(ports, relay, at, *port, *offer);
+    for place in 0..offers.len() {
+        let (port, offer) = offers.get(place).unwrap();
+        note_offer(ports, relay, at, port, offer);
     }
 }
 
@@ -182,7 +183,7 @@ impl<A: Allocator + Copy> Gauges<A> {
         arrivals_join();
         calls_add_what_is_sent();
         verdicts_name_links();
-        note_fillings(&mut self.ports, relay, at, step.offers.as_slice());
+        note_fillings(&mut self.ports, relay, at, &step.offers);
     }
 
     /// Notes that the port at a place hands out its next copy, which was sent as this. O(1).

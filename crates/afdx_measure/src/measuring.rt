@@ -211,7 +211,7 @@ fn note_arrival<A: Allocator + Copy>(
     ensures { (r : Run) (row : Arrived) (size : ℕ) → AgreesWith r gauges.old → HasArrived r row at size step.now relay.now.run → AgreesWith relay.now.run gauges.new }
 {
     match gauges {
-        Some(gauges) => gauges.note_arrival(relay, at, step),
+        Some(gauges) => gauges.note_arrival(relay, at, &step.copied()),
         None => {}
     }
 }
@@ -229,7 +229,7 @@ fn note_policing<A: Allocator + Copy>(
     ensures { (r : Run) (row : Arrived) → KnowsPolicing r policing.old → HasArrived r row at size step.now relay.now.run → KnowsPolicing relay.now.run policing.new }
 {
     let noted = match policing {
-        Some(policing) => policing.note(relay, at, size, step),
+        Some(policing) => policing.note(relay, at, size, &step.copied()),
         None => Ok(()),
     };
     if noted.is_err() {

@@ -63,14 +63,14 @@ loop-port-preserved g c =
     let new = c.offer_to-answer.new.output_ports in
     let lt : k < length to = omega (arith, c.loop-port-test.true) in
     let port = get_or to k 0 in
-    let answers = c.loop-port.answers.items in
+    let answers = c.loop-port.answers in
     let answer : ℕ → ℕ × Offer = λ p. (p, answer_at item old p) in
     let same = c.offer_to-answer.ensures.answer ∙ answer_same item (take k to) port old mid (not_before to k c.requires.distinct lt) c.loop-port.invariant.became in
     let one = at_most_one c.offer_to-answer.result in
     record {
       became = became_next item to k old mid new lt c.requires.distinct c.loop-port.invariant.became c.offer_to-answer.ensures.output_ports;
       later = later_next to k old mid new lt c.loop-port.invariant.later c.offer_to-answer.ensures.others;
-      listed = c.push.ensures.items
+      listed = c.push.ensures
           ∙ ap (λ (o : Offer). answers ++ (port, o) ∷ []) same
           ∙ ap (λ xs. xs ++ answer port ∷ []) c.loop-port.invariant.listed
           ∙ sym (map_more answer to k 0 lt);
