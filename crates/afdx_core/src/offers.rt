@@ -8,8 +8,8 @@ use std::marker::Model;
 
 /// Ports with the answer of each, in the order in which they were asked; at most 24, as a switch has no more.
 ///
-/// Contracts see the list of these pairs. The answers are the bits of one number: so the value is half as large as
-/// one of pairs, and a caller that takes it apart holds the answers in a register.
+/// Contracts see the list of these pairs. The answers are the bits of one number: so the value is smaller than a list of pairs, and who
+/// takes it apart holds them in a register.
 #[derive(Debug, Drop)]
 pub struct Offers {
     ports: [u8; 24],
@@ -19,7 +19,7 @@ pub struct Offers {
 }
 
 impl Model for Offers {
-    ghost use Rattle.std.specs.Prelude.{ℕ, List, ◌×◌, take};
+    ghost use Rattle.std.specs.Prelude.{ℕ, List, take};
     ghost use Rattle.afdx_port.specs.declared.Offer.{Offer as Answer};
     ghost use Rattle.afdx_core.specs.Inner.Offers.{answered, AreKept};
 

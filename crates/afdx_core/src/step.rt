@@ -50,7 +50,8 @@ pub struct Row {
 
 /// What became of an arrival.
 ///
-/// Contracts see it as a record of these fields, with the offers as a list of pairs.
+/// Contracts see it as a record of these fields, with the offers as a list of pairs. The offers are the last field: where a step shares
+/// its room with a refused record, their ports then lie where the words of the record's bytes do, and are moved as words.
 #[derive(Debug, Drop)]
 pub struct Step {
     /// The number of arrivals that were taken before it.

@@ -152,8 +152,8 @@ fn note_fillings<A: Allocator + Copy>(
     ensures delays { DelaysStay ports.old ports.new }
 {
     ports_are_distinct();
-    for place in 0..offers.len() {
-        let (port, offer) = offers.get(place).unwrap();
+    for asked in 0..offers.len() {
+        let (port, offer) = offers.get(asked).unwrap();
         note_offer(ports, relay, at, port, offer);
     }
 }

@@ -200,7 +200,8 @@ fn measures_of<'a, A: Allocator + Copy>(
     }
 }
 
-/// Notes at the ports an arrival that the switch has just taken.
+/// Notes at the ports an arrival that the switch has just taken. The gauges are lent a copy: so the step itself need not lie in memory
+/// where nothing is noted.
 #[inline(always)]
 fn note_arrival<A: Allocator + Copy>(
     gauges: &mut Option<Gauges<A>>,
@@ -216,7 +217,7 @@ fn note_arrival<A: Allocator + Copy>(
     }
 }
 
-/// Notes whether its policing passed an arrival of this size that the switch has just taken.
+/// Notes whether its policing passed an arrival of this size that the switch has just taken. The step is copied as by [`note_arrival`].
 #[inline(always)]
 fn note_policing<A: Allocator + Copy>(
     policing: &mut Option<Policing<A>>,

@@ -90,7 +90,7 @@ impl Calls for Reporting<'_> {
 /// Returns the arrival of the frame.
 fn one_step() -> Step {
     let mut offers = Offers::new();
-    offers.push((2, Offer::Queued));
+    offers.push(2, Offer::Queued);
     Step {
         number: 0,
         in_port: 1,

@@ -53,7 +53,7 @@ type Answer = (Option<Fate>, Option<(u8, Offer)>, Option<CoreFault>);
 
 /// Returns what a step gives.
 fn reported(step: &Step) -> Answer {
-    (Some(step.fate), step.offers.first().copied(), None)
+    (Some(step.fate), step.offers.get(0), None)
 }
 
 /// Returns the answer to a record that comes in once more, if memory ran out before, else the fault.

@@ -118,7 +118,7 @@ fn report_of_step(alloc: Global, step: &Step) -> Result<String, Fail> {
 fn numbers_that_the_table_lacks(rt: HostRuntime) -> Result<(), Fail> {
     let alloc = rt.alloc();
     let mut offers = Offers::new();
-    offers.push((2, Offer::Full));
+    offers.push(2, Offer::Full);
     let step = Step {
         number: 0,
         in_port: 7,

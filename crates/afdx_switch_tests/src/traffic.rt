@@ -47,7 +47,7 @@ pub(crate) fn arrive(
         Ok(step) => step,
         Err((fault, back)) => return (None, None, Some(fault), back.stamp().ns()),
     };
-    (Some(step.fate), step.offers.first().copied(), None, 0)
+    (Some(step.fate), step.offers.get(0), None, 0)
 }
 
 /// Has a frame arrive, and returns the first two offers, in the link's order.
@@ -64,8 +64,7 @@ fn offers(
         Ok(step) => step,
         Err(_) => return (None, None),
     };
-    let offers = step.offers.as_slice();
-    (offers.first().copied(), offers.get(1).copied())
+    (step.offers.get(0), step.offers.get(1))
 }
 
 /// Has a port hand out its next frame, and returns its end and its number of bytes.

@@ -15,7 +15,7 @@ use Rattle.afdx_port.specs.declared.Item.{Item}
 use Rattle.afdx_port.specs.declared.Offer.TheVariants.{Full}
 use Rattle.afdx_port.specs.Content.{answer, offered}
 use Rattle.afdx_core.proofs.Calls.{position_within}
-use Rattle.afdx_core.proofs.Offers.{flip, find_of_position, none_of_position, found_none}
+use Rattle.afdx_core.proofs.Offering.{flip, find_of_position, none_of_position, found_none}
 use Rattle.afdx_trace.specs.declared.shown.Shown.{Shown}
 use Rattle.afdx_trace.specs.declared.traced_port.TracedPort.{TracedPort}
 use Rattle.afdx_trace.specs.Inner.Lines.{HasGone}

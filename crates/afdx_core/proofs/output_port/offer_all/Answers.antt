@@ -1,10 +1,10 @@
-use Rattle.std.proofs.Common.{◌<◌, ◌≤◌, ℕ, ◌+◌, ◌∷◌, [], ◌++◌, length, take, get_or, ap, sym, ◌∙◌, arith, refl, subst}
-use Rattle.std.proofs.lemmas.List.{map_more, length-map, length-take-le}
+use Rattle.std.proofs.Common.{◌<◌, ◌≤◌, ℕ, ◌+◌, ◌∷◌, [], ◌++◌, length, take, get_or, map, List, ap, sym, ◌∙◌, arith, refl, subst}
+use Rattle.std.proofs.lemmas.List.{map_more, length-map, length-take-le, take_all}
 use Rattle.afdx_port.specs.declared.Offer.{Offer}
 use Rattle.afdx_port.specs.declared.Offer.TheVariants.{Full, Queued}
 use Rattle.afdx_core.specs.Inner.OutputPorts.{answer_at, queued_by}
 use Rattle.afdx_core.specs.Inner.Copies.{AddsCopies}
-use Rattle.afdx_core.proofs.Offers.{touched_none, adds_none, can_next, once_still, became_next, later_next, answer_same, adds_next, not_before, places_touched, less_next}
+use Rattle.afdx_core.proofs.Offering.{touched_none, adds_none, can_next, once_still, became_next, later_next, answer_same, adds_next, not_before, places_touched, less_next}
 use Rattle.afdx_core.proofs.output_port.offer_all.Goals as goal
 
 pub loop-port-init : goal.loop-port-init
@@ -34,6 +34,14 @@ offer_to-answer-requires-clause-dues g c = c.loop-port.invariant.dues
 pub offer_to-answer-requires-clause-places : goal.offer_to-answer-requires-clause-places
 offer_to-answer-requires-clause-places g c = places_touched c.args.item.now (take c.loop-port.port-index c.args.to.now) c.args.places.now c.args.output_ports.now c.loop-port.output_ports
     c.loop-port.invariant.became c.requires.places
+
+pub returns-clause-answers : goal.returns-clause-answers
+returns-clause-answers g c =
+    let item = c.args.item.now in
+    let old = c.args.output_ports.now in
+    let to = c.args.to.now in
+    c.loop-port.invariant.listed
+    ∙ ap (λ (ports : List ℕ). map {B = ℕ × Offer} (λ (port : ℕ). (port, answer_at item old port)) ports) (take_all c.loop-port.port-index to c.loop-port-test.false)
 
 pub returns-clause-room : goal.returns-clause-room
 returns-clause-room g c = c.loop-port.invariant.room

@@ -1,6 +1,6 @@
 use Rattle.std.proofs.Common.{◌≡◌, position, Some, None, refl, sym, ◌∙◌, arith}
 use Rattle.std.proofs.lemmas.List.Quantifiers.{position-Some}
-use Rattle.afdx_core.proofs.Offers.{is_port, place_at, became_one, became_none, answer_some, answer_none, adds_none, adds_one, stays_at}
+use Rattle.afdx_core.proofs.Offering.{is_port, place_at, became_one, became_none, answer_some, answer_none, adds_none, adds_one, stays_at}
 use Rattle.afdx_core.proofs.Calls.{position_within}
 use Rattle.afdx_core.proofs.output_port.offer_to.Goals as goal
 

@@ -1,7 +1,7 @@
 use Rattle.std.proofs.Common.{◌≡◌, ◌+◌, ◌<◌, ◌∷◌, [], ◌++◌, cond, length, take, get_or, sym, ap, ◌∙◌, arith, subst}
 use Rattle.std.proofs.lemmas.List.{take_more, take_all}
 use Rattle.afdx_port.specs.Content.{answers_full}
-use Rattle.afdx_core.proofs.Offers.{not_before}
+use Rattle.afdx_core.proofs.Offering.{not_before}
 use Rattle.afdx_trace.specs.Inner.Telling.{AreOffered, refused_among}
 use Rattle.afdx_trace.proofs.Among.{none_offered, next_offered, answer_same, can_still, once_still, places_still, told_still, refused_next, refused_few}
 use Rattle.afdx_trace.proofs.tracing.offer_all.Goals as goal
