@@ -1,6 +1,6 @@
 -- Answers that are kept as bits: one more of them, and the one at a place.
 use Rattle.std.proofs.Common.{◌≡◌, ◌≢◌, ℕ, zero, suc, ◌+◌, ◌*◌, ◌%◌, ◌^◌, ◌<◌, ◌≤◌, List, [], ◌∷◌, ◌++◌, length, take, set, get_or, slice_get, Some, ◌/◌}
-use Rattle.std.proofs.Common.{refl, ap, sym, ◌∙◌, arith, w32, max, bit_and, bit_or, replicate, length-take-le, get_or-take}
+use Rattle.std.proofs.Common.{refl, ap, sym, ◌∙◌, arith, w32, max, bit_and, bit_or, length-take-le, get_or-take}
 use Rattle.std.specs.Int.{bit_at}
 use Rattle.std.proofs.lemmas.Nat.Bits.{shr_and_one, bit_at-zero, bit_at_or, bit_at_set_same, bit_at_set_other}
 use Rattle.std.proofs.lemmas.List.{length-set, take_more_set}
@@ -80,9 +80,6 @@ module _ (ports : List ℕ) (len full : ℕ) (kept : AreKept ports len full) whe
       ∙ ap (λ (b : ℕ). Some (get_or ports place 0, answer_of_bit b)) (sym (shr_and_one full place))
 
 -- ---- what calls make of it
-
-pub kept_none : AreKept (replicate 24 0) 0 0
-kept_none = record { long = refl; few = omega arith; no_bit = λ place le. bit_at-zero place }
 
 module _ (ports : List ℕ) (len full : ℕ) (kept : AreKept ports len full) (fits : len < 24) where
   pub small : len < 32
