@@ -2,7 +2,7 @@
 # What reads code without running it: mypy --strict and flake8 over all Python, shellcheck over all shell scripts.
 . "$(dirname "$0")/common.sh"
 install mypy=mypy flake8=flake8 shellcheck=shellcheck
-install_python distributed hypothesis jinja2 matplotlib networkx numpy openpyxl pandas psutil selenium tomlkit tqdm zstandard
+install_python distributed hypothesis jinja2 matplotlib networkx numpy openpyxl pandas psutil pytest selenium tomlkit tqdm zstandard
 export PYTHONDONTWRITEBYTECODE=1
 cd "$top" || exit 1
 
