@@ -23,34 +23,38 @@ asked() {
     printf '%s\n' "$@" | diff - calls.txt
 }
 
-mkdir -p bin tree/crates/{high,low}/{audit,must-fail,src} tree/crates/none/src
+mkdir -p bin tree/release tree/crates/{full,high,low}/{audit,must-fail,src} tree/crates/none/src
+touch tree/crates/full/audit/{001..100}.edit
 touch tree/crates/low/audit/{one,two}.edit tree/crates/high/audit/three.edit tree/crates/{high,low}/must-fail/other.edit
-touch tree/crates.txt tree/HANDLES && cp "$top/audit" tree
+touch tree/crates.txt tree/HANDLES && cp "$top/audit" tree && cp "$top/release/lanes.sh" tree/release
 cat >bin/rt <<'END'
 #!/bin/sh
 echo "$*" >>"$CALLS"
+shift
 status=0
-for edit in "crates/$2/must-fail"/*.edit; do
-    name=${edit##*/}
-    case $name in
-        "$MISSED") echo "rt: must-fail $2/$name: NOT REFUSED: the crate is still proved with this edit"; status=1 ;;
-        *) echo "rt: must-fail $2/$name: refused, as it must be: note: src/lib.rt:1:1: it is not proved" ;;
-    esac
+for crate in "$@"; do
+    for edit in "crates/$crate/must-fail"/*.edit; do
+        name=${edit##*/}
+        case $name in
+            "$MISSED") echo "rt: must-fail $crate/$name: NOT REFUSED: the crate is still proved with this edit"; status=1 ;;
+            *) echo "rt: must-fail $crate/$name: refused, as it must be: note: src/lib.rt:1:1: it is not proved" ;;
+        esac
+    done
+    [ "$crate" != "$BROKEN" ] || { echo "rt: crates/$crate/must-fail/odd: BAD EDIT: it stands elsewhere"; status=1; }
 done
-[ "$2" != "$BROKEN" ] || { echo "rt: crates/$2/must-fail/odd: BAD EDIT: it stands elsewhere"; status=1; }
 exit $status
 END
 chmod +x bin/rt
 export CALLS=$room/calls.txt MISSED='' BROKEN=''
 
-check "all wrong bodies of all crates are refused" audits 0 "3 passed, 0 failed"
-check "each crate is tried once" asked "must-fail high" "must-fail low"
+check "all wrong bodies of all crates are refused" audits 0 "103 passed, 0 failed"
+check "each crate is tried once, small ones together" asked "must-fail full" "must-fail high low"
 check "those of one crate" audits 0 "2 passed, 0 failed" low
 check "no other crate is tried" asked "must-fail low"
 MISSED=two.edit
-check "one that is not refused" audits 1 "2 passed, 1 failed"
+check "one that is not refused" audits 1 "102 passed, 1 failed"
 MISSED='' BROKEN=high
-check "what rt fails beside them" audits 1 "3 passed, 1 failed"
+check "what rt fails beside them" audits 1 "103 passed, 1 failed"
 check "a crate without any" audits 2 "" low none
 
 # --- bench/gate.py ---
