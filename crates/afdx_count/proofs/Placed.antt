@@ -1,16 +1,16 @@
 -- Elements under their numbers, where the numbers are different.
-use Rattle.std.proofs.Common.{◌≡◌, ℕ, zero, suc, ◌<◌, nat_eq, true, false, cond, List, [], ◌∷◌, set, get_or, length, map, find, slice_get, Option, Some, None, refl, subst}
+use Rattle.std.proofs.Common.{◌≡◌, ℕ, zero, suc, ◌<◌, nat_eq, true, false, cond, List, [], ◌∷◌, ◌++◌, set, get_or, length, take, map, find, slice_get, Option, Some, None, refl, subst}
 use Rattle.std.proofs.Common.{sym, ap, ◌∙◌, arith, inl, inr, ◌||◌, ◌+◌, ◌≤◌, ◌⊎◌, ⊎_elim, ltb, position, unwrap_or}
 use Rattle.std.specs.Prelude.{IfSome, IfNone, not}
 use Rattle.std.specs.List.{AllByRecursion, IsDistinct, list_any, position_or_len}
 use Rattle.std.proofs.lemmas.Option.{gets, slice_get_within, slice_get-get_or, none-some, same_Some}
-use Rattle.std.proofs.lemmas.List.{length-map, get_or-set_same, get_or-set_other}
+use Rattle.std.proofs.lemmas.List.{length-map, length-append, length-take-le, take_all, take-append-le, take-map, take-set-le, get_or-take, get_or-set_same, get_or-set_other}
 use Rattle.std.proofs.lemmas.List.Sums.{passes_at_first, prefix_len-le-length}
 use Rattle.std.proofs.lemmas.Bool.{cases_Bool, cases_eq, cases_lt, eqb-true, lt-ltb, le-ltb, true≢false}
 use Rattle.std.proofs.lemmas.Cmp.{nat_eq_equiv}
 use Rattle.std.proofs.lemmas.List.Elements.{All-from_recursion}
 use Rattle.std.proofs.lemmas.List.Quantifiers.{position-Some}
-use Rattle.afdx_count.specs.Inner.Places.{IsPlaceOf, LeadTo, changed_at}
+use Rattle.afdx_count.specs.Inner.Places.{IsPlaceOf, LeadTo, changed_at, IsIndexed}
 
 module _ {X : Type 0} (number : X → ℕ) where
   -- where a search finds an element by its number, and else the length, is the first place of the number in the list of numbers
@@ -39,9 +39,19 @@ module _ {X : Type 0} (number : X → ℕ) where
       lead m 0 (omega (arith, same, small)) ∙ ap (λ j. position_or_len (λ k. nat_eq k j) (map number xs)) same ∙ ap (λ ys. position_or_len (λ k. nat_eq k n) (map number ys)) view
 
   -- the same numbers are at the same places
-  pub still_led_to : (places : List ℕ) (old new : List X) → map number old ≡ map number new → LeadTo places (map number old) × IsDistinct nat_eq (map number old)
-      → LeadTo places (map number new) × IsDistinct nat_eq (map number new)
-  still_led_to places old new same led = subst (λ ns. LeadTo places ns × IsDistinct nat_eq ns) same led
+  pub still_indexed : (places : List ℕ) (count : ℕ) (old new : List X) → map number old ≡ map number new → IsIndexed number places count old → IsIndexed number places count new
+  still_indexed places count old new same indexed =
+      let first : map number (take count old) ≡ map number (take count new) = sym (take-map number count old) ∙ ap (take count) same ∙ take-map number count new in (
+        subst (LeadTo places) first indexed.0,
+        subst (IsDistinct nat_eq) first indexed.1,
+        omega (arith, indexed.2, ap length same, length-map old number, length-map new number),
+      )
+
+  -- the place of a number, or of none, is in the list
+  pub lies_within : (n count : ℕ) (xs seen : List X) (i : ℕ) → take count xs ≡ seen → length xs ≡ count + 1 → i ≡ position_or_len (λ k. nat_eq k n) (map number seen) → i < length xs
+  lies_within n count xs seen i view more is =
+      let long = length-take-le count xs (omega (arith, more)) in
+      omega (arith, more, is, long, ap length view, prefix_len-le-length (λ k. not (nat_eq k n)) (map number seen), length-map seen number)
 
   position-within : (n : ℕ) (xs : List X) (i : ℕ) → Some i ≡ position (λ x. nat_eq (number x) n) xs → i < length xs
   position-within n [] i is = absurd (none-some i (sym is))
@@ -141,6 +151,45 @@ module _ {X : Type 0} (number : X → ℕ) where
   pub still_distinct : (xs : List X) (i : ℕ) (x y : X) → IsDistinct nat_eq (map number xs) → number y ≡ number x → x ≡ get_or xs i x → IsDistinct nat_eq (map number (set xs i y))
   still_distinct xs i x y distinct same-number is = subst (IsDistinct nat_eq) (numbers_kept (map number xs) xs i x y refl same-number is) distinct
 
+  pub number_at : (n : ℕ) (xs seen : List X) (i : ℕ) (x : X) → xs ≡ seen → IsPlaceOf number n seen i → x ≡ get_or xs i x → number x ≡ n
+  number_at n xs seen i x view at is = ap number (is ∙ ap (λ (ys : List X). get_or ys i x) view) ∙ by_place seen i at where
+    by_place : (ys : List X) (k : ℕ) → slice_get (map number ys) k ≡ Some n → number (get_or ys k x) ≡ n
+    by_place [] k e = absurd (none-some n e)
+    by_place (y ∷ ys) zero e = same_Some (number y) n e
+    by_place (y ∷ ys) (suc k) e = by_place ys k e
+
+  -- elements with one more behind them
+  pub first_ones : (count : ℕ) (old new : List X) (x : X) → count ≡ length old → new ≡ old ++ x ∷ [] → take count new ≡ old
+  first_ones count old new x count-is is = ap (take count) is ∙ take-append-le count old (x ∷ []) (omega (arith, count-is)) ∙ take_all count old (omega (arith, count-is))
+
+  pub made_index : (places : List ℕ) (count : ℕ) (old new : List X) (x : X) → count ≡ length old → new ≡ old ++ x ∷ [] → LeadTo places (map number old) → IsDistinct nat_eq (map number old)
+      → IsIndexed number places count new
+  made_index places count old new x count-is is lead distinct =
+      let first = ap (map number) (sym (first_ones count old new x count-is is)) in
+      (subst (LeadTo places) first lead, subst (IsDistinct nat_eq) first distinct, omega (arith, count-is, ap length is, length-append old (x ∷ [])))
+
+  take-set : (k : ℕ) (xs : List X) (i : ℕ) (y : X) → i < k → take k (set xs i y) ≡ set (take k xs) i y
+  take-set zero xs i y lt = absurd (omega (arith, lt))
+  take-set (suc k) [] i y lt = refl
+  take-set (suc k) (x ∷ xs) zero y lt = refl
+  take-set (suc k) (x ∷ xs) (suc i) y lt = ap (λ (zs : List X). x ∷ zs) (take-set k xs i y (omega (arith, lt)))
+
+  -- what is changed at the place of a number is the element of the number; behind the first so many it is none of them
+  pub changed_within : (n : ℕ) (f : X → X) (count : ℕ) (xs seen : List X) (i : ℕ) (x y : X) → take count xs ≡ seen → length xs ≡ count + 1 → IsDistinct nat_eq (map number seen)
+      → i ≡ position_or_len (λ k. nat_eq k n) (map number seen) → x ≡ get_or xs i x → (number x ≡ n → y ≡ f x) → take count (set xs i y) ≡ changed_at number n f seen
+  changed_within n f count xs seen i x y view more distinct place is y-is = ⊎_elim here behind (cases_lt i count) where
+    long : length seen ≡ count
+    long = ap length (sym view) ∙ length-take-le count xs (omega (arith, more))
+
+    here : i < count → take count (set xs i y) ≡ changed_at number n f seen
+    here lt =
+        let at = is_there n seen i place (omega (arith, lt, long)) in
+        let first : x ≡ get_or (take count xs) i x = is ∙ sym (get_or-take count xs i x lt) in
+        take-set count xs i y lt ∙ changed_in n f (take count xs) seen i x y view distinct at first (y-is (number_at n (take count xs) seen i x view at first))
+
+    behind : count ≤ i → take count (set xs i y) ≡ changed_at number n f seen
+    behind le = take-set-le count xs i y le ∙ view ∙ unchanged n f seen (is_nowhere n seen i place (omega (arith, le, long)))
+
   -- what a search by number finds is the place of the number, and where it finds none there is none
   pub placed_at : (n : ℕ) (xs seen : List X) (o : Option ℕ) → o ≡ position (λ x. nat_eq (number x) n) xs → xs ≡ seen → IfSome o (IsPlaceOf number n seen)
   placed_at n xs seen None is view = tt
@@ -150,10 +199,3 @@ module _ {X : Type 0} (number : X → ℕ) where
   pub placed_nowhere : (n : ℕ) (xs seen : List X) (o : Option ℕ) → o ≡ position (λ x. nat_eq (number x) n) xs → xs ≡ seen → IfNone o (list_any (λ x. nat_eq n (number x)) seen ≡ false)
   placed_nowhere n xs seen None is view = subst (λ (ys : List X). list_any (λ x. nat_eq n (number x)) ys ≡ false) view (is_nowhere n xs (length xs) (first_place n xs None is) (omega arith))
   placed_nowhere n xs seen (Some i) is view = tt
-
-  pub number_at : (n : ℕ) (xs seen : List X) (i : ℕ) (x : X) → xs ≡ seen → IsPlaceOf number n seen i → x ≡ get_or xs i x → number x ≡ n
-  number_at n xs seen i x view at is = ap number (is ∙ ap (λ (ys : List X). get_or ys i x) view) ∙ by_place seen i at where
-    by_place : (ys : List X) (k : ℕ) → slice_get (map number ys) k ≡ Some n → number (get_or ys k x) ≡ n
-    by_place [] k e = absurd (none-some n e)
-    by_place (y ∷ ys) zero e = same_Some (number y) n e
-    by_place (y ∷ ys) (suc k) e = by_place ys k e

@@ -5,7 +5,7 @@ ghost use Rattle.std.specs.List.{list_any, IsDistinct};
 ghost use Rattle.afdx_count.specs.Tally.{new_link, one_passed, one_policed, link_in, noted_link, class_of};
 ghost use Rattle.afdx_count.specs.Inner.Places.{IsPlaceOf, changed_at};
 
-use crate::counters::{LinkCount, up};
+use crate::counters::{LinkCount, count_one};
 use afdx_core::Fate;
 use afdx_table::{LinkRow, Table};
 use afdx_units::Priority;
@@ -34,22 +34,18 @@ impl LinkTally {
         }
     }
 
-    /// Returns the counters with one passed frame more.
-    fn with_passed(self) -> LinkTally
-        ensures { result ≡ one_passed self }
+    /// Counts a passed frame.
+    fn note_passed(&mut self)
+        ensures { self.new ≡ one_passed self.old }
     {
-        let mut tally = self;
-        tally.count.passed = up(tally.count.passed);
-        tally
+        count_one(&mut self.count.passed);
     }
 
-    /// Returns the counters with one policed frame more.
-    fn with_policed(self) -> LinkTally
-        ensures { result ≡ one_policed self }
+    /// Counts a policed frame.
+    fn note_policed(&mut self)
+        ensures { self.new ≡ one_policed self.old }
     {
-        let mut tally = self;
-        tally.count.policed = up(tally.count.policed);
-        tally
+        count_one(&mut self.count.policed);
     }
 }
 
@@ -162,7 +158,7 @@ impl<A: Allocator + Copy> Links<A> {
         match self.place_reported(id, reported) {
             Some(place) => {
                 let tally = self.tallies[place];
-                self.tallies[place] = tally.with_passed();
+                self.tallies[place].note_passed();
                 Some(tally.priority)
             }
             None => None,
@@ -175,7 +171,7 @@ impl<A: Allocator + Copy> Links<A> {
         ensures { self.new ≡ changed_at (λ l. l.id) id one_policed self.old }
     {
         if let Some(place) = self.place_reported(id, reported) {
-            self.tallies[place] = self.tallies[place].with_policed();
+            self.tallies[place].note_policed();
         }
     }
 

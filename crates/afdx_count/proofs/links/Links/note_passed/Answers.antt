@@ -6,8 +6,8 @@ use Rattle.afdx_count.proofs.links.Links.note_passed.Goals as goal
 
 pub returns-in-Some-clause-links : goal.returns-in-Some-clause-links
 returns-in-Some-clause-links g c =
-    changed_in (λ (x : LinkTally). x.id) c.args.id one_passed c.self.inside.tallies.items c.args.self.now c.in-Some.place c.index-tally.result.now c.with_passed.result c.self.view_is
-    c.in-Some.ensures.distinct c.in-Some.ensures.at c.index-tally.ensures c.with_passed.ensures
+    changed_in (λ (x : LinkTally). x.id) c.args.id one_passed c.self.inside.tallies.items c.args.self.now c.in-Some.place c.index_mut.result.now c.note_passed.new.self c.self.view_is
+    c.in-Some.ensures.distinct c.in-Some.ensures.at c.index_mut.ensures.value c.note_passed.ensures
 
 pub returns-in-Some-clause-class : goal.returns-in-Some-clause-class
 returns-in-Some-clause-class g c = ap (option_map (λ (x : LinkTally). x.priority))
@@ -22,5 +22,5 @@ returns-in-None-clause-class g c = ap (option_map (λ (x : LinkTally). x.priorit
 
 pub invariant_of-self : goal.invariant_of-self
 invariant_of-self g c =
-    still_distinct (λ (x : LinkTally). x.id) c.self.inside.tallies.items c.in-Some.place c.index-tally.result.now c.with_passed.result c.self.invariant
-    (ap (λ (x : LinkTally). x.id) c.with_passed.ensures) c.index-tally.ensures
+    still_distinct (λ (x : LinkTally). x.id) c.self.inside.tallies.items c.in-Some.place c.index_mut.result.now c.note_passed.new.self c.self.invariant
+    (ap (λ (x : LinkTally). x.id) c.note_passed.ensures) c.index_mut.ensures.value
