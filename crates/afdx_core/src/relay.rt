@@ -181,6 +181,7 @@ impl<'a, A: Allocator + Copy> Relay<'a, A> {
     }
 
     /// Appends the next frame's text to a capture, as [`Switch::next_out_into`](crate::Switch::next_out_into) does.
+    #[inline(always)]
     pub fn next_out_into<B: Allocator>(
         &mut self,
         port: u8,

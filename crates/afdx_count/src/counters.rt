@@ -54,7 +54,7 @@ fn up(count: u64) -> u64
     count.saturating_add(1)
 }
 
-/// Leaves a counter at its greatest value.
+/// Gives a counter its greatest value.
 ///
 /// It is apart and cold, so that [`count_one`] is one addition in memory and one test: what a processor would choose from
 /// two values takes three instructions more, for each counter of each frame and copy.

@@ -50,6 +50,10 @@ nothing_due c to open' le none =
     let none_left = none_before s u q.free q.waiting (ap (is_before u) (sym first) ∙ none) in
     advance_parts c to open' le ∙ ap (λ es. done c ++ es) none_left ∙ append-nil (done c)
 
+-- what is due stays so where nothing is carried out
+pub due_stays : (c : Content) (to : ℕ) → c.finished ≡ false → c.horizon ≤ to → has_due to c ≡ false → due (advanced to c) ≡ due c
+due_stays c to open' le none = ap (λ es. option_map instant (slice_get (service c.settings 0 c.admitted) (length es))) (nothing_due c to open' le none)
+
 first_late : (s : Settings) (u free : ℕ) (ws : List Item) → is_due s u free ws ≡ false → is_before u (option_map instant (slice_get (service s free ws) 0)) ≡ false
 first_late s u free [] late = refl
 first_late s u free (first ∷ rest) late = let ge = due_no s u free first rest late in not_below _ u (omega (arith, ge, instant-next s free first rest))
