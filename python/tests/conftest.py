@@ -1,7 +1,7 @@
 """Settings of all tests: hypothesis draws the same examples each time, at any speed, and keeps none of them.
 
-Signals end what the tests begin, also where whoever began the tests has them ignored, as a shell does for a job in
-the background."""
+Signals end what the tests begin, also if whoever began the tests has them ignored, as a shell does for a job in the
+background."""
 import signal
 
 from hypothesis import HealthCheck, settings
